@@ -1,26 +1,22 @@
 -- The front of a text: what a scan of its bytes says of its first piece.
 use Rattle.std.proofs.Common.{◌≡◌, ◌≢◌, ℕ, zero, suc, ◌+◌, ◌<◌, ◌≤◌, Bool, true, false, not, cond, List, [], ◌∷◌, ◌++◌, take, drop, length, get_or, refl, ap, sym, ◌∙◌, arith, append_assoc, length-append, Err, Some, None}
-use Rattle.std.specs.Prelude.{◌&&◌, ◌==◌}
+use Rattle.std.specs.Prelude.{◌==◌}
 use Rattle.std.specs.List.{list_any, list_all, position_or_len, before_first}
 use Rattle.std.specs.Str.{IsUtf8, IsCharBoundary, IsAscii}
-use Rattle.std.proofs.lemmas.Bool.{and_parts, and_from, or_from, or_left, and_left, and_right, not-true, not_from_true, not_from_false, eqb-true, ne_eqb, lt-ltb, cond-false}
+use Rattle.std.proofs.lemmas.Bool.{and_parts, and_from, or_from, or_left, and_left, and_right, not-true, not_from_false, eqb-true, ne_eqb, lt-ltb}
 use Rattle.std.proofs.lemmas.Bool.Decides.{nat_tests}
 use Rattle.std.proofs.lemmas.List.{append-nil, take-append-drop, take_at, drop_more, nil_from_length}
 use Rattle.std.proofs.lemmas.List.Folds.{list_all-append}
 use Rattle.std.proofs.lemmas.Str.{IsUtf8-from_ascii, IsCharBoundary-from_take}
 use Rattle.attr_list.specs.declared.AttrFault.TheVariants.{BadName, NoEquals, BadValue, OpenQuote}
-use Rattle.attr_list.specs.Attributes.{is_comma, is_equals, is_quote, is_name_byte, is_name, is_value, ends_plain, piece_name, quoted_value, plain_value, value_pair, value_of}
+use Rattle.attr_list.specs.Attributes.{is_equals, is_quote, is_name_byte, is_name, ends_plain, piece_name, quoted_value, value_pair, value_of}
 use Rattle.attr_list.specs.Scanning.{first_from, first_piece}
 use Rattle.attr_list.specs.Inner.Scanning.{ends_pair, begins_quoted, name_fault, IsNamed, IsValued, HasValueFault}
 use Rattle.attr_list.proofs.Cuts.{position_at, any_at, before_after, begins_with, before_has_none, rest_begins, list_any-none, position_le, position_none}
 use Rattle.attr_list.proofs.Pieces.{first_past, first_inside, first_ended, name_runs, name_without_equals, plain_runs}
 
 some_length : (xs : List ℕ) → (length xs == 0) ≡ false → 0 < length xs
-some_length [] h = absurd (no h)
-  where
-    no : true ≡ false → ⊥
-    no h = cc
-some_length (x ∷ xs) h = omega arith
+some_length xs h = grind arith
 
 -- ---- names
 
@@ -43,10 +39,7 @@ name_cut text name after n e f g =
 
 ascii_name : (name : List ℕ) → list_all is_name_byte name ≡ true → IsAscii name
 ascii_name [] h i = omega arith
-ascii_name (b ∷ name) h zero = let a = and_parts _ _ h in small b a.0
-  where
-    small : (b : ℕ) → is_name_byte b ≡ true → b < 128
-    small b h = grind (arith, nat_tests)
+ascii_name (b ∷ name) h zero = grind arith
 ascii_name (b ∷ name) h (suc i) = let a = and_parts _ _ h in ascii_name name a.1 i
 
 pub name_boundary : (text : List ℕ) (n : ℕ) → IsUtf8 text → n ≡ position_or_len ends_name text → IsCharBoundary text n
@@ -63,33 +56,16 @@ bad_name piece h = rw h refl
 
 -- a piece that begins with no name byte has no name
 unnamed : (b : ℕ) (bytes : List ℕ) → is_name_byte b ≡ false → is_name (piece_name (b ∷ bytes)) ≡ false
-unnamed b bytes h = step (is_equals b) (position_or_len is_equals bytes)
-  where
-    step : (c : Bool) (n : ℕ) → is_name (take (cond (not c) (1 + n) 0) (b ∷ bytes)) ≡ false
-    step true n = refl
-    step false n =
-        let e : 1 + n ≡ suc n = omega arith in
-        ap (λ k. is_name (take k (b ∷ bytes))) e ∙ and_right _ _ (and_left _ _ h)
+unnamed b bytes h = grind arith
 
 pub no_name : (text name after : List ℕ) → IsNameCut text name after → (length name == 0) ≡ true → name_fault (first_piece text) ≡ Some BadName
-no_name text name after cut none =
-    let empty : name ≡ [] = nil_from_length name (eqb-true _ _ none) in
-    let same : text ≡ after = cut.whole ∙ ap (λ x. x ++ after) empty in
-    ap (λ x. name_fault (first_piece x)) same ∙ by after cut.stopped
-  where
-    by : (after : List ℕ) → begins_with ends_name after ≡ true → name_fault (first_piece after) ≡ Some BadName
-    by [] h = refl
-    by (b ∷ after) h = step (is_comma b) (not-true _ h)
-      where
-        step : (c : Bool) → is_name_byte b ≡ false → name_fault (cond (c && true) [] (b ∷ first_from (cond (is_quote b) true false) after)) ≡ Some BadName
-        step true h = refl
-        step false h = bad_name (b ∷ first_from (cond (is_quote b) true false) after) (unnamed b (first_from (cond (is_quote b) true false) after) h)
+no_name text name after cut none = grind (arith, nil_from_length, eqb-true, begins_with, not-true, bad_name, unnamed)
 
 pub has_name : (text name after value : List ℕ) → IsNameCut text name after → (length name == 0) ≡ false → after ≡ 61 ∷ value → IsNamed text name value
-has_name text name after value cut some e = (is_name_from name cut.named some, cut.whole ∙ ap (λ x. name ++ x) e)
+has_name text name after value cut some e = grind arith
 
 first_of_cut : (text name after : List ℕ) → IsNameCut text name after → (length name == 0) ≡ false → first_piece text ≡ name ++ first_piece after
-first_of_cut text name after cut some = ap first_piece cut.whole ∙ first_past name after (name_runs name (is_name_from name cut.named some))
+first_of_cut text name after cut some = grind (arith, first_past, name_runs, is_name_from)
 
 pub name_alone : (text name after : List ℕ) → IsNameCut text name after → (length name == 0) ≡ false → ends_pair after ≡ true → name_fault (first_piece text) ≡ Some NoEquals
 name_alone text name after cut some ended =
@@ -154,26 +130,10 @@ pub quote_cut : (text value after : List ℕ) → (text ≡ value ++ 34 ∷ afte
 quote_cut text value after h = record { whole = h.0; quoteless = quoteless value h.1 }
 
 pub text_after_quote : (text value after : List ℕ) → IsQuoteCut text value after → ends_pair after ≡ false → HasValueFault (34 ∷ text) BadValue
-text_after_quote text value [] cut ended name = absurd (no ended)
-  where
-    no : true ≡ false → ⊥
-    no h = cc
-text_after_quote text value (b ∷ after) cut ended name =
-    let rest = first_from (cond (is_quote b) true false) after in
-    let front : first_piece (b ∷ after) ≡ b ∷ rest = rw ended refl in
-    let first = ap (first_from true) cut.whole ∙ first_inside value (34 ∷ b ∷ after) cut.quoteless ∙ ap (λ x. value ++ 34 ∷ x) front in
-    ap (λ x. value_pair name true (quoted_value x)) first ∙ ap (value_pair name true) (more value b rest cut.quoteless)
-  where
-    more : (value : List ℕ) (b : ℕ) (rest : List ℕ) → list_any is_quote value ≡ false → quoted_value (value ++ 34 ∷ b ∷ rest) ≡ Err BadValue
-    more value b rest h =
-        let any = any_at is_quote value 34 (b ∷ rest) refl in
-        let place = position_at is_quote value 34 (b ∷ rest) h refl in
-        let end : (length value + 1 == length (value ++ 34 ∷ b ∷ rest)) ≡ false = ne_eqb _ _ (λ e. omega (arith, length-append value (34 ∷ b ∷ rest))) in
-        rw (any, place, end) refl
+text_after_quote text value after cut ended name = grind (arith, first_inside, quoteless, any_at, position_at, ne_eqb, length-append)
 
 pub has_quoted : (text value after : List ℕ) → IsQuoteCut text value after → ends_pair after ≡ true → IsValued (34 ∷ text) true value after
-has_quoted text value after cut ended =
-    (not_from_false _ cut.quoteless, ap (λ x. 34 ∷ x) (cut.whole ∙ sym (append_assoc value (34 ∷ []) after)), ended)
+has_quoted text value after cut ended = grind (arith, not_from_false, quoteless, append_assoc)
 
 pub record IsPlainCut (text value after : List ℕ) : Type 0 where
   pub whole : text ≡ value ++ after
@@ -181,55 +141,23 @@ pub record IsPlainCut (text value after : List ℕ) : Type 0 where
   pub stopped : begins_with ends_plain after ≡ true
 
 pub plain_cut : (text value after : List ℕ) (n : ℕ) → n ≡ position_or_len ends_plain text → value ≡ take n text → after ≡ drop n text → IsPlainCut text value after
-plain_cut text value after n e f g =
-    let front : value ≡ before_first ends_plain text = f ∙ ap (λ k. take k text) e in
-    let back : after ≡ drop (position_or_len ends_plain text) text = g ∙ ap (λ k. drop k text) e in record {
-      whole = sym (ap (λ x. x ++ after) f ∙ ap (λ x. take n text ++ x) g ∙ take-append-drop n text);
-      plain = ap (list_any ends_plain) front ∙ before_has_none ends_plain text;
-      stopped = ap (begins_with ends_plain) back ∙ rest_begins ends_plain text;
-    }
+plain_cut text value after n e f g = grind (arith, take-append-drop, before_has_none, begins_with, rest_begins)
 
 bad_plain : (name piece : List ℕ) → begins_quoted piece ≡ false → list_any ends_plain piece ≡ true → value_of name piece ≡ Err BadValue
-bad_plain name [] h g = refl
-bad_plain name (b ∷ piece) h g = cond-false (is_quote b) _ _ h ∙ by name (b ∷ piece) g
-  where
-    by : (name piece : List ℕ) → list_any ends_plain piece ≡ true → value_pair name false (plain_value piece) ≡ Err BadValue
-    by name piece h = let e : is_value false piece ≡ false = and_right _ _ (not_from_true _ h) in rw e refl
+bad_plain name piece h g = grind arith
 
 pub no_plain : (text value after : List ℕ) → IsPlainCut text value after → begins_quoted text ≡ false → (length value == 0) ≡ true → HasValueFault text BadValue
-no_plain text value after cut unquoted none name =
-    let empty : value ≡ [] = nil_from_length value (eqb-true _ _ none) in
-    let same : text ≡ after = cut.whole ∙ ap (λ x. x ++ after) empty in
-    ap (λ x. value_of name (first_piece x)) same ∙ by name after cut.stopped (ap begins_quoted (sym same) ∙ unquoted)
-  where
-    by : (name after : List ℕ) → begins_with ends_plain after ≡ true → begins_quoted after ≡ false → value_of name (first_piece after) ≡ Err BadValue
-    by name [] h g = refl
-    by name (b ∷ after) h g = step (is_comma b) refl
-      where
-        step : (c : Bool) → is_comma b ≡ c → value_of name (cond (c && true) [] (b ∷ first_from (cond (is_quote b) true false) after)) ≡ Err BadValue
-        step true e = refl
-        step false e = bad_plain name (b ∷ first_from (cond (is_quote b) true false) after) g (or_left _ _ h)
+no_plain text value after cut unquoted none name = grind (arith, nil_from_length, eqb-true, begins_with, bad_plain, or_left)
 
 begins_as : (value after : List ℕ) → 0 < length value → begins_quoted (value ++ after) ≡ begins_quoted value
 begins_as [] after h = absurd (omega arith)
 begins_as (b ∷ value) after h = refl
 
 pub plain_broken : (text value after : List ℕ) → IsPlainCut text value after → begins_quoted text ≡ false → (length value == 0) ≡ false → ends_pair after ≡ false → HasValueFault text BadValue
-plain_broken text value [] cut unquoted some ended name = absurd (no ended)
-  where
-    no : true ≡ false → ⊥
-    no h = cc
-plain_broken text value (b ∷ after) cut unquoted some ended name =
-    let rest = first_from (cond (is_quote b) true false) after in
-    let front : first_piece (b ∷ after) ≡ b ∷ rest = rw ended refl in
-    let first = ap first_piece cut.whole ∙ first_past value (b ∷ after) (plain_runs value cut.plain) ∙ ap (λ x. value ++ x) front in
-    let l = some_length value some in
-    let begins = begins_as value (b ∷ rest) l ∙ sym (begins_as value (b ∷ after) l) ∙ ap begins_quoted (sym cut.whole) ∙ unquoted in
-    ap (value_of name) first ∙ bad_plain name (value ++ (b ∷ rest)) begins (any_at ends_plain value b rest cut.stopped)
+plain_broken text value after cut unquoted some ended name = grind (arith, first_past, plain_runs, some_length, begins_as, bad_plain, any_at)
 
 pub has_plain : (text value after : List ℕ) → IsPlainCut text value after → (length value == 0) ≡ false → ends_pair after ≡ true → IsValued text false value after
-has_plain text value after cut some ended =
-    (and_from _ _ (lt-ltb _ _ (some_length value some)) (not_from_false _ cut.plain), cut.whole, ended)
+has_plain text value after cut some ended = grind arith
 
 pub plain_boundary : (text : List ℕ) (n : ℕ) → IsUtf8 text → n ≡ position_or_len ends_plain text → IsCharBoundary text n
 plain_boundary text n u e =

@@ -1,7 +1,7 @@
 -- What the reading gives is in the grammar, and what is in the grammar is read.
 use Rattle.std.proofs.Common.{◌≡◌, ◌≢◌, ℕ, zero, suc, ◌+◌, ◌<◌, Bool, true, false, not, cond, List, [], ◌∷◌, ◌++◌, map, take, drop, length, get_or, refl, ap, sym, ◌∙◌, subst, arith, append_assoc, length-append, Ok, Err, None, Result}
-use Rattle.std.specs.Prelude.{◌&&◌, ◌||◌, ◌==◌, All, AllPairs}
-use Rattle.std.specs.List.{list_any, onto_first, join_with_byte, position_or_len}
+use Rattle.std.specs.Prelude.{◌||◌, All, AllPairs}
+use Rattle.std.specs.List.{list_any, join_with_byte, position_or_len}
 use Rattle.std.proofs.lemmas.Bool.{and_parts, and_from, or_parts, not-true, not-false, not_from_false, eqb-true, false_from_ne_true, both_ways}
 use Rattle.std.proofs.lemmas.List.{append-nil, get_or_at, get_or_append_left, drop_all}
 use Rattle.std.proofs.lemmas.List.Elements.{All-head, All-tail, All-nil, All-cons}
@@ -9,58 +9,30 @@ use Rattle.std.proofs.lemmas.List.Quantifiers.{all_pairs_push}
 use Rattle.std.proofs.lemmas.List.Folds.{list_any_none}
 use Rattle.std.proofs.lemmas.Slice.Eq.{bytes_eq-Decides}
 use Rattle.attr_list.specs.declared.AttrFault.{AttrFault}
-use Rattle.attr_list.specs.declared.AttrFault.TheVariants.{BadValue, OpenQuote}
-use Rattle.attr_list.specs.Attributes.{Pair, is_comma, is_equals, is_quote, is_name, is_value, is_pair, are_apart, is_named, value_spelling, pair_spelling, attributes_text, IsPair, IsAttributeList, pieces_from, pieces, piece_name, piece_value, has_equals, quoted_value, plain_value, value_pair, value_of, pair_of, add_pair, pairs_from, attributes_of}
-use Rattle.attr_list.specs.Scanning.{first_from}
+use Rattle.attr_list.specs.declared.AttrFault.TheVariants.{BadValue}
+use Rattle.attr_list.specs.Attributes.{Pair, is_quote, is_name, is_value, is_pair, are_apart, is_named, value_spelling, pair_spelling, attributes_text, IsPair, IsAttributeList, pieces_from, pieces, piece_name, piece_value, has_equals, quoted_value, plain_value, value_pair, value_of, pair_of, add_pair, pairs_from, attributes_of}
 use Rattle.attr_list.specs.Inner.Scanning.{ends_pair, StartsWithPair}
 use Rattle.attr_list.proofs.Cuts.{before_has_none}
-use Rattle.attr_list.proofs.Pieces.{pieces_are, later_from}
+use Rattle.attr_list.proofs.Pieces.{pieces_are}
 use Rattle.attr_list.proofs.Steps.{pieces_of_pair, pair_read}
 
 -- ---- the pieces with commas between them are the text
 
-join_first : (b : ℕ) (first : List ℕ) (later : List (List ℕ)) → join_with_byte 44 ((b ∷ first) ∷ later) ≡ b ∷ join_with_byte 44 (first ∷ later)
-join_first b first [] = refl
-join_first b first (next ∷ later) = refl
-
 pub pieces_joined : (quoted : Bool) (text : List ℕ) → join_with_byte 44 (pieces_from quoted text) ≡ text
 pieces_joined quoted [] = refl
-pieces_joined quoted (b ∷ bytes) =
-    step (is_comma b && not quoted) refl (cond (is_quote b) (not quoted) quoted) (pieces_joined false bytes) (pieces_joined (cond (is_quote b) (not quoted) quoted) bytes)
-  where
-    after_comma : (first : List ℕ) (later : List (List ℕ)) → join_with_byte 44 (first ∷ later) ≡ bytes → join_with_byte 44 ([] ∷ first ∷ later) ≡ 44 ∷ bytes
-    after_comma first later h = ap (λ x. 44 ∷ x) h
-
-    step : (stop : Bool) → (is_comma b && not quoted) ≡ stop → (inside : Bool) → join_with_byte 44 (pieces_from false bytes) ≡ bytes → join_with_byte 44 (pieces_from inside bytes) ≡ bytes
-        → join_with_byte 44 (cond stop ([] ∷ pieces_from false bytes) (onto_first b (pieces_from inside bytes))) ≡ b ∷ bytes
-    step true e inside h g =
-        let a = and_parts _ _ e in let comma : b ≡ 44 = eqb-true b 44 a.0 in
-        ap (λ ps. join_with_byte 44 ([] ∷ ps)) (pieces_are false bytes)
-        ∙ after_comma (first_from false bytes) (later_from false bytes) (ap (join_with_byte 44) (sym (pieces_are false bytes)) ∙ h)
-        ∙ ap (λ c. c ∷ bytes) (sym comma)
-    step false e inside h g =
-        ap (λ ps. join_with_byte 44 (onto_first b ps)) (pieces_are inside bytes)
-        ∙ join_first b (first_from inside bytes) (later_from inside bytes)
-        ∙ ap (λ x. b ∷ x) (ap (join_with_byte 44) (sym (pieces_are inside bytes)) ∙ g)
+pieces_joined quoted (b ∷ bytes) = grind (arith, pieces_joined false bytes, pieces_joined (cond (is_quote b) (not quoted) quoted) bytes)
 
 -- ---- a piece that gives a pair is its spelling
 
 guard_ok : {A : Type 0} (b : Bool) (fault : AttrFault) (r : Result A AttrFault) (x : A) → cond b (Err fault) r ≡ Ok x → (b ≡ false) × (r ≡ Ok x)
-guard_ok true fault r x h = absurd (no h)
-  where
-    no : {A : Type 0} {x : A} → Err fault ≡ Ok x → ⊥
-    no h = cc
-guard_ok false fault r x h = (refl, h)
+guard_ok k fault r x h = grind arith
 
 -- what is cut at the first element that passes, and that element
 abbrev SplitAt : {X : Type 0} → (X → Bool) → List X → ℕ → Type 0
 SplitAt {X} p xs n = (x : X) × (p x ≡ true) × (xs ≡ take n xs ++ x ∷ drop (n + 1) xs)
 
 split_later : {X : Type 0} (p : X → Bool) (x : X) (xs : List X) (n : ℕ) → SplitAt p xs n → SplitAt p (x ∷ xs) (1 + n)
-split_later p x xs n s =
-    let front : 1 + n ≡ suc n = omega arith in
-    let back : 1 + n + 1 ≡ suc (n + 1) = omega arith in
-    (s.0, s.1, ap (λ l. x ∷ l) s.2 ∙ ap (λ m. take m (x ∷ xs) ++ s.0 ∷ drop (n + 1) xs) (sym front) ∙ ap (λ m. take (1 + n) (x ∷ xs) ++ s.0 ∷ drop m (x ∷ xs)) (sym back))
+split_later p x xs n s = grind arith
 
 split_first : {X : Type 0} (p : X → Bool) (xs : List X) → list_any p xs ≡ true → SplitAt p xs (position_or_len p xs)
 split_first p [] h = absurd (both_ways _ refl h)
@@ -72,38 +44,16 @@ split_first {X} p (x ∷ xs) h = step (p x) refl h (λ g. split_first p xs g)
 
 -- `name=` at the front of a piece
 named_split : (piece : List ℕ) → has_equals piece ≡ true → piece ≡ piece_name piece ++ 61 ∷ piece_value piece
-named_split piece h =
-    let s = split_first is_equals piece h in
-    s.2 ∙ ap (λ b. piece_name piece ++ b ∷ piece_value piece) (eqb-true s.0 61 s.1)
+named_split piece h = grind (arith, split_first, eqb-true)
 
 quoted_ok : (text value : List ℕ) → quoted_value text ≡ Ok value → (list_any is_quote value ≡ false) × (text ≡ value ++ 34 ∷ [])
-quoted_ok text value h =
-    let a = guard_ok (not (list_any is_quote text)) OpenQuote _ value h in
-    let b = guard_ok (not (position_or_len is_quote text + 1 == length text)) BadValue _ value a.1 in
-    let v : take (position_or_len is_quote text) text ≡ value = cc in
-    let end : position_or_len is_quote text + 1 ≡ length text = eqb-true _ _ (not-false _ b.0) in
-    let s = split_first is_quote text (not-false _ a.0) in
-    let none : drop (position_or_len is_quote text + 1) text ≡ [] = drop_all (position_or_len is_quote text + 1) text (omega arith) in (
-      ap (list_any is_quote) (sym v) ∙ before_has_none is_quote text,
-      s.2 ∙ ap (λ l. take (position_or_len is_quote text) text ++ s.0 ∷ l) none ∙ ap (λ c. take (position_or_len is_quote text) text ++ c ∷ []) (eqb-true s.0 34 s.1) ∙ ap (λ l. l ++ 34 ∷ []) v,
-    )
+quoted_ok text value h = grind (arith, guard_ok, eqb-true, not-false, split_first, drop_all, before_has_none)
 
 plain_ok : (text value : List ℕ) → plain_value text ≡ Ok value → (is_value false text ≡ true) × (text ≡ value)
-plain_ok text value h = step (is_value false text) refl h
-  where
-    step : (b : Bool) → is_value false text ≡ b → cond b (Ok text) (Err BadValue) ≡ Ok value → (is_value false text ≡ true) × (text ≡ value)
-    step true e h = (e, cc)
-    step false e h = absurd (no h)
-      where
-        no : {A : Type 0} {x : A} → Err BadValue ≡ Ok x → ⊥
-        no h = cc
+plain_ok text value h = grind arith
 
 pair_made : (name : List ℕ) (q : Bool) (r : Result (List ℕ) AttrFault) (pair : Pair) → value_pair name q r ≡ Ok pair → (value : List ℕ) × (r ≡ Ok value) × (record { name = name; value = value; quoted = q } ≡ pair)
-pair_made name q (Ok value) pair h = (value, refl, cc)
-pair_made name q (Err e) pair h = absurd (no e pair h)
-  where
-    no : (e : AttrFault) (pair : Pair) → Err e ≡ Ok pair → ⊥
-    no e pair h = cc
+pair_made name q r pair h = grind arith
 
 abbrev IsValueOf : List ℕ → List ℕ → Pair → Type 0
 IsValueOf name text pair = (pair.name ≡ name) × (is_value pair.quoted pair.value ≡ true) × (text ≡ value_spelling pair.quoted pair.value)
@@ -203,11 +153,7 @@ not_none : (pair : Pair) (pairs : List Pair) → pair ∷ pairs ≢ []
 not_none pair pairs h = cc
 
 some_spelled : (text : List ℕ) (pairs : List Pair) → pieces text ≡ map pair_spelling pairs → pairs ≢ []
-some_spelled text [] h e = absurd (no (sym (pieces_are false text) ∙ h))
-  where
-    no : {A : Type 0} {x : A} {xs : List A} → x ∷ xs ≡ [] → ⊥
-    no h = cc
-some_spelled text (pair ∷ pairs) h e = absurd (not_none pair pairs e)
+some_spelled text pairs h e = grind (arith, pieces_are, not_none)
 
 -- what the reading gives is in the grammar
 pub read_is_list : (text : List ℕ) (pairs : List Pair) → attributes_of None text ≡ Ok pairs → IsAttributeList text pairs
@@ -262,7 +208,7 @@ written_is_read [] some h = absurd (some refl)
 written_is_read (pair ∷ pairs) some h = ap (pairs_from None []) (pieces_of_text pair pairs [] h) ∙ pairs_read (pair ∷ pairs) [] h
 
 pub list_is_read : (text : List ℕ) (pairs : List Pair) → IsAttributeList text pairs → attributes_of None text ≡ Ok pairs
-list_is_read text pairs list = ap (attributes_of None) list.spelled ∙ written_is_read pairs list.some (apart_from [] pairs list.each list.names)
+list_is_read text pairs list = grind (arith, written_is_read, apart_from)
 
 pub ok_same : (r : Result (List Pair) AttrFault) (a b : List Pair) → r ≡ Ok a → r ≡ Ok b → a ≡ b
 ok_same r a b e f = cc

@@ -1,7 +1,7 @@
 -- The limit of a list's length only refuses.
 use Rattle.std.proofs.Common.{◌≡◌, ℕ, ◌+◌, ◌<◌, ◌≤◌, true, false, List, [], ◌∷◌, ◌++◌, map, length, refl, ap, sym, ◌∙◌, subst, arith, inl, inr, ◌⊎◌, length-append, Ok, Err, Some, None, Result}
 use Rattle.std.specs.Prelude.{IsErr}
-use Rattle.std.proofs.lemmas.Bool.{lt-leb, le-leb, cases_lt, both_ways}
+use Rattle.std.proofs.lemmas.Bool.{lt-leb, le-leb, cases_lt}
 use Rattle.std.proofs.lemmas.List.{length-map}
 use Rattle.attr_list.specs.declared.AttrFault.{AttrFault}
 use Rattle.attr_list.specs.declared.AttrFault.TheVariants.{TooMany}
@@ -52,11 +52,7 @@ pub pieces_count : (text : List ℕ) (pairs : List Pair) → attributes_of None 
 pieces_count text pairs h = ap length (pieces_are_spellings text pairs h) ∙ length-map pairs pair_spelling
 
 no_err : (r : Result (List Pair) AttrFault) (pairs : List Pair) → IsErr r → r ≡ Ok pairs → ⊥
-no_err (Ok all) pairs h e = both_ways _ refl h
-no_err (Err fault) pairs h e = absurd (no fault pairs e)
-  where
-    no : (fault : AttrFault) (pairs : List Pair) → Err fault ≡ Ok pairs → ⊥
-    no fault pairs h = cc
+no_err r pairs h e = grind arith
 
 pub limited_is_read : (most : ℕ) (text : List ℕ) (pairs : List Pair) → attributes_of (Some most) text ≡ Ok pairs → (attributes_of None text ≡ Ok pairs) × (length (pieces text) ≤ most)
 limited_is_read most text pairs h = step (cases_lt most (length (pieces text)))
@@ -82,14 +78,11 @@ list_is_limited most text pairs list few =
     read_is_limited most text pairs h (omega arith)
 
 pub same_pairs : (most : ℕ) (text : List ℕ) (pairs others : List Pair) → attributes_of (Some most) text ≡ Ok pairs → IsAttributeList text others → length others ≤ most → pairs ≡ others
-same_pairs most text pairs others h list few = ok_same (attributes_of (Some most) text) pairs others h (list_is_limited most text others list few)
+same_pairs most text pairs others h list few = grind (arith, ok_same, list_is_limited)
 
 -- a list within the limit has no fault
 pub no_fault : (most : ℕ) (text : List ℕ) (pairs : List Pair) (fault : AttrFault) → attributes_of (Some most) text ≡ Err fault → IsAttributeList text pairs → length pairs ≤ most → ⊥
-no_fault most text pairs fault h list few = absurd (no fault pairs (sym h ∙ list_is_limited most text pairs list few))
-  where
-    no : (fault : AttrFault) (pairs : List Pair) → Err fault ≡ Ok pairs → ⊥
-    no fault pairs h = cc
+no_fault most text pairs fault h list few = grind (arith, list_is_limited)
 
 pub limited_pieces : (most : ℕ) (text : List ℕ) (pairs : List Pair) → attributes_of (Some most) text ≡ Ok pairs → pieces text ≡ map pair_spelling pairs
 limited_pieces most text pairs h = pieces_are_spellings text pairs (limited_is_read most text pairs h).0

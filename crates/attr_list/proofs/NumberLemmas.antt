@@ -1,11 +1,11 @@
 -- What `parse` and `from_str_radix` give at texts that are known to be digits.
-use Rattle.std.proofs.Common.{◌≡◌, ℕ, zero, suc, ◌+◌, ◌-◌, ◌*◌, ◌^◌, ◌<◌, ◌≤◌, Bool, true, false, cond, List, [], ◌∷◌, take, drop, length, get_or, refl, ap, sym, ◌∙◌, arith, rules, Ok, Err, Some, None, Result}
+use Rattle.std.proofs.Common.{◌≡◌, ℕ, zero, suc, ◌+◌, ◌-◌, ◌*◌, ◌^◌, ◌<◌, ◌≤◌, Bool, true, false, cond, List, [], ◌∷◌, take, drop, length, get_or, refl, ap, sym, ◌∙◌, arith, rules, Some, None, Result}
 use Rattle.std.specs.Prelude.{◌&&◌, ◌==◌, nat_lt}
 use Rattle.std.specs.List.{list_all}
 use Rattle.std.specs.Char.{is_ascii_digit, is_ascii_hexdigit, digit_value}
-use Rattle.std.specs.Result.{result_ok, OkIff}
+use Rattle.std.specs.Result.{result_ok}
 use Rattle.std.specs.Str.Parse.{digits_value, AllDigits, ParsesUnsigned, without_leading_plus}
-use Rattle.std.proofs.lemmas.Bool.{and_parts, and_from, cond-true, cond-false, lt-ltb, le-leb, le-ltb, ltb-true}
+use Rattle.std.proofs.lemmas.Bool.{and_parts, and_from, cond-true, lt-ltb, le-leb, ltb-true}
 use Rattle.std.proofs.lemmas.Bool.Decides.{nat_tests}
 use Rattle.std.proofs.Math.Nat.{pow-le-pow_right}
 use Rattle.std.proofs.lemmas.Int.Digits.{digits_value-lt, digits_value_more}
@@ -30,10 +30,7 @@ hex_digit c h = grind (arith, nat_tests)
 -- no plus stands before digits
 no_plus : (radix : ℕ) (ds : List ℕ) → radix ≤ 16 → AllDigits radix ds → get_or ds 0 0 ≡ 43 → 0 < length ds → ⊥
 no_plus radix [] s h e l = omega arith
-no_plus radix (c ∷ ds) s h e l = plus_value c (omega (arith, h.0)) e
-  where
-    plus_value : (c : ℕ) → digit_value c < 16 → c ≡ 43 → ⊥
-    plus_value c h e = grind (arith, nat_tests)
+no_plus radix (c ∷ ds) s h e l = grind arith
 
 plain : (radix : ℕ) (ds : List ℕ) → radix ≤ 16 → AllDigits radix ds → 0 < length ds → without_leading_plus ds ≡ ds
 plain radix ds s h l = without_leading_plus_none ds (λ e. no_plus radix ds s h e l)
@@ -41,21 +38,10 @@ plain radix ds s h l = without_leading_plus_none ds (λ e. no_plus radix ds s h 
 -- the answer of a parse, if the text has digits alone
 parsed : {E : Type 0} (k radix : ℕ) (ds : List ℕ) (r : Result ℕ E) → radix ≤ 16 → AllDigits radix ds → 0 < length ds → ParsesUnsigned k radix ds r
     → result_ok r ≡ cond (nat_lt (digits_value radix ds) (2 ^ k)) (Some (digits_value radix ds)) None
-parsed k radix ds r s h l p = by r (digits_value radix ds) (2 ^ k) (l, h) (rw (plain radix ds s h l) at p)
-  where
-    by : {E : Type 0} (r : Result ℕ E) (v top : ℕ) {Q : Type 0} → Q → OkIff r (Q × (v < top)) v → result_ok r ≡ cond (nat_lt v top) (Some v) None
-    by (Ok x) v top q o = ap Some o.1 ∙ sym (cond-true _ _ _ (lt-ltb _ _ o.0.1))
-    by (Err e) v top q o = sym (cond-false _ _ _ (le-ltb _ _ (not_below v top (λ b. o (q, b)))))
-      where
-        not_below : (v top : ℕ) → (v < top → ⊥) → top ≤ v
-        not_below v top h = omega arith
+parsed k radix ds r s h l p = grind arith
 
 pub some_digits : (ds : List ℕ) → (length ds == 0) ≡ false → 0 < length ds
-some_digits [] h = absurd (false_is_not_true h)
-  where
-    false_is_not_true : true ≡ false → ⊥
-    false_is_not_true h = cc
-some_digits (d ∷ ds) h = omega arith
+some_digits ds h = grind arith
 
 -- ---- digits of a decimal, one after the other
 
@@ -64,9 +50,7 @@ digit_passes c h = search rules
 
 -- one digit more
 pub value_more : (ds : List ℕ) (i : ℕ) → i < length ds → is_ascii_digit (get_or ds i 0) ≡ true → digits_value 10 (take (i + 1) ds) ≡ digits_value 10 (take i ds) * 10 + (get_or ds i 0 - 48)
-value_more ds i below digit =
-    let known = digit_value_digit (get_or ds i 0) (digit_passes (get_or ds i 0) digit) in
-    digits_value_more 10 ds i below ∙ ap (λ d. digits_value 10 (take i ds) * 10 + d) (omega arith)
+value_more ds i below digit = grind (arith, digit_value_digit, get_or, digit_passes, digits_value_more)
 
 pub digits_more : (ds : List ℕ) (i : ℕ) → i < length ds → list_all is_ascii_digit (take i ds) ≡ true → is_ascii_digit (get_or ds i 0) ≡ true → list_all is_ascii_digit (take (i + 1) ds) ≡ true
 digits_more [] i below h d = absurd (omega (arith, below))
@@ -95,16 +79,10 @@ no_decimal ds i v within value h =
 
 -- if all are, it is
 pub is_decimal : (ds : List ℕ) (v n : ℕ) → 0 < length ds → length ds ≤ 20 → length ds ≤ n → v ≡ digits_value 10 (take n ds) → v < 2 ^ 64 → list_all is_ascii_digit (take n ds) ≡ true → decimal_of ds ≡ Some v
-is_decimal ds v n some few long value below digits =
-    let whole : take n ds ≡ ds = take_all n ds long in
-    let is : v ≡ digits_value 10 ds = value ∙ ap (digits_value 10) whole in
-    let all : list_all is_ascii_digit ds ≡ true = sym (ap (list_all is_ascii_digit) whole) ∙ digits in
-    let size : has_up_to 20 ds ≡ true = and_from _ _ (lt-ltb _ _ some) (le-leb _ _ few) in
-    let top : nat_lt (digits_value 10 ds) (2 ^ 64) ≡ true = lt-ltb _ _ (omega (arith, is, below)) in
-    cond-true _ _ _ (and_from _ _ (and_from _ _ size all) top) ∙ ap Some (sym is)
+is_decimal ds v n some few long value below digits = grind (arith, take_all, and_from, lt-ltb, le-leb, cond-true)
 
 below_top : (n l : ℕ) → n < 16 ^ l → l ≤ 32 → n < 2 ^ 128
-below_top n l h few = let most : 16 ^ l ≤ 16 ^ 32 = pow-le-pow_right {n = 16} (omega arith) few in omega arith
+below_top n l h few = grind (arith, pow-le-pow_right)
 
 pub hex_read : {E : Type 0} (text ds : List ℕ) (r : Result ℕ E) → has_hex_prefix text ≡ true → ds ≡ drop 2 text → (length ds == 0) ≡ false → length ds ≤ 32 → list_all is_ascii_hexdigit ds ≡ true → ParsesUnsigned 128 16 ds r → result_ok r ≡ hex_of text
 hex_read text ds r prefix after some few all p =

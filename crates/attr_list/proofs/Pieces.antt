@@ -1,7 +1,7 @@
 -- How a text is cut into pieces.
-use Rattle.std.proofs.Common.{◌≡◌, ℕ, Bool, true, false, not, cond, List, [], ◌∷◌, ◌++◌, refl, ap, ◌∙◌, arith, append_assoc}
+use Rattle.std.proofs.Common.{◌≡◌, ℕ, Bool, true, false, not, cond, List, [], ◌∷◌, ◌++◌, refl, ap, arith, append_assoc}
 use Rattle.std.specs.Prelude.{◌&&◌, ◌||◌}
-use Rattle.std.specs.List.{list_any, onto_first}
+use Rattle.std.specs.List.{list_any}
 use Rattle.std.proofs.lemmas.Bool.{and_parts, or_parts, not-true}
 use Rattle.std.proofs.lemmas.List.{append-nil}
 use Rattle.std.proofs.lemmas.Bool.Decides.{nat_tests}
@@ -17,12 +17,7 @@ later_from quoted (b ∷ bytes) = cond (is_comma b && not quoted) (pieces_from f
 
 pub pieces_are : (quoted : Bool) (text : List ℕ) → pieces_from quoted text ≡ first_from quoted text ∷ later_from quoted text
 pieces_are quoted [] = refl
-pieces_are quoted (b ∷ bytes) = step (is_comma b && not quoted) b _ _ _ _ (pieces_are (cond (is_quote b) (not quoted) quoted) bytes)
-  where
-    step : (stop : Bool) (b : ℕ) (all next later : List (List ℕ)) (first : List ℕ) → all ≡ first ∷ later
-        → cond stop ([] ∷ next) (onto_first b all) ≡ cond stop [] (b ∷ first) ∷ cond stop next later
-    step true b all next later first e = refl
-    step false b all next later first e = ap (onto_first b) e
+pieces_are quoted (b ∷ bytes) = grind (arith, pieces_are (cond (is_quote b) (not quoted) quoted) bytes)
 
 abbrev pub stops : ℕ → Bool
 stops b = is_comma b || is_quote b
@@ -63,10 +58,10 @@ name_byte_is : (b : ℕ) → is_name_byte b ≡ true → (stops b ≡ false) × 
 name_byte_is b h = (grind (arith, nat_tests), grind (arith, nat_tests))
 
 pub name_runs : (name : List ℕ) → is_name name ≡ true → list_any stops name ≡ false
-name_runs name h = let a = and_parts _ _ h in none_from is_name_byte stops name a.1 (λ b g. (name_byte_is b g).0)
+name_runs name h = grind (arith, and_parts, none_from, name_byte_is)
 
 pub name_without_equals : (name : List ℕ) → is_name name ≡ true → list_any is_equals name ≡ false
-name_without_equals name h = let a = and_parts _ _ h in none_from is_name_byte is_equals name a.1 (λ b g. (name_byte_is b g).1)
+name_without_equals name h = grind (arith, and_parts, none_from, name_byte_is)
 
 pub plain_runs : (value : List ℕ) → list_any ends_plain value ≡ false → list_any stops value ≡ false
 plain_runs value h = fewer ends_plain stops value h (λ b g. (or_parts _ _ g).0)
@@ -85,15 +80,7 @@ first_ended [] h = refl
 first_ended (b ∷ after) h = rw h refl
 
 pub first_valued : (q : Bool) (value after : List ℕ) → is_value q value ≡ true → ends_pair after ≡ true → first_piece (value_spelling q value ++ after) ≡ value_spelling q value
-first_valued true value after h e =
-    ap (λ l. 34 ∷ first_from true l) (append_assoc value (34 ∷ []) after) ∙ ap (λ l. 34 ∷ l) (first_inside value (34 ∷ after) (not-true _ h) ∙ ap (λ l. value ++ 34 ∷ l) (first_ended after e))
-first_valued false value after h e =
-    let a : _ × (not (list_any ends_plain value) ≡ true) = and_parts _ _ h in
-    first_past value after (plain_runs value (not-true _ a.1)) ∙ ap (λ l. value ++ l) (first_ended after e) ∙ append-nil value
+first_valued q value after h e = grind (arith, append_assoc, first_inside, not-true, first_ended, and_parts, first_past, plain_runs, append-nil)
 
 pub later_valued : (q : Bool) (value after : List ℕ) → is_value q value ≡ true → later_from false (value_spelling q value ++ after) ≡ later_from false after
-later_valued true value after h =
-    ap (later_from true) (append_assoc value (34 ∷ []) after) ∙ later_inside value (34 ∷ after) (not-true _ h)
-later_valued false value after h =
-    let a : _ × (not (list_any ends_plain value) ≡ true) = and_parts _ _ h in
-    later_past value after (plain_runs value (not-true _ a.1))
+later_valued q value after h = grind (arith, append_assoc, later_inside, not-true, and_parts, later_past, plain_runs)

@@ -1,5 +1,5 @@
 -- The slices of a text at its places are its pieces.
-use Rattle.std.proofs.Common.{◌≡◌, ℕ, false, ◌+◌, ◌-◌, List, [], ◌∷◌, ◌++◌, take, drop, length, refl, ap, sym, ◌∙◌, arith, append_assoc, length-append}
+use Rattle.std.proofs.Common.{◌≡◌, ℕ, false, ◌+◌, List, [], ◌∷◌, ◌++◌, length, refl, ap, sym, ◌∙◌, arith, append_assoc, length-append}
 use Rattle.std.specs.Prelude.{slice_range}
 use Rattle.std.specs.List.{join_with_byte}
 use Rattle.std.proofs.lemmas.List.{append-nil, take_at, drop_at}
@@ -7,11 +7,7 @@ use Rattle.attr_list.specs.Attributes.{pieces, spans_from, slices_at}
 use Rattle.attr_list.proofs.Grammar.{pieces_joined}
 
 slice_middle : (front middle back : List ℕ) (start : ℕ) → length front ≡ start → slice_range (front ++ (middle ++ back)) start (start + length middle) ≡ middle
-slice_middle front middle back start e =
-    let size : start + length middle - start ≡ length middle = omega arith in
-    ap (λ n. take n (drop start (front ++ (middle ++ back)))) size
-    ∙ ap (take (length middle)) (drop_at front (middle ++ back) start e)
-    ∙ take_at middle back (length middle) refl
+slice_middle front middle back start e = grind (arith, drop_at, take_at)
 
 pub slices_are : (parts : List (List ℕ)) (front : List ℕ) (start : ℕ) → length front ≡ start → slices_at (front ++ join_with_byte 44 parts) (spans_from start parts) ≡ parts
 slices_are [] front start e = refl

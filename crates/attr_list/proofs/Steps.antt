@@ -1,12 +1,11 @@
 -- One attribute is read from the front of a text.
-use Rattle.std.proofs.Common.{◌≡◌, ◌≢◌, ℕ, ◌+◌, ◌-◌, ◌≤◌, Bool, true, false, not, cond, List, [], ◌∷◌, ◌++◌, length, refl, ap, sym, ◌∙◌, arith, append_assoc, length-append, Ok, Err, Option}
-use Rattle.std.specs.Prelude.{◌||◌, ◌==◌, nat_lt}
+use Rattle.std.proofs.Common.{◌≡◌, ◌≢◌, ℕ, ◌+◌, ◌-◌, ◌≤◌, Bool, true, false, cond, List, [], ◌∷◌, ◌++◌, length, refl, ap, sym, ◌∙◌, arith, append_assoc, length-append, Ok, Err, Option}
 use Rattle.std.specs.List.{list_any}
-use Rattle.std.proofs.lemmas.Bool.{and_parts, and_from, or_parts, cond-false, not-true, eq-eqb, eqb-true}
+use Rattle.std.proofs.lemmas.Bool.{and_parts, and_from, not-true, eq-eqb, eqb-true}
 use Rattle.std.proofs.lemmas.List.{take_at}
 use Rattle.attr_list.specs.declared.AttrFault.{AttrFault}
 use Rattle.attr_list.specs.declared.AttrFault.TheVariants.{Twice}
-use Rattle.attr_list.specs.Attributes.{Pair, is_comma, is_equals, is_quote, is_name, is_value, is_pair, ends_plain, is_named, is_full, value_spelling, pair_spelling, pieces, piece_name, piece_value, has_equals, quoted_value, plain_value, value_pair, value_of, pair_of, pairs_from, add_pair, spans_from}
+use Rattle.attr_list.specs.Attributes.{Pair, is_quote, is_name, is_value, is_pair, is_named, is_full, value_spelling, pair_spelling, pieces, quoted_value, value_pair, value_of, pair_of, pairs_from, add_pair, spans_from}
 use Rattle.attr_list.specs.Scanning.{first_piece}
 use Rattle.attr_list.specs.Inner.Scanning.{ends_pair, IsNamed, IsValued, HasValueFault, StartsWithPair}
 use Rattle.attr_list.proofs.Cuts.{position_at, before_at, after_at, any_at}
@@ -15,23 +14,10 @@ use Rattle.attr_list.proofs.Pieces.{first_named, later_named, first_valued, late
 -- ---- a spelling is read as its value
 
 quoted_read : (value : List ℕ) → list_any is_quote value ≡ false → quoted_value (value ++ 34 ∷ []) ≡ Ok value
-quoted_read value h =
-    let any = any_at is_quote value 34 [] refl in
-    let place = position_at is_quote value 34 [] h refl in
-    let end : (length value + 1 == length (value ++ 34 ∷ [])) ≡ true = eq-eqb _ _ (omega (arith, length-append value (34 ∷ []))) in
-    let front = take_at value (34 ∷ []) (length value) refl in
-    rw (any, place, end, front) refl
-
-plain_value_is : (name value : List ℕ) → is_value false value ≡ true → value_pair name false (plain_value value) ≡ Ok (record { name = name; value = value; quoted = false })
-plain_value_is name value h = rw h refl
+quoted_read value h = grind (arith, any_at, position_at, eq-eqb, length-append, take_at)
 
 plain_read : (name value : List ℕ) → is_value false value ≡ true → value_of name value ≡ Ok (record { name = name; value = value; quoted = false })
-plain_read name [] h = cc
-plain_read name (b ∷ value) h =
-    let a : (nat_lt 0 (length (b ∷ value)) ≡ true) × (not (list_any ends_plain (b ∷ value)) ≡ true) = and_parts _ _ h in
-    let c : (ends_plain b ≡ false) × (list_any ends_plain value ≡ false) = or_parts _ _ (not-true _ a.1) in
-    let d : ((is_comma b || is_quote b) ≡ false) × ((b == 32) ≡ false) = or_parts _ _ c.0 in let e : (is_comma b ≡ false) × (is_quote b ≡ false) = or_parts _ _ d.0 in
-    cond-false (is_quote b) _ _ e.1 ∙ plain_value_is name (b ∷ value) h
+plain_read name value h = grind arith
 
 pub value_read : (q : Bool) (name value : List ℕ) → is_value q value ≡ true → value_of name (value_spelling q value) ≡ Ok (record { name = name; value = value; quoted = q })
 value_read true name value h = ap (value_pair name true) (quoted_read value (not-true _ h))
@@ -41,52 +27,31 @@ value_read false name value h = plain_read name value h
 
 named_piece : (most : Option ℕ) (before : List Pair) (name rest : List ℕ) → is_name name ≡ true → is_full most (length before) ≡ false
     → pair_of most before (name ++ 61 ∷ rest) ≡ cond (list_any (is_named name) before) (Err Twice) (value_of name rest)
-named_piece most before name rest h room =
-    let free = name_without_equals name h in
-    by (name ++ 61 ∷ rest) (before_at is_equals name 61 rest free refl) (after_at is_equals name 61 rest free refl) (any_at is_equals name 61 rest refl)
-  where
-    by : (piece : List ℕ) → piece_name piece ≡ name → piece_value piece ≡ rest → has_equals piece ≡ true → pair_of most before piece ≡ cond (list_any (is_named name) before) (Err Twice) (value_of name rest)
-    by piece e g f = rw (room, e, h, f, g) refl
+named_piece most before name rest h room = grind (arith, name_without_equals, before_at, after_at, any_at)
 
 pub named_twice : (most : Option ℕ) (before : List Pair) (text name rest : List ℕ) → IsNamed text name rest → is_full most (length before) ≡ false → list_any (is_named name) before ≡ true → pair_of most before (first_piece text) ≡ Err Twice
-named_twice most before text name rest h room twice =
-    ap (pair_of most before) (ap first_piece h.1 ∙ first_named name rest h.0) ∙ named_piece most before name (first_piece rest) h.0 room ∙ rw twice refl
+named_twice most before text name rest h room twice = grind (arith, first_named, named_piece)
 
 pub value_faulty : (most : Option ℕ) (before : List Pair) (text name rest : List ℕ) (fault : AttrFault) → IsNamed text name rest → is_full most (length before) ≡ false → list_any (is_named name) before ≡ false → HasValueFault rest fault
     → pair_of most before (first_piece text) ≡ Err fault
-value_faulty most before text name rest fault h room new bad =
-    ap (pair_of most before) (ap first_piece h.1 ∙ first_named name rest h.0) ∙ named_piece most before name (first_piece rest) h.0 room ∙ rw new (bad name)
+value_faulty most before text name rest fault h room new bad = grind (arith, first_named, named_piece)
 
 pub pair_read : (most : Option ℕ) (before : List Pair) (pair : Pair) → is_pair pair ≡ true → is_full most (length before) ≡ false → list_any (is_named pair.name) before ≡ false → pair_of most before (pair_spelling pair) ≡ Ok pair
-pair_read most before pair h room new =
-    let c : (is_name pair.name ≡ true) × (is_value pair.quoted pair.value ≡ true) = and_parts _ _ h in
-    named_piece most before pair.name (value_spelling pair.quoted pair.value) c.0 room ∙ rw new (value_read pair.quoted pair.name pair.value c.1)
+pair_read most before pair h room new = grind (arith, and_parts, named_piece, value_read)
 
 pub starts_with_pair : (text name rest value after : List ℕ) (quoted : Bool) → IsNamed text name rest → IsValued rest quoted value after → StartsWithPair text (record { name = name; value = value; quoted = quoted }) after
-starts_with_pair text name rest value after quoted h v = record {
-  fits = and_from _ _ h.0 v.0;
-  spelled = h.1 ∙ ap (λ x. name ++ 61 ∷ x) v.1 ∙ sym (append_assoc name (61 ∷ value_spelling quoted value) after);
-  ended = v.2;
-}
+starts_with_pair text name rest value after quoted h v = grind (arith, and_from, append_assoc)
 
 -- ---- the text goes on after a pair
 
 pub first_pair : (text : List ℕ) (pair : Pair) (after : List ℕ) → StartsWithPair text pair after → first_piece text ≡ pair_spelling pair
-first_pair text pair after s =
-    let c : (is_name pair.name ≡ true) × (is_value pair.quoted pair.value ≡ true) = and_parts _ _ s.fits in
-    ap first_piece (s.spelled ∙ append_assoc pair.name (61 ∷ value_spelling pair.quoted pair.value) after)
-    ∙ first_named pair.name (value_spelling pair.quoted pair.value ++ after) c.0
-    ∙ ap (λ x. pair.name ++ 61 ∷ x) (first_valued pair.quoted pair.value after c.1 s.ended)
+first_pair text pair after s = grind (arith, and_parts, append_assoc, first_named, first_valued)
 
 later_pair : (text : List ℕ) (pair : Pair) (after : List ℕ) → StartsWithPair text pair after → later_from false text ≡ later_from false after
-later_pair text pair after s =
-    let c : (is_name pair.name ≡ true) × (is_value pair.quoted pair.value ≡ true) = and_parts _ _ s.fits in
-    ap (later_from false) (s.spelled ∙ append_assoc pair.name (61 ∷ value_spelling pair.quoted pair.value) after)
-    ∙ later_named pair.name (value_spelling pair.quoted pair.value ++ after) c.0
-    ∙ later_valued pair.quoted pair.value after c.1
+later_pair text pair after s = grind (arith, and_parts, later_from, append_assoc, later_named, later_valued)
 
 pub pieces_of_pair : (text : List ℕ) (pair : Pair) (after : List ℕ) → StartsWithPair text pair after → pieces text ≡ pair_spelling pair ∷ later_from false after
-pieces_of_pair text pair after s = pieces_are false text ∙ ap (λ f. f ∷ later_from false text) (first_pair text pair after s) ∙ ap (λ l. pair_spelling pair ∷ l) (later_pair text pair after s)
+pieces_of_pair text pair after s = grind (arith, pieces_are, later_from, first_pair, later_pair)
 
 pub read_on : (most : Option ℕ) (before : List Pair) (text : List ℕ) (pair : Pair) (after next : List ℕ) → StartsWithPair text pair after → after ≡ 44 ∷ next → pair_of most before (pair_spelling pair) ≡ Ok pair
     → pairs_from most before (pieces text) ≡ pairs_from most (before ++ pair ∷ []) (pieces next)
@@ -101,8 +66,7 @@ read_last most before text pair after s e ok =
     ap (pairs_from most before) cut ∙ ap (λ r. add_pair before r (λ pairs. pairs_from most pairs [])) ok
 
 pub read_fault : (most : Option ℕ) (before : List Pair) (text : List ℕ) (fault : AttrFault) → pair_of most before (first_piece text) ≡ Err fault → pairs_from most before (pieces text) ≡ Err fault
-read_fault most before text fault e =
-    ap (pairs_from most before) (pieces_are false text) ∙ ap (λ r. add_pair before r (λ pairs. pairs_from most pairs (later_from false text))) e
+read_fault most before text fault e = grind (arith, pieces_are, later_from)
 
 pub ends_empty : (after : List ℕ) → ends_pair after ≡ true → ((rest : List ℕ) → after ≢ 44 ∷ rest) → after ≡ []
 ends_empty [] h other = refl

@@ -1,6 +1,6 @@
 -- Tags that say nothing new leave the known breaks as they are.
 use Rattle.std.proofs.Common.{◌≡◌, ℕ, Bool, true, false, cond, not, ◌&&◌, ◌||◌, List, [], ◌∷◌, map, filter, refl, sym, ap, ◌∙◌, true≢false, subst}
-use Rattle.std.specs.Prelude.{Option, bytes_eq, string_eq, fold}
+use Rattle.std.specs.Prelude.{Option, bytes_eq, fold}
 use Rattle.std.specs.List.{list_any, IsDistinct}
 use Rattle.std.specs.Map.{keys_of}
 use Rattle.std.proofs.lemmas.Slice.Eq.{bytes_eq-Decides}
@@ -81,7 +81,7 @@ unchanged p (b ∷ breaks) (t ∷ tags) f h =
 -- ---- a refresh
 
 -- nothing new is said: what is known stays
-pub nothing_said_anew : (r : Accepted) (breaks : List Break) (tags : List DateRange) (es : Pairs) → map break_at es ≡ breaks → tags ≡ r.playlist.date_ranges → IsDistinct string_eq (keys_of es)
+pub nothing_said_anew : (r : Accepted) (breaks : List Break) (tags : List DateRange) (es : Pairs) → map break_at es ≡ breaks → tags ≡ r.playlist.date_ranges → IsDistinct bytes_eq (keys_of es)
     → AreSaid (map break_at es) tags → breaks ≡ carry r breaks
 nothing_said_anew r breaks tags es view_is tags_are distinct said =
     let known = map break_at es in

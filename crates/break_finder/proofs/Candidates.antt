@@ -1,9 +1,8 @@
 -- A known break that starts far from an instant is not entered there.
-use Rattle.std.proofs.Common.{◌≡◌, ℕ, Bool, true, false, cond, ◌&&◌, List, refl, Some, None}
+use Rattle.std.proofs.Common.{◌≡◌, ℕ, Bool, true, false, cond, List, refl, Some, None, arith}
 use Rattle.std.specs.Prelude.{Option, ℤ}
-use Rattle.pod_store.specs.Pods.{Pod, total, pod_fits}
-use Rattle.break_finder.specs.Signals.{is_leaving}
-use Rattle.break_finder.specs.Breaks.{Break, end_of, is_near}
+use Rattle.pod_store.specs.Pods.{Pod}
+use Rattle.break_finder.specs.Breaks.{Break, is_near}
 use Rattle.break_finder.specs.Entrances.{Entrance, entrance_with, entrance_of}
 use Rattle.break_finder.specs.Inner.Entrances.{is_entered_if}
 
@@ -13,11 +12,8 @@ far_at tolerance last instant e far false = refl
 
 far_with : (tolerance : ℕ) (last : Option (List ℕ)) (instant : ℤ) (target : ℕ) (with_init_sections : Bool) (b : Break) (start : Option ℤ) (pod : Option Pod)
     → is_near instant tolerance start ≡ false → is_entered_if tolerance last instant (entrance_with target with_init_sections b start pod) ≡ false
-far_with tolerance last instant target with_init_sections b None pod far = refl
-far_with tolerance last instant target with_init_sections b (Some start) None far = refl
-far_with tolerance last instant target with_init_sections b (Some start) (Some pod) far =
-    far_at tolerance last instant (record { id = b.id; start = start; end = end_of b.said (total pod) }) far (is_leaving b.said.scte35_out && pod_fits target with_init_sections pod)
+far_with tolerance last instant target with_init_sections b start pod far = grind (arith, far_at)
 
 pub far_off : (tolerance : ℕ) (last : Option (List ℕ)) (instant : ℤ) (target : ℕ) (with_init_sections : Bool) (b : Break) (pod : Option Pod)
     → is_near instant tolerance b.said.start ≡ false → is_entered_if tolerance last instant (entrance_of target with_init_sections b pod) ≡ false
-far_off tolerance last instant target with_init_sections b pod far = far_with tolerance last instant target with_init_sections b b.said.start pod far
+far_off tolerance last instant target with_init_sections b pod far = grind (arith, far_with)

@@ -1,6 +1,5 @@
 -- A list that is halved.
-use Rattle.std.proofs.Common.{◌≡◌, ℕ, zero, suc, ◌-◌, ◌*◌, ◌/◌, ◌^◌, ◌≤◌, arith}
-use Rattle.std.proofs.Math.Nat.{pow-suc}
+use Rattle.std.proofs.Common.{◌≡◌, ℕ, zero, suc, ◌-◌, ◌/◌, ◌^◌, ◌≤◌, arith}
 
 -- the half of what is at most 2 ^ halvings, and the rest of it, need one halving less
 pub record Halved (n left : ℕ) : Type 0 where
@@ -9,7 +8,4 @@ pub record Halved (n left : ℕ) : Type 0 where
 
 pub is_halved : (n halvings left : ℕ) → left ≡ halvings - 1 → 2 ≤ n → n ≤ 2 ^ halvings → (1 ≤ halvings) × Halved n left
 is_halved n zero left is two most = absurd (omega arith)
-is_halved n (suc k) left is two most =
-    let same : left ≡ k = omega arith in
-    let twice : 2 ^ suc k ≡ 2 ^ k * 2 = pow-suc 2 k in
-    rw same (omega arith, record { front = omega arith; back = omega arith })
+is_halved n (suc k) left is two most = grind arith

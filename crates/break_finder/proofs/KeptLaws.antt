@@ -1,18 +1,17 @@
 -- The known breaks beside what is kept of them.
-use Rattle.std.proofs.Common.{◌≡◌, ℕ, Bool, true, false, cond, List, [], ◌∷◌, map, refl, sym, ap, ◌∙◌, Some, option_map, String, string_bytes, filter, not, ◌&&◌, true≢false, subst}
-use Rattle.std.specs.Prelude.{Option, bytes_eq, string_eq, fold}
+use Rattle.std.proofs.Common.{◌≡◌, ℕ, Bool, true, false, cond, List, [], ◌∷◌, map, refl, Some, option_map, filter, not, ◌&&◌, arith}
+use Rattle.std.specs.Prelude.{Option, bytes_eq, fold}
 use Rattle.std.specs.List.{AllZip, AllByRecursion, IsDistinct}
 use Rattle.std.specs.Map.{keys_of}
-use Rattle.std.specs.declared.alloc.Global.{Global}
 use Rattle.indexmap.specs.IndexMap.{insert_entry}
 use Rattle.playlist_model.specs.declared.DateRange.{DateRange}
 use Rattle.break_finder.specs.declared.described.Described.{Described}
-use Rattle.break_finder.specs.Breaks.{Break, break_of, said_of, said_in, and_tag}
+use Rattle.break_finder.specs.Breaks.{Break, said_of, said_in, and_tag}
 use Rattle.break_finder.specs.Known.{Accepted, stands_in, carry}
 use Rattle.break_finder.specs.Inner.Known.{with_tag, break_stands}
 use Rattle.break_finder.proofs.Walked.{Fits, walked_is_carried}
 use Rattle.break_finder.specs.Kept.{break_at}
-use Rattle.break_finder.specs.Inner.Kept.{Pairs, is_key, kept_for, said_or_nothing}
+use Rattle.break_finder.specs.Inner.Kept.{Pairs, kept_for, said_or_nothing}
 
 for_cond : (b : Bool) (x : Break) (o : Option Break) (p : Option Described) → option_map said_in o ≡ p → option_map said_in (cond b (Some x) o) ≡ cond b (Some x.said) p
 for_cond true x o p h = refl
@@ -20,74 +19,50 @@ for_cond false x o p h = h
 
 kept_all : (id : List ℕ) (es : Pairs) → said_of (map break_at es) id ≡ kept_for id es
 kept_all id [] = refl
-kept_all id (e ∷ es) = for_cond (is_key id e.0) (break_at e) (break_of (map break_at es) id) (kept_for id es) (kept_all id es)
+kept_all id (e ∷ es) = grind (arith, kept_all id es)
 
 -- what is kept of an ID is what is said of its break
 pub said_kept : (id : List ℕ) (es : Pairs) (breaks : List Break) (found : Option Described) → map break_at es ≡ breaks → found ≡ kept_for id es → found ≡ said_of breaks id
-said_kept id es breaks found view_is found_is = found_is ∙ sym (kept_all id es) ∙ ap (λ bs. said_of bs id) view_is
-
-added_cond : (b : Bool) (e : String Global × Described) (es rest : Pairs) (said : Described) (tag : DateRange) (more : List Break) (old : Option Described)
-    → said ≡ and_tag (said_or_nothing (cond b (Some e.1) old)) tag → (said ≡ and_tag (said_or_nothing old) tag → map break_at rest ≡ more)
-    → map break_at (cond b ((e.0, said) ∷ es) (e ∷ rest)) ≡ cond b (record { id = string_bytes e.0; said = and_tag e.1 tag } ∷ map break_at es) (break_at e ∷ more)
-added_cond true e es rest said tag more old h f = ap (λ (x : Described). record { id = string_bytes e.0; said = x } ∷ map break_at es) h
-added_cond false e es rest said tag more old h f = ap (λ xs. break_at e ∷ xs) (f h)
+said_kept id es breaks found view_is found_is = grind (arith, kept_all)
 
 -- what is inserted is what the tag adds
-pub added : (es : Pairs) (k : String Global) (said : Described) (tag : DateRange) → string_bytes k ≡ tag.id → said ≡ and_tag (said_or_nothing (kept_for tag.id es)) tag
-    → map break_at (insert_entry string_eq es k said) ≡ with_tag (map break_at es) tag
-added [] k said tag i h = ap (λ id. record { id = id; said = said } ∷ []) i ∙ ap (λ (s : Described). record { id = tag.id; said = s } ∷ []) h
-added (e ∷ es) k said tag i h =
-    ap (λ b. map break_at (cond b ((e.0, said) ∷ es) (e ∷ insert_entry string_eq es k said))) (ap (λ id. bytes_eq id (string_bytes e.0)) i)
-    ∙ added_cond (is_key tag.id e.0) e es (insert_entry string_eq es k said) said tag (with_tag (map break_at es) tag) (kept_for tag.id es) h (added es k said tag i)
-
-filtered_cond : (b : Bool) (e : String Global × Described) (es : Pairs) (more : List Break) → map break_at es ≡ more → map break_at (cond b (e ∷ es) es) ≡ cond b (break_at e ∷ more) more
-filtered_cond true e es more h = ap (λ xs. break_at e ∷ xs) h
-filtered_cond false e es more h = h
+pub added : (es : Pairs) (k : List ℕ) (said : Described) (tag : DateRange) → k ≡ tag.id → said ≡ and_tag (said_or_nothing (kept_for tag.id es)) tag
+    → map break_at (insert_entry bytes_eq es k said) ≡ with_tag (map break_at es) tag
+added [] k said tag i h = grind arith
+added (e ∷ es) k said tag i h = grind (arith, added es k said tag i)
 
 pub filtered : (date_ranges : List DateRange) (carried : Option (List ℕ)) (es : Pairs)
-    → map break_at (filter (λ (e : String Global × Described). stands_in date_ranges carried (string_bytes e.0)) es) ≡ filter (break_stands date_ranges carried) (map break_at es)
+    → map break_at (filter (λ (e : List ℕ × Described). stands_in date_ranges carried e.0) es) ≡ filter (break_stands date_ranges carried) (map break_at es)
 filtered date_ranges carried [] = refl
-filtered date_ranges carried (e ∷ es) =
-    filtered_cond (stands_in date_ranges carried (string_bytes e.0)) e (filter (λ (e : String Global × Described). stands_in date_ranges carried (string_bytes e.0)) es)
-    (filter (break_stands date_ranges carried) (map break_at es)) (filtered date_ranges carried es)
+filtered date_ranges carried (e ∷ es) = grind (arith, filtered date_ranges carried es)
 
 -- a clone has the same breaks
-pub cloned : (es fs : Pairs) → AllZip (λ (p q : String Global × Described). (string_bytes q.0 ≡ string_bytes p.0) × (q.1 ≡ p.1)) es fs → map break_at fs ≡ map break_at es
+pub cloned : (es fs : Pairs) → AllZip (λ (p q : List ℕ × Described). (q.0 ≡ p.0) × (q.1 ≡ p.1)) es fs → map break_at fs ≡ map break_at es
 cloned [] [] h = refl
 cloned [] (f ∷ fs) h = absurd h
 cloned (e ∷ es) [] h = absurd h
-cloned (e ∷ es) (f ∷ fs) h =
-    ap (λ id. record { id = id; said = f.1 } ∷ map break_at fs) h.0.0 ∙ ap (λ (s : Described). record { id = string_bytes e.0; said = s } ∷ map break_at fs) h.0.1
-    ∙ ap (λ xs. break_at e ∷ xs) (cloned es fs h.1)
+cloned (e ∷ es) (f ∷ fs) h = grind (arith, cloned es fs h.1)
 
-apart_both : (p : List ℕ → Bool) (k : String Global) (ks : List (String Global)) → AllByRecursion (λ (j : String Global). p (string_bytes j) ≡ true) ks → AllByRecursion (λ (j : String Global). string_eq k j ≡ false) ks
-    → AllByRecursion (λ (j : String Global). (p (string_bytes j) && not (bytes_eq (string_bytes k) (string_bytes j))) ≡ true) ks
+apart_both : (p : List ℕ → Bool) (k : List ℕ) (ks : List (List ℕ)) → AllByRecursion (λ (j : List ℕ). p j ≡ true) ks → AllByRecursion (λ (j : List ℕ). bytes_eq k j ≡ false) ks
+    → AllByRecursion (λ (j : List ℕ). (p j && not (bytes_eq k j)) ≡ true) ks
 apart_both p k [] h d = tt
-apart_both p k (j ∷ ks) h d = (both (p (string_bytes j)) (string_eq k j) h.0 d.0, apart_both p k ks h.1 d.1)
-  where
-    both : (a b : Bool) → a ≡ true → b ≡ false → (a && not b) ≡ true
-    both true true e f = absurd (true≢false f)
-    both true false e f = refl
-    both false b e f = e
+apart_both p k (j ∷ ks) h d = grind (arith, apart_both p k ks h.1 d.1)
 
 -- keys that are distinct give breaks of distinct IDs
-pub fits_from : (p : List ℕ → Bool) (es : Pairs) → AllByRecursion (λ (j : String Global). p (string_bytes j) ≡ true) (keys_of es) → IsDistinct string_eq (keys_of es) → Fits p (map break_at es)
+pub fits_from : (p : List ℕ → Bool) (es : Pairs) → AllByRecursion (λ (j : List ℕ). p j ≡ true) (keys_of es) → IsDistinct bytes_eq (keys_of es) → Fits p (map break_at es)
 unfolding Fits IsDistinct
 fits_from p [] h d = tt
-fits_from p (e ∷ es) h d = (h.0, fits_from (λ id. p id && not (bytes_eq (string_bytes e.0) id)) es (apart_both p e.0 (keys_of es) h.1 d.0) d.1)
+fits_from p (e ∷ es) h d = (h.0, fits_from (λ id. p id && not (bytes_eq e.0 id)) es (apart_both p e.0 (keys_of es) h.1 d.0) d.1)
 
-all_true : (ks : List (String Global)) → AllByRecursion (λ (j : String Global). true ≡ true) ks
+all_true : (ks : List (List ℕ)) → AllByRecursion (λ (j : List ℕ). true ≡ true) ks
 all_true [] = tt
 all_true (k ∷ ks) = (refl, all_true ks)
 
-pub fits_kept : (es : Pairs) → IsDistinct string_eq (keys_of es) → Fits (λ id. true) (map break_at es)
+pub fits_kept : (es : Pairs) → IsDistinct bytes_eq (keys_of es) → Fits (λ id. true) (map break_at es)
 fits_kept es d = fits_from (λ id. true) es (all_true (keys_of es)) d
 
 -- the breaks that stand, with the tags added, are those that are carried on
 pub carried_on : (r : Accepted) (breaks new : List Break) (tags : List DateRange) (es kept : Pairs) → map break_at es ≡ breaks → tags ≡ r.playlist.date_ranges
-    → map break_at kept ≡ filter (break_stands tags r.carried) (map break_at es) → IsDistinct string_eq (keys_of kept)
+    → map break_at kept ≡ filter (break_stands tags r.carried) (map break_at es) → IsDistinct bytes_eq (keys_of kept)
     → new ≡ fold with_tag (map break_at kept) tags → new ≡ carry r breaks
-carried_on r breaks new tags es kept view_is tags_are stands distinct new_is =
-    let kept_are = stands ∙ ap (λ ts. filter (break_stands ts r.carried) (map break_at es)) tags_are ∙ ap (filter (break_stands r.playlist.date_ranges r.carried)) view_is in
-    new_is ∙ ap (fold with_tag (map break_at kept)) tags_are ∙ ap (λ bs. fold with_tag bs r.playlist.date_ranges) kept_are
-    ∙ walked_is_carried r breaks (subst (Fits (λ id. true)) kept_are (fits_kept kept distinct))
+carried_on r breaks new tags es kept view_is tags_are stands distinct new_is = grind (arith, walked_is_carried, Fits, fits_kept)

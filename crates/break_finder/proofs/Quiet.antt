@@ -1,5 +1,5 @@
 -- If no break is entered in a span, no segment in it enters one.
-use Rattle.std.proofs.Common.{◌≡◌, ℕ, ℤ, true, List, sym, refl, ap, ◌∙◌, Some, None}
+use Rattle.std.proofs.Common.{◌≡◌, ℕ, ℤ, true, List, sym, ap, ◌∙◌, Some, None, arith}
 use Rattle.std.specs.Prelude.{Option, is_none}
 use Rattle.pod_store.specs.Store.{Store}
 use Rattle.break_finder.specs.Breaks.{Break}
@@ -7,13 +7,9 @@ use Rattle.break_finder.specs.Entering.{EntryLimits, entered}
 use Rattle.break_finder.specs.Entrances.{Entrance, TimeSpan, Tells, but, entrances_in, is_in, is_within, taken}
 use Rattle.break_finder.proofs.FirstEntered.{first_entered}
 
-none_but : (first second last : Option (List ℕ)) → is_none first ≡ true → but first second last ≡ None
-none_but None second last closed = refl
-none_but (Some id) second last closed = absurd (cc)
-
 pub none_taken : (tolerance : ℕ) (found : List Entrance) (span : TimeSpan) (instant : ℤ) (last : Option (List ℕ)) → Tells tolerance found span → is_in span instant ≡ true → is_none span.first ≡ true
     → taken tolerance last instant found ≡ None
-none_taken tolerance found span instant last tells inside closed = tells instant last inside ∙ none_but span.first span.second last closed
+none_taken tolerance found span instant last tells inside closed = grind arith
 
 pub none_entered : (m : EntryLimits) (tolerance : ℕ) (found : List Entrance) (store : Store) (breaks : List Break) (instant : ℤ)
     → ((last : Option (List ℕ)) → taken tolerance last instant found ≡ None) → m.tolerance ≡ tolerance → found ≡ entrances_in m.target_duration m.with_init_sections store breaks

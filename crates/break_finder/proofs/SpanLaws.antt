@@ -1,6 +1,6 @@
 -- What a span of time tells of the breaks that are entered in it.
 use Rattle.std.proofs.Common.{◌≡◌, ℕ, Bool, true, false, cond, not, ◌&&◌, List, [], ◌∷◌, ◌++◌, refl, sym, ap, ◌∙◌, Some, None, arith}
-use Rattle.std.specs.Prelude.{Option, ℤ, ◌≤ℤ◌, ◌+ℤ◌, ◌-ℤ◌, pos, int_le, int_lt, find, option_map}
+use Rattle.std.specs.Prelude.{Option, ℤ, ◌≤ℤ◌, ◌+ℤ◌, ◌-ℤ◌, pos, int_le, int_lt, option_map}
 use Rattle.std.specs.Option.{option_or}
 use Rattle.std.proofs.lemmas.Bool.{and_parts, and_from}
 use Rattle.std.proofs.lemmas.Bool.Decides.{nat_tests}
@@ -10,9 +10,9 @@ use Rattle.std.specs.List.{All}
 use Rattle.std.proofs.lemmas.List.Elements.{All-same, All-head, All-cons, All-nil}
 use Rattle.std.proofs.lemmas.List.Folds.{find-append}
 use Rattle.std.proofs.lemmas.Slice.Eq.{bytes_eq-Decides}
-use Rattle.break_finder.specs.Breaks.{is_near, is_not_past}
+use Rattle.break_finder.specs.Breaks.{is_near}
 use Rattle.break_finder.specs.Known.{is_this}
-use Rattle.break_finder.specs.Entrances.{Entrance, TimeSpan, entrance_id, is_entered, taken, is_within, is_in, but, Tells}
+use Rattle.break_finder.specs.Entrances.{Entrance, TimeSpan, entrance_id, taken, is_within, is_in, but, Tells}
 use Rattle.break_finder.specs.Inner.Entrances.{is_enterable, second_of}
 
 -- ---- one break
@@ -25,21 +25,15 @@ one_step e false early last = refl
 
 -- if it can be entered, it is, if it isn't the last one entered
 one_taken : (tolerance : ℕ) (last : Option (List ℕ)) (instant : ℤ) (e : Entrance) → taken tolerance last instant (e ∷ []) ≡ cond (is_enterable tolerance instant e) (but (Some e.id) None last) None
-one_taken tolerance last instant e = one_step e (is_near instant tolerance (Some e.start)) (is_not_past instant tolerance e.end) (is_this e.id last)
+one_taken tolerance last instant e = grind arith
 
 pub open_tells : (tolerance : ℕ) (e : Entrance) (span : TimeSpan) → span.first ≡ Some e.id → span.second ≡ None
     → ((instant : ℤ) → is_in span instant ≡ true → is_enterable tolerance instant e ≡ true) → Tells tolerance (e ∷ []) span
-open_tells tolerance e span first second can instant last inside =
-    one_taken tolerance last instant e
-    ∙ ap (λ b. cond b (but (Some e.id) None last) None) (can instant inside)
-    ∙ sym (ap (λ x. but x span.second last) first ∙ ap (λ x. but (Some e.id) x last) second)
+open_tells tolerance e span first second can instant last inside = grind arith
 
 pub closed_tells : (tolerance : ℕ) (e : Entrance) (span : TimeSpan) → span.first ≡ None
     → ((instant : ℤ) → is_in span instant ≡ true → is_enterable tolerance instant e ≡ false) → Tells tolerance (e ∷ []) span
-closed_tells tolerance e span first cannot instant last inside =
-    one_taken tolerance last instant e
-    ∙ ap (λ b. cond b (but (Some e.id) None last) None) (cannot instant inside)
-    ∙ sym (ap (λ x. but x span.second last) first)
+closed_tells tolerance e span first cannot instant last inside = grind arith
 
 -- ---- more breaks
 
@@ -49,23 +43,18 @@ taken_step (Some e) y = refl
 
 taken_append : (tolerance : ℕ) (last : Option (List ℕ)) (instant : ℤ) (before after : List Entrance)
     → taken tolerance last instant (before ++ after) ≡ option_or (taken tolerance last instant before) (taken tolerance last instant after)
-taken_append tolerance last instant before after =
-    let p = is_entered tolerance last instant in
-    ap (option_map entrance_id) (find-append p before after) ∙ taken_step (find p before) (find p after)
+taken_append tolerance last instant before after = grind (arith, find-append, taken_step)
 
 this_last : (id : List ℕ) (last : Option (List ℕ)) → is_this id last ≡ true → last ≡ Some id
-this_last id None same = absurd (cc)
-this_last id (Some other) same = ap (λ (x : List ℕ). Some x) (sym ((bytes_eq-Decides id other).0 same))
+this_last id last same = grind (arith, bytes_eq-Decides)
 
 chosen_step : (id : List ℕ) (second first' second' last : Option (List ℕ)) (b : Bool) → is_this id last ≡ b
     → option_or (cond b second (Some id)) (but first' second' last) ≡ cond b (option_or second (but first' second' (Some id))) (Some id)
-chosen_step id second first' second' last true same = ap (λ x. option_or second (but first' second' x)) (this_last id last same)
-chosen_step id second first' second' last false other = refl
+chosen_step id second first' second' last b same = grind (arith, this_last)
 
 chosen : (first second first' second' last : Option (List ℕ))
     → option_or (but first second last) (but first' second' last) ≡ but (option_or first first') (second_of first second first' second') last
-chosen None second first' second' last = refl
-chosen (Some id) second first' second' last = chosen_step id second first' second' last (is_this id last) refl
+chosen first second first' second' last = grind (arith, chosen_step)
 
 within_more : (from to from' to' instant : ℤ) → from ≤ℤ from' → to' ≤ℤ to → is_within from' to' instant ≡ true → is_within from to instant ≡ true
 within_more from to from' to' instant low high inside = grind (arith, ints, nat_tests)

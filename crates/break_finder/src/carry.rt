@@ -1,5 +1,5 @@
 //! What a refresh adds to what is known.
-ghost use Rattle.std.specs.Prelude.{◌≡◌, ◌||◌, true, ℕ, List, map, filter, fold, IfOk, OnOk, string_bytes, string_eq};
+ghost use Rattle.std.specs.Prelude.{◌≡◌, ◌||◌, true, ℕ, List, map, filter, fold, IfOk, OnOk, bytes_eq};
 ghost use Rattle.std.specs.List.{list_any};
 ghost use Rattle.std.specs.Option.{option_copied};
 ghost use Rattle.indexmap.specs.IndexMap.{IsUnique};
@@ -10,6 +10,7 @@ ghost use Rattle.break_finder.specs.Inner.Kept.{kept_for, said_or_nothing, stand
 ghost use Rattle.break_finder.specs.Known.{is_tag_of, is_this};
 ghost use Rattle.break_finder.specs.Inner.Known.{break_stands, with_tag, AreSaid};
 
+use crate::break_id::BreakId;
 use crate::described::{Described, and_tag, nothing_said, says_nothing_new};
 use crate::kept::{Breaks, kept_for};
 use indexmap::IndexMap;
@@ -64,12 +65,12 @@ fn stands_with(ids: &IdSet<'_>, carried: Option<&str>, id: &str) -> bool
 fn keep_standing(kept: &mut Breaks, ids: &IdSet<'_>, carried: Option<&str>)
     ensures standing { kept.new.entries
         ≡ filter (is_kept_with ids.now (option_copied carried.entry)) kept.old.entries }
-    ensures unique { IsUnique string_eq kept.new }
+    ensures unique { IsUnique bytes_eq kept.new }
 {
     kept.retain(
-        |id: &String, said: &mut Described| -> bool
+        |id: &BreakId, said: &mut Described| -> bool
             ensures { (result
-                ≡ stands_with ids.entry.now (option_copied carried.entry) (string_bytes id.now))
+                ≡ stands_with ids.entry.now (option_copied carried.entry) id.now)
                 × (said.new ≡ said.old) }
         { stands_with(ids, carried, id.as_str()) },
     );
@@ -92,7 +93,7 @@ fn add_tag(alloc: Global, breaks: &mut Breaks, tag: &DateRange) -> Result<(), Al
 {
     let id = tag.id.as_str();
     let said = and_tag(alloc, said_so_far(breaks, id), tag)?;
-    let key = String::from_str(alloc, id)?;
+    let key = BreakId::new(&tag.id)?;
     breaks.insert(key, said)?;
     Ok(())
 }
@@ -130,7 +131,7 @@ fn is_said(id: &str, said: &Described, tag: &DateRange) -> bool
 /// already. So it mostly is from refresh to refresh. Takes no memory.
 pub fn are_said(breaks: &Breaks, date_ranges: &[Shared<DateRange>]) -> bool
     ensures said { result ≡ true → AreSaid (map break_at breaks.now.entries) date_ranges.now }
-    ensures unique { IsUnique string_eq breaks.now }
+    ensures unique { IsUnique bytes_eq breaks.now }
 {
     if breaks.len() != date_ranges.len() {
         return false;
@@ -159,7 +160,7 @@ pub fn standing(
     ensures standing { IfOk result
         (λ kept. map break_at kept.entries
         ≡ filter (break_stands date_ranges.now (option_copied carried.entry)) (map break_at breaks.now.entries)) }
-    ensures unique { IfOk result (IsUnique string_eq) }
+    ensures unique { IfOk result (IsUnique bytes_eq) }
 {
     // Before the first refresh nothing is known, and the IDs of what comes needn't be listed.
     if breaks.is_empty() {

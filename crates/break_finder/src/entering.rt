@@ -12,7 +12,7 @@ use crate::entrance::{Candidates, Entrance, entrance_of, first_candidate, first_
 use crate::kept::Breaks;
 use crate::spans::{TimeSpan, TimesWithin, place_of, span_at, spans_of};
 use fixed_duration::Nanos;
-use playlist_model::Instant;
+use playlist_model::{Instant, Shared, Text};
 use pod_store::PodStore;
 use std::alloc::{AllocError, Global};
 use std::marker::Model;
@@ -77,7 +77,13 @@ fn listed<'a>(
 {
     let mut list = Vec::new(alloc);
     for (id, said) in breaks {
-        if let Some(entrance) = entrance_of(target, with_init_sections, store, id.as_str(), said) {
+        if let Some(entrance) = entrance_of(
+            target,
+            with_init_sections,
+            store,
+            id.as_shared(),
+            said,
+        ) {
             list.push(entrance)?;
         }
     }
@@ -136,7 +142,7 @@ pub fn entrances_of<'a>(
 
 impl<'a> Entrances<'a> {
     // The same, without the spans.
-    fn first_found(&self, instant: Instant, last: Option<&str>) -> Option<&'a str>
+    fn first_found(&self, instant: Instant, last: Option<&str>) -> Option<&'a Shared<Text>>
         ensures { option_map (λ id. id.now) result
             ≡ taken self.now.tolerance (option_copied last.entry) instant self.now.found }
     {
@@ -148,7 +154,7 @@ impl<'a> Entrances<'a> {
 
     // The ID of the first of them that is entered.
     #[inline(always)]
-    fn first(&mut self, instant: Instant, last: Option<&str>) -> Option<&'a str>
+    fn first(&mut self, instant: Instant, last: Option<&str>) -> Option<&'a Shared<Text>>
         ensures taken { option_copied result
             ≡ taken self.old.tolerance (option_copied last.entry) instant self.old.found }
         ensures kept { self.new ≡ self.old }
@@ -209,7 +215,11 @@ impl<'a> Entrances<'a> {
     /// The ID of the first known break, in the order of the IDs, that a segment which begins at `instant` enters. The
     /// instant differs from the break's start by at most the tolerance, and is more than the tolerance before its
     /// end; and the break isn't `last`, the one that was entered last. Takes no memory.
-    pub fn entered(&mut self, instant: Option<Instant>, last: Option<&str>) -> Option<&'a str>
+    pub fn entered(
+        &mut self,
+        instant: Option<Instant>,
+        last: Option<&str>,
+    ) -> Option<&'a Shared<Text>>
         ensures entered { (target : ℕ) → (with_init_sections : Bool) → (store : Store) → (breaks : List Break)
             → self.old.found ≡ entrances_in target with_init_sections store breaks
             → option_map (λ id. id.now) result

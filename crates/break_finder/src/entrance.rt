@@ -11,7 +11,7 @@ use crate::described::{Described, is_leaving};
 use crate::end::{End, end_of, is_near, is_not_past};
 use crate::kept::Breaks;
 use fixed_duration::Nanos;
-use playlist_model::Instant;
+use playlist_model::{Instant, Shared, Text};
 use pod_store::PodStore;
 use std::marker::Model;
 
@@ -19,7 +19,7 @@ use std::marker::Model;
 #[derive(Drop)]
 pub struct Entrance<'a> {
     /// Its ID.
-    pub id: &'a str,
+    pub id: &'a Shared<Text>,
     /// START-DATE.
     pub start: Instant,
     /// Where it ends, by what is said of it or by its pod.
@@ -56,7 +56,7 @@ fn is_entered(
 {
     is_near(instant, tolerance, Some(entrance.start))
         && is_not_past(instant, tolerance, entrance.end)
-        && !is_last(last, entrance.id)
+        && !is_last(last, entrance.id.as_str())
 }
 
 /// How the break `id`, of which this is `said`, can be entered. `None` if it has no start, isn't signalled, has no
@@ -66,7 +66,7 @@ pub fn entrance_of<'a>(
     target: u64,
     with_init_sections: bool,
     store: &PodStore,
-    id: &'a str,
+    id: &'a Shared<Text>,
     said: &Described,
 ) -> Option<Entrance<'a>>
     ensures { result
@@ -76,7 +76,7 @@ pub fn entrance_of<'a>(
     if !is_leaving(said.scte35_out) {
         return None;
     }
-    let pod = store.pod_for(id)?;
+    let pod = store.pod_for(id.as_str())?;
     if !pod.fits(target, with_init_sections) {
         return None;
     }
@@ -91,7 +91,7 @@ pub fn first_entered<'a>(
     tolerance: Nanos,
     last: Option<&str>,
     instant: Instant,
-) -> Option<&'a str>
+) -> Option<&'a Shared<Text>>
     ensures { option_map
         (λ id. id.now) result ≡ taken tolerance (option_copied last.entry) instant list.now }
 {
@@ -125,7 +125,7 @@ fn is_candidate_entered(
     tolerance: Nanos,
     last: Option<&str>,
     instant: Instant,
-    id: &str,
+    id: &Shared<Text>,
     said: &Described,
 ) -> bool
     ensures { result ≡ is_entered_if tolerance (option_copied last.entry) instant
@@ -154,7 +154,7 @@ pub fn first_candidate<'a>(
     tolerance: Nanos,
     last: Option<&str>,
     instant: Instant,
-) -> Option<&'a str>
+) -> Option<&'a Shared<Text>>
     ensures { option_map (λ id. id.now) result
         ≡ taken tolerance (option_copied last.entry) instant
         (entrances_in candidates.now.target candidates.now.with_init_sections candidates.now.store.now
@@ -162,8 +162,8 @@ pub fn first_candidate<'a>(
 {
     let breaks = candidates.breaks;
     for (id, said) in breaks {
-        if is_candidate_entered(candidates, tolerance, last, instant, id.as_str(), said) {
-            return Some(id.as_str());
+        if is_candidate_entered(candidates, tolerance, last, instant, id.as_shared(), said) {
+            return Some(id.as_shared());
         }
     }
     None

@@ -2,6 +2,7 @@
 //! which of them a segment enters.
 #![tactic(auto)]
 
+mod break_id;
 mod carry;
 mod described;
 mod end;

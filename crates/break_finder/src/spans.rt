@@ -10,7 +10,7 @@ ghost use Rattle.break_finder.specs.Inner.Entrances.{is_enterable, second_of};
 use crate::end::End;
 use crate::entrance::{Entrance, is_last};
 use fixed_duration::Nanos;
-use playlist_model::Instant;
+use playlist_model::{Instant, Shared, Text};
 use std::alloc::{AllocError, Global};
 use std::marker::Model;
 
@@ -23,8 +23,8 @@ const HALVINGS: usize = 64;
 pub struct TimeSpan<'a> {
     from: i128,
     to: i128,
-    first: Option<&'a str>,
-    second: Option<&'a str>,
+    first: Option<&'a Shared<Text>>,
+    second: Option<&'a Shared<Text>>,
 }
 
 impl<'a> Model for TimeSpan<'a> {
@@ -55,14 +55,18 @@ impl TimesWithin {
 }
 
 // The first, or if it is the last one entered the second.
-fn but<'a>(first: Option<&'a str>, second: Option<&'a str>, last: Option<&str>) -> Option<&'a str>
+fn but<'a>(
+    first: Option<&'a Shared<Text>>,
+    second: Option<&'a Shared<Text>>,
+    last: Option<&str>,
+) -> Option<&'a Shared<Text>>
     ensures { option_copied result
         ≡ but (option_copied first.entry) (option_copied second.entry) (option_copied last.entry) }
 {
     let Some(id) = first else {
         return None;
     };
-    if is_last(last, id) {
+    if is_last(last, id.as_str()) {
         return second;
     }
     first
@@ -70,21 +74,21 @@ fn but<'a>(first: Option<&'a str>, second: Option<&'a str>, last: Option<&str>) 
 
 // Of two pairs of breaks, each the first and the first other, the first other of all.
 fn second_of<'a>(
-    our_first: Option<&'a str>,
-    our_second: Option<&'a str>,
-    their_first: Option<&'a str>,
-    their_second: Option<&'a str>,
-) -> Option<&'a str>
+    our_first: Option<&'a Shared<Text>>,
+    our_second: Option<&'a Shared<Text>>,
+    their_first: Option<&'a Shared<Text>>,
+    their_second: Option<&'a Shared<Text>>,
+) -> Option<&'a Shared<Text>>
     ensures { option_copied result
         ≡ second_of (option_copied our_first.entry) (option_copied our_second.entry) (option_copied their_first.entry) (option_copied their_second.entry) }
 {
-    if our_first.is_none() {
+    let Some(first) = our_first else {
         return their_second;
-    }
+    };
     if our_second.is_some() {
         return our_second;
     }
-    but(their_first, their_second, our_first)
+    but(their_first, their_second, Some(first.as_str()))
 }
 
 impl<'a> TimeSpan<'a> {
@@ -113,7 +117,7 @@ impl<'a> TimeSpan<'a> {
     }
 
     /// The ID of the break that a segment in this span enters, if the break `last` was entered last.
-    pub fn entered(&self, last: Option<&str>) -> Option<&'a str>
+    pub fn entered(&self, last: Option<&str>) -> Option<&'a Shared<Text>>
         ensures { option_copied result
             ≡ but self.now.first self.now.second (option_copied last.entry) }
     {

@@ -1,6 +1,6 @@
 -- The lines of the known breaks.
-use Rattle.std.proofs.Common.{◌≡◌, ℕ, ◌+◌, ◌<◌, ◌≤◌, List, [], ◌∷◌, ◌++◌, length, map, take, refl, sym, ap, ◌∙◌, arith, true≢false, suc, append-nil, inl, inr}
-use Rattle.std.specs.Prelude.{Option, Some, None, option_map, is_some, slice_get, unwrap_or, ◌⊎◌, get_or}
+use Rattle.std.proofs.Common.{◌≡◌, ℕ, ◌+◌, ◌<◌, List, [], ◌∷◌, ◌++◌, length, map, take, refl, sym, ap, ◌∙◌, arith, true≢false, suc, append-nil, inl, inr}
+use Rattle.std.specs.Prelude.{Option, Some, None, option_map, is_some, slice_get, unwrap_or}
 use Rattle.std.specs.List.{flat_map}
 use Rattle.std.proofs.lemmas.Option.{slice_get_within, get_or_from_slice_get, slice_get_cases}
 use Rattle.std.proofs.lemmas.Grind.{flat_map-append}
@@ -33,8 +33,4 @@ one_more f breaks n id h = with_break f breaks n id (slice_get breaks n) refl h
 
 -- at a place with no break there are no more
 pub no_more : (breaks : List Break) (n : ℕ) → None ≡ option_map id_of (slice_get breaks n) → take n breaks ≡ breaks
-no_more breaks n h = by (slice_get_cases breaks n).1
-  where
-    by : ((x : Break) × (n < length breaks) × (slice_get breaks n ≡ Some x) × (get_or breaks n x ≡ x)) ⊎ ((length breaks ≤ n) × (slice_get breaks n ≡ None)) → take n breaks ≡ breaks
-    by (inl y) = absurd (true≢false (sym (ap is_some (h ∙ ap (option_map id_of) y.2))))
-    by (inr y) = take_all n breaks y.0
+no_more breaks n h = grind (arith, slice_get_cases, inl, true≢false, inr, take_all)

@@ -1,7 +1,7 @@
 -- The router finds each path of a channel's name: at each byte of the front one row goes on, the parameter takes the name, and what
 -- follows is one of the texts of the routes.
 use Rattle.std.proofs.Common.{◌≡◌, ℕ, zero, suc, ◌+◌, ◌-◌, ◌<◌, List, [], ◌∷◌, ◌++◌, length, take, drop, Bool, true, false, not, cond, ◌&&◌, ◌==◌, refl, sym, ap, ◌∙◌, arith, true≢false, nat_eq, one-add}
-use Rattle.std.specs.Prelude.{Option, Some, None, codes, ltb, option_and_then, if◌then◌else◌}
+use Rattle.std.specs.Prelude.{Some, None, codes, ltb}
 use Rattle.std.specs.List.{list_all, before_first, position_or_len}
 use Rattle.std.specs.Cmp.Lexicographic.{pointwise}
 use Rattle.std.proofs.lemmas.Bool.{ne_eqb, lt-ltb}
@@ -13,17 +13,13 @@ use Rattle.matchit.specs.Router.{RouteOf}
 use Rattle.matchit.specs.Seek.{seek, param_step, step, segment, has_slash, cuts}
 use Rattle.channel_api.specs.declared.routes.Resource.{Resource}
 use Rattle.channel_api.specs.declared.routes.Resource.TheVariants.{Channel, Origin, Decisions, Live, Why}
-use Rattle.channel_api.specs.Routes.{is_name_byte, is_channel_name, front, row, found_at, name_in, named, route_of, path_to}
+use Rattle.channel_api.specs.Routes.{is_name_byte, is_channel_name, front, row, found_at, name_in, route_of, path_to}
 
 -- ---- a walk over rows
 
 param_step_empty : {K : Type 0} (p : List ℕ) → (param_step {K = K} [] p).1 ≡ []
 unfolding param_step
-param_step_empty {K = K} p =
-    elim (has_slash p) as (λ v. (cond {A = ℕ × RowsOf K} v (0, []) (length p, [])).1 ≡ []) [
-      | true ↦ refl
-      | false ↦ refl
-    ]
+param_step_empty {K = K} p = grind arith
 
 -- without rows nothing is found
 seek_empty : {K : Type 0} (k : ℕ) (p : List ℕ) → seek {K = K} k [] p ≡ None
@@ -170,8 +166,7 @@ before_end (b ∷ name) h =
     ∙ ap (λ x. b ∷ x) (before_end name (of_others b name h))
 
 with_name : (name p : List ℕ) (r : RouteOf Resource) → is_channel_name name ≡ true → name_in p ≡ name → found_at p ≡ Some r → route_of p ≡ Some (name, r.value)
-with_name name p r h n e =
-    ap (option_and_then (named p)) e ∙ ap (λ m. if is_channel_name m then Some (m, r.value) else None) n ∙ ap (λ v. if v then Some (name, r.value) else None) h
+with_name name p r h n e = grind arith
 
 behind : (b : ℕ) (name t : List ℕ) (r : RouteOf Resource) → is_channel_name (b ∷ name) ≡ true → AreNameBytes (b ∷ name) → seek 0 after_slash (47 ∷ t) ≡ Some r
     → route_of (front ++ ((b ∷ name) ++ 47 ∷ t)) ≡ Some (b ∷ name, r.value)
@@ -191,8 +186,4 @@ each (b ∷ name) Why h = behind b name (codes "why") _ h ((both _ _ h).1) refl
 
 -- and what has no name has none
 pub other : (path : List ℕ) → is_channel_name (name_in path) ≡ false → route_of path ≡ None
-other path h = by (found_at path)
-  where
-    by : (found : Option (RouteOf Resource)) → option_and_then (named path) found ≡ None
-    by None = refl
-    by (Some r) = ap (λ v. if v then Some (name_in path, r.value) else None) h
+other path h = grind arith

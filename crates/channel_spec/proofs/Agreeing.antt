@@ -1,10 +1,10 @@
 -- What a refresh comes to follows from what is kept.
-use Rattle.std.proofs.Common.{◌≡◌, ℕ, cond, List, ◌∷◌, refl, ap, sym, ◌∙◌, subst}
+use Rattle.std.proofs.Common.{◌≡◌, ℕ, cond, List, ◌∷◌, refl, ap, sym, ◌∙◌, subst, arith}
 use Rattle.std.specs.Prelude.{Option, Some, None, is_none}
 use Rattle.playlist_model.specs.declared.Playlist.{Playlist}
 use Rattle.channel_spec.specs.declared.fault.RefreshFault.{RefreshFault}
 use Rattle.channel_spec.specs.Live.{Event, refreshed, Told, told, refusal, after_refresh, window_after}
-use Rattle.channel_spec.specs.Kept.{Kept, kept_of, kept_refusal, kept_after, kept_window}
+use Rattle.channel_spec.specs.Kept.{kept_of, kept_refusal, kept_after, kept_window}
 use Rattle.channel_spec.specs.KeptLaws.{Follows}
 use Rattle.channel_spec.specs.BreakLaws.{Agree, GoesAlike, WindowsFollow}
 use Rattle.channel_spec.proofs.KeptWhole.{kept_follows}
@@ -15,16 +15,7 @@ same_kept a b h = cc
 -- two that lead to the same, once a refresh is accepted
 agree_after : (tolerance : ℕ) (playlist : Playlist) (a b : Told) → kept_of (after_refresh tolerance a playlist) ≡ kept_of (after_refresh tolerance b playlist)
     → window_after (after_refresh tolerance a playlist) playlist ≡ window_after (after_refresh tolerance b playlist) playlist → Agree (after_refresh tolerance a playlist) (after_refresh tolerance b playlist)
-agree_after tolerance playlist a b k w = record {
-  store = ap (λ (x : Kept). x.store) k;
-  breaks = ap (λ (x : Kept). x.breaks) k;
-  playlist = refl;
-  shown = ap (λ (x : Kept). x.shown) k;
-  entered = ap (λ (x : Kept). x.entered) k;
-  window = w;
-  so_far = ap (λ (x : Kept). x.so_far) k;
-  rest = ap (λ (x : Kept). x.rest) k;
-}
+agree_after tolerance playlist a b k w = grind arith
 
 module _ (tolerance : ℕ) (playlist : Playlist) (one other : List Event) (f : Follows tolerance playlist one) (g : Follows tolerance playlist other) (h : Agree (told tolerance one) (told tolerance other)) where
   abbrev a : Told

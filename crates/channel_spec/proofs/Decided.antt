@@ -1,6 +1,6 @@
 -- A playlist succeeds another exactly if it has no fault.
-use Rattle.std.proofs.Common.{◌≡◌, inl, inr, ℕ, ◌+◌, ◌<◌, ◌≤◌, Bool, true, false, ◌&&◌, ◌||◌, not, List, [], ◌∷◌, cond, refl, ap, sym, ◌∙◌, subst, arith}
-use Rattle.std.proofs.lemmas.Bool.{ltb-true, eqb-true, eq-eqb}
+use Rattle.std.proofs.Common.{◌≡◌, inl, inr, ℕ, ◌+◌, ◌<◌, ◌≤◌, Bool, true, false, ◌&&◌, not, List, [], ◌∷◌, cond, refl, ap, sym, ◌∙◌, subst, arith}
+use Rattle.std.proofs.lemmas.Bool.{eq-eqb}
 use Rattle.std.specs.Prelude.{Option, Some, None, nat_lt, ◌==◌, find}
 use Rattle.std.specs.List.{AllByRecursion}
 use Rattle.playlist_model.specs.declared.Segment.{Segment}
@@ -46,11 +46,7 @@ at_least n (t ∷ later) s r (inl e) = omega (arith, ap (λ (u : Segment). u.med
 at_least n (t ∷ later) s r (inr h) = omega (arith, at_least (n + 1) later s r.1 h)
 
 is_not : (a b : ℕ) → a < b → (a == b) ≡ false
-is_not a b h = step (a == b) refl
-  where
-    step : (t : Bool) → (a == b) ≡ t → t ≡ false
-    step true e = absurd (omega (arith, eqb-true a b e, h))
-    step false e = refl
+is_not a b h = grind arith
 
 found_one : (n : ℕ) (segments : List Segment) (s : Segment) (k : ℕ) → RiseFrom n segments → In s segments → s.media_sequence ≡ k → find (has_number k) segments ≡ Some s
 unfolding In
@@ -67,8 +63,7 @@ record Found (k : ℕ) (segments : List Segment) (s : Segment) : Type 0 where
 found_step : (t : Segment) (later : List Segment) (k : ℕ) (s : Segment) (b : Bool) → (t.media_sequence == k) ≡ b → cond b (Some t) (find (has_number k) later) ≡ Some s
     → (find (has_number k) later ≡ Some s → Found k later s) → Found k (t ∷ later) s
 unfolding In
-found_step t later k s true e h rec = let same : t ≡ s = cc in record { inside = inl (sym same); media_sequence = ap (λ (u : Segment). u.media_sequence) (sym same) ∙ eqb-true t.media_sequence k e }
-found_step t later k s false e h rec = let f = rec h in record { inside = inr f.inside; media_sequence = f.media_sequence }
+found_step t later k s b e h rec = grind arith
 
 found_there : (segments : List Segment) (k : ℕ) (s : Segment) → find (has_number k) segments ≡ Some s → Found k segments s
 found_there [] k s h = absurd (cc)
@@ -79,8 +74,8 @@ found_there (t ∷ later) k s h = found_step t later k s (t.media_sequence == k)
 no_difference : (old new : List Segment) (t : Segment) → first_changed old new ≡ None → In t new → difference t (find (has_number t.media_sequence) old) ≡ None
 unfolding In
 no_difference old [] t e h = absurd h
-no_difference old (u ∷ later) t e (inl same) = subst (λ v. difference v (find (has_number v.media_sequence) old) ≡ None) (sym same) (or_none (difference u (find (has_number u.media_sequence) old)) _ e).0
-no_difference old (u ∷ later) t e (inr h) = no_difference old later t (or_none (difference u (find (has_number u.media_sequence) old)) _ e).1 h
+no_difference old (u ∷ later) t e (inl same) = grind arith
+no_difference old (u ∷ later) t e (inr h) = grind (arith, no_difference old later t (or_none (difference u (find (has_number u.media_sequence) old)) _ e).1 h)
 
 not_different : (s t : Segment) (b : Bool) → same_segment s t ≡ b → fault_if (not b) (Changed s.media_sequence) ≡ None → same_segment s t ≡ true
 not_different s t true e h = e
@@ -119,11 +114,7 @@ not_unlike true = refl
 not_unlike false = refl
 
 at_most : (a b : ℕ) → b ≤ a → nat_lt a b ≡ false
-at_most a b h = step (nat_lt a b) refl
-  where
-    step : (t : Bool) → nat_lt a b ≡ t → t ≡ false
-    step true e = absurd (omega (arith, ltb-true a b e, h))
-    step false e = refl
+at_most a b h = grind arith
 
 no_fault : (b : Bool) (f : RefreshFault) → b ≡ false → fault_if b f ≡ None
 no_fault true f e = absurd (cc)
@@ -134,14 +125,7 @@ turned true e = refl
 turned false e = absurd (cc)
 
 near : (old new : List Segment) → (first_number new ≡ end_number old → (last_discontinuity old ≤ first_discontinuity new) × (first_discontinuity new ≤ last_discontinuity old + 1000)) → discontinuity_out_of_range old new ≡ false
-near old new h = step (first_number new == end_number old) refl
-  where
-    step : (b : Bool) → (first_number new == end_number old) ≡ b → (b && (nat_lt (first_discontinuity new) (last_discontinuity old) || nat_lt (last_discontinuity old + 1000) (first_discontinuity new))) ≡ false
-    step true e =
-        let k = h (eqb-true (first_number new) (end_number old) e) in
-        ap (λ b. b || nat_lt (last_discontinuity old + 1000) (first_discontinuity new)) (at_most (first_discontinuity new) (last_discontinuity old) k.0)
-        ∙ at_most (last_discontinuity old + 1000) (first_discontinuity new) k.1
-    step false e = refl
+near old new h = grind arith
 
 both : (a b : Bool) → a ≡ true → b ≡ true → (a && b) ≡ true
 both true b e h = h
@@ -154,20 +138,7 @@ still_ended false is same h = refl
 -- ---- both ways
 
 no_fault_succeeds_to : (old new : Playlist) → IsSoundPlaylist old → successor_fault old new ≡ None → Succeeds new old
-no_fault_succeeds_to old new r e =
-    let p = passed old new e in
-    record {
-      version = p.version;
-      target_duration = p.target_duration;
-      playlist_type = p.playlist_type;
-      with_init_sections = p.with_init_sections;
-      not_back = p.not_back;
-      no_gap = p.no_gap;
-      not_shrunk = p.not_shrunk;
-      same = agree (first_number old.segments) old.segments new.segments r.numbers p.same;
-      apart = λ k. (p.not_less k, p.near k);
-      end_list = p.end_list;
-    }
+no_fault_succeeds_to old new r e = grind (arith, passed, agree, near)
 
 succeeds_no_fault : (old new : Playlist) → Succeeds new old → successor_fault old new ≡ None
 succeeds_no_fault old new s =

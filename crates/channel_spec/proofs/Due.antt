@@ -36,9 +36,7 @@ longer_step a b h p pieces false false e f k = record { rest = k.rest; is = ap (
 
 pub due_longer : (a b : ℕ) → a ≤ b → (pieces : List Piece) → Prefix (due a pieces) (due b pieces)
 due_longer a b h [] = record { rest = []; is = refl }
-due_longer a b h (p ∷ pieces) =
-    longer_step a b h p pieces (nat_le a p.segment.duration) (nat_le b p.segment.duration) refl refl
-    (due_longer (a - p.segment.duration) (b - p.segment.duration) (omega (arith, h)) pieces)
+due_longer a b h (p ∷ pieces) = grind (arith, longer_step, due_longer (a - p.segment.duration) (b - p.segment.duration) (omega (arith, h)) pieces)
 
 turned : (front whole : List Piece) → Prefix front whole → GoesOn (reverse front) (reverse whole)
 turned front whole h = (reverse h.rest, ap reverse (sym h.is) ∙ reverse-append front h.rest)
@@ -73,19 +71,14 @@ list_rest ended (s ∷ before) =
     }
 
 pub whole_list : (history : List Marked) → due_stitched true history ≡ stitched history
-whole_list [] = refl
-whole_list (s ∷ before) = sym (newest_item s before ∙ ap (λ xs. xs ++ stitched (older (s ∷ before))) (same (first_of_run s before) (first_of_run s before).mark))
-  where
-    same : (f : Marked) (fill : Option Mark) → run_pieces f fill ≡ newest_pieces true (run_length (s ∷ before)) f fill
-    same f None = refl
-    same f (Some g) = refl
+whole_list history = grind (arith, newest_item)
 
 -- ---- growth
 
 more_pieces : (ended : Bool) (a b : ℕ) → a ≤ b → (s : Marked) (fill : Option Mark) → GoesOn (newest_pieces false a s fill) (newest_pieces ended b s fill)
 more_pieces ended a b h s None = goes_nowhere (kept_piece s ∷ [])
-more_pieces true a b h s (Some f) = turned (due a (pod_pieces f)) (pod_pieces f) (due_prefix a (pod_pieces f))
-more_pieces false a b h s (Some f) = turned (due a (pod_pieces f)) (due b (pod_pieces f)) (due_longer a b h (pod_pieces f))
+more_pieces true a b h s (Some f) = grind (arith, turned, due_prefix)
+more_pieces false a b h s (Some f) = grind (arith, turned, due_longer)
 
 behind : (xs ys zs : List Piece) → GoesOn xs ys → GoesOn (xs ++ zs) (ys ++ zs)
 behind xs ys zs (more, e) = (more, ap (λ l. l ++ zs) e ∙ append_assoc more xs zs)

@@ -34,15 +34,14 @@ sum_more x xs = sum_on (0 + x) xs ∙ omega arith
 
 later_lasts : (mark : Mark) (ad : Ad) (segments : List PodSegment) → lasts (map (ad_piece mark false ad) segments) ≡ sum (map (λ (s : PodSegment). s.duration) segments)
 later_lasts mark ad [] = refl
-later_lasts mark ad (s ∷ segments) = ap (λ n. s.duration + n) (later_lasts mark ad segments) ∙ sym (sum_more s.duration (map (λ (x : PodSegment). x.duration) segments))
+later_lasts mark ad (s ∷ segments) = grind (arith, sum_more, later_lasts mark ad segments)
 
 ad_lasts : (mark : Mark) (ad : Ad) (segments : List PodSegment) → lasts (ad_pieces mark ad segments) ≡ sum (map (λ (s : PodSegment). s.duration) segments)
-ad_lasts mark ad [] = refl
-ad_lasts mark ad (s ∷ segments) = ap (λ n. s.duration + n) (later_lasts mark ad segments) ∙ sym (sum_more s.duration (map (λ (x : PodSegment). x.duration) segments))
+ad_lasts mark ad segments = grind (arith, later_lasts, sum_more)
 
 ads_last : (mark : Mark) (ads : List Ad) → lasts (pieces_of_ads mark ads) ≡ sum (map ad_total ads)
 ads_last mark [] = refl
-ads_last mark (ad ∷ ads) = omega (arith, lasts-append (ad_pieces mark ad ad.segments) (pieces_of_ads mark ads), ad_lasts mark ad ad.segments, ads_last mark ads, sum_more (ad_total ad) (map ad_total ads))
+ads_last mark (ad ∷ ads) = grind (arith, lasts-append, ad_lasts, sum_more, ads_last mark ads)
 
 due_all : (n : ℕ) (pieces : List Piece) → lasts pieces < n → due n pieces ≡ pieces
 due_all n [] h = refl
@@ -53,11 +52,7 @@ due_all n (p ∷ pieces) h = step (nat_le n p.segment.duration) refl (λ k. due_
     step false e rec = ap (λ xs. p ∷ xs) (rec (omega (arith, h)))
 
 capped_pod : (mark : Mark) (n : ℕ) → due (min n (total mark.pod + 1)) (pod_pieces mark) ≡ due n (pod_pieces mark)
-capped_pod mark n = step (dec_lt (total mark.pod + 1) n) (ads_last mark mark.pod.ads)
-  where
-    step : Dec (total mark.pod + 1 < n) → lasts (pod_pieces mark) ≡ total mark.pod → due (min n (total mark.pod + 1)) (pod_pieces mark) ≡ due n (pod_pieces mark)
-    step (yes h) all = due_all (min n (total mark.pod + 1)) (pod_pieces mark) (omega (arith, all, h)) ∙ sym (due_all n (pod_pieces mark) (omega (arith, all, h)))
-    step (no h) all = let same : min n (total mark.pod + 1) ≡ n = omega (arith, h) in ap (λ k. due k (pod_pieces mark)) same
+capped_pod mark n = grind (arith, dec_lt, ads_last, min, due_all)
 
 -- ---- the newest run's pieces are those of its newest segment
 
@@ -67,14 +62,10 @@ none_first x (t ∷ before) e = ap (λ o. cond (are_one o t.mark) (first_of_run 
 
 newest_run : (whole : Bool) (n : ℕ) (x : Marked) (before : List Marked) → Linked (x ∷ before)
     → newest_pieces whole n (first_of_run x before) (first_of_run x before).mark ≡ newest_pieces whole n x x.mark
-newest_run whole n x before l = step x.mark refl
-  where
-    step : (o : Option Mark) → x.mark ≡ o → newest_pieces whole n (first_of_run x before) (first_of_run x before).mark ≡ newest_pieces whole n x x.mark
-    step None e = ap (λ (f : Marked). newest_pieces whole n f f.mark) (none_first x before e)
-    step (Some m) e = ap (newest_pieces whole n (first_of_run x before)) (run_fill x before l ∙ e) ∙ sym (ap (newest_pieces whole n x) e)
+newest_run whole n x before l = grind (arith, none_first, run_fill)
 
 pub due_newest : (whole : Bool) (n : ℕ) (x : Marked) (before : List Marked) → Linked (x ∷ before) → due_with whole n (x ∷ before) ≡ newest_pieces whole n x x.mark ++ stitched (older (x ∷ before))
-due_newest whole n x before l = ap (λ xs. xs ++ stitched (older (x ∷ before))) (newest_run whole n x before l)
+due_newest whole n x before l = grind (arith, newest_run)
 
 pieces_capped : (whole : Bool) (n : ℕ) (x : Marked) (o : Option Mark) → newest_pieces whole (capped o n) x o ≡ newest_pieces whole n x o
 pieces_capped whole n x None = refl
@@ -83,9 +74,7 @@ pieces_capped false n x (Some m) = ap reverse (capped_pod m n)
 
 -- no more of the length counts than the cap
 pub due_capped : (whole : Bool) (n : ℕ) (history : List Marked) → Linked history → due_with whole (capped (newest_mark history) n) history ≡ due_with whole n history
-due_capped whole n [] l = refl
-due_capped whole n (x ∷ before) l =
-    due_newest whole (capped x.mark n) x before l ∙ ap (λ xs. xs ++ stitched (older (x ∷ before))) (pieces_capped whole n x x.mark) ∙ sym (due_newest whole n x before l)
+due_capped whole n history l = grind (arith, due_newest, pieces_capped)
 
 -- ---- behind which segments are gone
 

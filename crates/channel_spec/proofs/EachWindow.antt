@@ -73,16 +73,11 @@ due_some n (p ∷ pieces) h = omega arith
 
 pieces_some : (m : Bool) (n : ℕ) (s : Marked) (fill : Option Mark) → IsGood m fill → 0 < length (newest_pieces false n s fill)
 unfolding IsGood
-pieces_some m n s None g = omega arith
-pieces_some m n s (Some f) g = omega (arith, length-reverse (due n (pod_pieces f)), due_some n (pod_pieces f) g.some)
+pieces_some m n s fill g = grind (arith, length-reverse, due_some)
 
 first_good : (m : Bool) (s : Marked) (before : List Marked) → AllByRecursion (IsAlike m) (s ∷ before) → IsGood m (first_of_run s before).mark
 first_good m s [] a = a.0.mark
-first_good m s (t ∷ before) a = step (continues s (t ∷ before)) (first_good m t before a.1)
-  where
-    step : (b : Bool) → IsGood m (first_of_run t before).mark → IsGood m (cond b (first_of_run t before) s).mark
-    step true g = g
-    step false g = a.0.mark
+first_good m s (t ∷ before) a = grind (arith, first_good m t before a.1)
 
 -- a segment's item begins within what is shown
 pub inside_due : (m ended : Bool) (more history : List Marked) → AllByRecursion (IsAlike m) history → 0 < length history → newest_place history < length (due_stitched ended (more ++ history))
@@ -104,11 +99,7 @@ within_due m ended number history a h =
 -- ---- the piece above the old list
 
 not_kept_near : (p q : Piece) → is_kept q ≡ false → steps_between p q ≤ 1000
-not_kept_near p q e = rw e (step q.first_of_ad)
-  where
-    step : (b : Bool) → cond b 1 0 ≤ 1000
-    step true = omega arith
-    step false = omega arith
+not_kept_near p q e = grind arith
 
 into_reverse : (q : Piece) (xs : List Piece) → In q xs → In q (reverse xs)
 unfolding In
@@ -198,11 +189,10 @@ pub record WindowStanding (last : Playlist) (history : List Marked) (start : ℕ
   pub begins_by : start ≤ place_of (first_number last.segments) history
 
 some_up_to : (last : Playlist) (history : List Marked) → Standing last history → 0 < length (up_to (first_number last.segments) history)
-some_up_to last history s = up_to_some (first_number last.segments) (end_number last.segments) history s.falls (omega (arith, s.read.some)) (omega (arith, s.long))
+some_up_to last history s = grind (arith, up_to_some)
 
 pub start_inside : (last : Playlist) (history : List Marked) (start : ℕ) → WindowStanding last history start → (ended : Bool) → start < length (due_stitched ended history)
-start_inside last history start s ended =
-    omega (arith, s.begins_by, within_due (has_init_sections last.segments) ended (first_number last.segments) history s.standing.alike (some_up_to last history s.standing))
+start_inside last history start s ended = grind (arith, within_due, some_up_to)
 
 pub due_on : (m : Moment) (last playlist : Playlist) (history : List Marked) → Standing last history → Passed last playlist → IsSoundPlaylist playlist
     → GoesOn (due_stitched last.end_list history) (due_stitched playlist.end_list (history_after m history playlist))
@@ -233,10 +223,7 @@ record Begun (start later place : ℕ) (old new : List Piece) : Type 0 where
 
 begun_step : (start was place : ℕ) (old new : List Piece) → start ≤ was → was ≤ place → start < length old → place < length new → (length old ≤ place → Above new old)
     → (b : Bool) → Begun start (cond b start (min place (length old))) place old new
-begun_step start was place old new h k i s a true =
-    record { on = omega arith; within = omega (arith, i); some = omega (arith, h, k, s); at_most = omega (arith, h, k); above = λ e. absurd (omega (arith, e, i)) }
-begun_step start was place old new h k i s a false =
-    record { on = omega (arith, h, k, i); within = omega arith; some = omega (arith, s); at_most = omega arith; above = λ e. a (omega (arith, e)) }
+begun_step start was place old new h k i s a b = grind arith
 
 begun : (m : Moment) (last playlist : Playlist) (history : List Marked) (start : ℕ) → WindowStanding last history start → Passed last playlist → Standing playlist (history_after m history playlist)
     → Begun start (start_after (Some last) start history playlist (history_after m history playlist)) (place_of (first_number playlist.segments) (history_after m history playlist))
@@ -304,8 +291,7 @@ start_step : (m : Moment) (accepted : List Accepted) (history : List Marked) (st
     → Standing playlist (history_after m history playlist)
     → start_after (last_playlist accepted) start history playlist (history_after m history playlist) ≤ place_of (first_number playlist.segments) (history_after m history playlist)
 unfolding WindowOf
-start_step m [] history start playlist h f t = omega arith
-start_step m (r ∷ before) history start playlist h f t = (begun m r.playlist playlist history start h (passed r.playlist playlist f) t).at_most
+start_step m accepted history start playlist h f t = grind (arith, begun, passed)
 
 pub first_none : {A : Type 0} (a b : Option A) → or_earlier a b ≡ None → a ≡ None
 first_none None b e = refl
@@ -340,9 +326,7 @@ holds tolerance (event ∷ before) g = event_holds tolerance (told tolerance bef
 -- ---- each paced playlist succeeds the one before
 
 window_cut : (p : Told) (playlist : Playlist) → (owed_for p playlist).segments ≡ cut (first_numbers p.history) p.start (due_stitched playlist.end_list p.history)
-window_cut p playlist =
-    map-window p.start (due_list playlist.end_list p.history)
-    ∙ sym (cut_is (first_numbers p.history) p.start (due_stitched playlist.end_list p.history))
+window_cut p playlist = grind (arith, map-window, cut_is)
 
 pub same_start : (a b start other : ℕ) → a ≡ b → (t : Bool) → (a == b) ≡ t → cond t start other ≡ start
 same_start a b start other e true k = refl

@@ -1,13 +1,12 @@
 -- What holds of a break that is entered.
-use Rattle.std.proofs.Common.{◌≡◌, ℕ, Bool, true, false, cond, ◌&&◌, not, List, [], ◌∷◌, refl, ap, sym, ◌∙◌, subst}
-use Rattle.std.proofs.lemmas.Bool.{and_parts}
-use Rattle.std.specs.Prelude.{Option, Some, None, IsSome, option_map, ℤ, bytes_eq, find}
-use Rattle.pod_store.specs.Pods.{Pod, pod_fits, total}
+use Rattle.std.proofs.Common.{◌≡◌, ℕ, Bool, true, false, cond, not, List, [], ◌∷◌, refl, ap, sym, ◌∙◌, arith}
+use Rattle.std.specs.Prelude.{Option, Some, None, IsSome, option_map, ℤ, find}
+use Rattle.pod_store.specs.Pods.{Pod, pod_fits}
 use Rattle.pod_store.specs.Marks.{Mark}
 use Rattle.pod_store.specs.Store.{pod_for}
 use Rattle.break_finder.specs.Breaks.{Break, break_of}
 use Rattle.break_finder.specs.Known.{is_this}
-use Rattle.break_finder.specs.Entering.{mark_of, mark_with, enters_break, enters_with, id_of, is_at}
+use Rattle.break_finder.specs.Entering.{mark_of, mark_with, enters_break, enters_with, id_of}
 use Rattle.break_finder.proofs.Carried.{same_bytes}
 use Rattle.channel_spec.specs.Marking.{Moment, limits, entered}
 
@@ -30,18 +29,13 @@ found_test test [] x e = absurd (cc)
 found_test test (y ∷ ys) x e = test_step test y x (find test ys) (test y) refl (found_test test ys x) e
 
 after : (id : List ℕ) (b : Break) (rest : List Break) → IsSome (break_of rest id) → IsSome (break_of (b ∷ rest) id)
-after id b rest h = step (bytes_eq id b.id)
-  where
-    step : (t : Bool) → IsSome (cond t (Some b) (break_of rest id))
-    step true = refl
-    step false = h
+after id b rest h = grind arith
 
 here : (y : Break) (ys : List Break) → IsSome (break_of (y ∷ ys) y.id)
 here y ys = rw (same_bytes y.id) refl
 
 known_step : (y b : Break) (ys : List Break) (rest : Option Break) (t : Bool) → (rest ≡ Some b → IsSome (break_of ys b.id)) → cond t (Some y) rest ≡ Some b → IsSome (break_of (y ∷ ys) b.id)
-known_step y b ys rest true rec k = let is : y ≡ b = cc in subst (λ (x : Break). IsSome (break_of (y ∷ ys) x.id)) is (here y ys)
-known_step y b ys rest false rec k = after b.id y ys (rec k)
+known_step y b ys rest t rec k = grind (arith, here, after)
 
 found_known : (test : Break → Bool) (breaks : List Break) (b : Break) → find test breaks ≡ Some b → IsSome (break_of breaks b.id)
 found_known test [] b e = absurd (cc)
@@ -54,21 +48,14 @@ turned false e = refl
 pod_step : (m : Moment) (instant : ℤ) (last : Option (List ℕ)) (b : Break) → IsSome (break_of m.breaks b.id) → (o : Option Pod) → pod_for m.store b.id ≡ o
     → enters_with (limits m last) instant b o ≡ true → IsEntered m last (mark_with b.id o)
 unfolding IsEntered
-pod_step m instant last b k None e t = tt
-pod_step m instant last b k (Some pod) e t =
-    let p = and_parts (is_at (limits m last) instant b.said (total pod) && pod_fits m.target_duration m.with_init_sections pod) (not (is_this b.id last)) t in
-    record { known = k; decided = e; fits = (and_parts (is_at (limits m last) instant b.said (total pod)) (pod_fits m.target_duration m.with_init_sections pod) p.0).1; other = turned (is_this b.id last) p.1 }
+pod_step m instant last b k o e t = grind arith
 
 break_step : (m : Moment) (instant : ℤ) (last : Option (List ℕ)) (o : Option Break) → find (enters_break (limits m last) m.store instant) m.breaks ≡ o
     → IsEntered m last (mark_of m.store (option_map id_of o))
 unfolding IsEntered
-break_step m instant last None e = tt
-break_step m instant last (Some b) e =
-    pod_step m instant last b (found_known (enters_break (limits m last) m.store instant) m.breaks b e) (pod_for m.store b.id) refl
-    (found_test (enters_break (limits m last) m.store instant) m.breaks b e)
+break_step m instant last o e = grind (arith, pod_step, found_known, found_test)
 
 -- a break that is entered is known, decided and fitting, and isn't the last one
 pub entered_is : (m : Moment) (instant : Option ℤ) (last : Option (List ℕ)) → IsEntered m last (entered m instant last)
 unfolding IsEntered
-entered_is m None last = tt
-entered_is m (Some instant) last = break_step m instant last (find (enters_break (limits m last) m.store instant) m.breaks) refl
+entered_is m instant last = grind (arith, break_step)

@@ -1,14 +1,14 @@
 -- The pods of marked segments are whole, and have sections as the origin's segments have.
-use Rattle.std.proofs.Common.{◌≡◌, inl, inr, ℕ, ◌<◌, Bool, true, false, cond, ◌&&◌, List, [], ◌∷◌, ◌++◌, map, length, reverse, refl, ap, sym, ◌∙◌, subst, arith}
+use Rattle.std.proofs.Common.{◌≡◌, inl, inr, ℕ, ◌<◌, Bool, true, false, cond, ◌&&◌, List, [], ◌∷◌, ◌++◌, map, length, reverse, refl, ap, sym, ◌∙◌, arith}
 use Rattle.std.specs.Prelude.{Option, Some, None, is_some, is_none, option_map, find, ℤ}
 use Rattle.std.specs.List.{AllByRecursion, list_all}
 use Rattle.playlist_model.specs.declared.InitSection.{InitSection}
 use Rattle.playlist_model.specs.LookBack.{or_earlier}
 use Rattle.pod_store.specs.Pods.{Pod, Ad, PodSegment, pod_fits, ad_fits, segment_fits}
 use Rattle.pod_store.specs.Store.{Entry, Store, pod_of, pod_for, has_id}
-use Rattle.pod_store.specs.Marks.{Mark, Marked, newest_mark, continues}
-use Rattle.channel_spec.specs.Marking.{Moment, last_entered, continued, is_inside, entered, mark_of}
-use Rattle.stitcher.specs.Stitched.{Piece, ad_pieces, ad_piece, pieces_of_ads, pod_pieces, with_keys, kept_piece, run_pieces, stitched}
+use Rattle.pod_store.specs.Marks.{Mark, Marked, newest_mark}
+use Rattle.channel_spec.specs.Marking.{Moment, continued, entered, mark_of}
+use Rattle.stitcher.specs.Stitched.{Piece, ad_pieces, ad_piece, pieces_of_ads, pod_pieces, with_keys, run_pieces, stitched}
 use Rattle.channel_spec.specs.Sound.{IsSoundPod}
 use Rattle.channel_spec.proofs.Windows.{In, in_either, in_reverse, length-reverse}
 use Rattle.channel_spec.proofs.Entries.{IsEntered, entered_is}
@@ -27,8 +27,7 @@ init_sections-nil m p h = absurd h
 
 init_sections-one : (m : Bool) (p : Piece) → is_some p.segment.init_section ≡ m → HaveInitSections m (p ∷ [])
 unfolding HaveInitSections In
-init_sections-one m p e q (inl h) = subst (λ (x : Piece). is_some x.segment.init_section ≡ m) (sym h) e
-init_sections-one m p e q (inr h) = absurd h
+init_sections-one m p e q h = grind arith
 
 init_sections-reverse : (m : Bool) (xs : List Piece) → HaveInitSections m xs → HaveInitSections m (reverse xs)
 unfolding HaveInitSections
@@ -72,11 +71,7 @@ ads_have_init_sections target m mark (ad ∷ ads) e =
 
 some_pieces : (mark : Mark) (ads : List Ad) → 0 < length ads → AllByRecursion (λ (ad : Ad). 0 < length ad.segments) ads → 0 < length (pieces_of_ads mark ads)
 some_pieces mark [] h a = absurd (omega (arith, h))
-some_pieces mark (ad ∷ ads) h a = more ad.segments a.0
-  where
-    more : (segments : List PodSegment) → 0 < length segments → 0 < length (ad_pieces mark ad segments ++ pieces_of_ads mark ads)
-    more [] k = absurd (omega (arith, k))
-    more (s ∷ segments) k = omega arith
+some_pieces mark (ad ∷ ads) h a = grind arith
 
 -- a pod has pieces, and they have sections as the origin's segments have
 pub record Stand (m : Bool) (pieces : List Piece) : Type 0 where
@@ -88,18 +83,13 @@ IsGood m None = Unit {0}
 IsGood m (Some f) = Stand m (pod_pieces f)
 
 good_pod : (target : ℕ) (m : Bool) (mark : Mark) → IsSoundPod mark.pod → pod_fits target m mark.pod ≡ true → Stand m (pod_pieces mark)
-good_pod target m mark h e = record { some = some_pieces mark mark.pod.ads h.some h.filled; with_init_sections = ads_have_init_sections target m mark mark.pod.ads e }
+good_pod target m mark h e = grind (arith, some_pieces, ads_have_init_sections)
 
 -- ---- marks
 
 continued_good : (m : Moment) (instant : Option ℤ) (fill : Option Mark) → IsGood m.with_init_sections fill → IsGood m.with_init_sections (continued m instant fill)
 unfolding IsGood
-continued_good m instant None h = tt
-continued_good m instant (Some f) h = step (is_inside m instant f)
-  where
-    step : (b : Bool) → IsGood m.with_init_sections (cond b (Some f) None)
-    step true = h
-    step false = tt
+continued_good m instant fill h = grind arith
 
 unfoldable pub IsPodOrNone : Option Pod → Type 0
 IsPodOrNone None = Unit {0}
@@ -120,14 +110,14 @@ found_step e rest h k false = k
 found_in : (id : List ℕ) (entries : List Entry) → HavePods entries → IsPodOrNone (option_map pod_of (find (has_id id) entries))
 unfolding HavePods IsPodOrNone
 found_in id [] h = tt
-found_in id (e ∷ entries) h = found_step e (find (has_id id) entries) h.0 (found_in id entries h.1) (has_id id e)
+found_in id (e ∷ entries) h = grind (arith, found_in id entries h.1)
 
 either_pod : (a b : Option Pod) → IsPodOrNone a → IsPodOrNone b → IsPodOrNone (or_earlier a b)
 either_pod None b h k = k
 either_pod (Some pod) b h k = h
 
 found : (id : List ℕ) (store : Store) → IsStore store → IsPodOrNone (pod_for store id)
-found id store h = either_pod (option_map pod_of (find (has_id id) store.entries)) store.fallback (found_in id store.entries h.entries) h.fallback
+found id store h = grind (arith, either_pod, found_in)
 
 or_good : (m : Bool) (a b : Option Mark) → IsGood m a → IsGood m b → IsGood m (or_earlier a b)
 or_good m None b f g = g
@@ -135,16 +125,13 @@ or_good m (Some x) b f g = f
 
 entry_good : (m : Moment) (last : Option (List ℕ)) (o : Option Mark) → IsStore m.store → IsEntered m last o → IsGood m.with_init_sections o
 unfolding IsGood IsEntered IsPodOrNone
-entry_good m last None h k = tt
-entry_good m last (Some f) h k = good_pod m.target_duration m.with_init_sections f (subst IsPodOrNone k.decided (found f.id m.store h)) k.fits
+entry_good m last o h k = grind (arith, good_pod, found)
 
 entered_good : (m : Moment) (instant : Option ℤ) (last : Option (List ℕ)) → IsStore m.store → IsGood m.with_init_sections (entered m instant last)
 entered_good m instant last h = entry_good m last (entered m instant last) h (entered_is m instant last)
 
 pub fill_good : (m : Moment) (before : List Marked) (instant : Option ℤ) → IsStore m.store → IsGood m.with_init_sections (newest_mark before) → IsGood m.with_init_sections (mark_of m before instant)
-fill_good m before instant h g =
-    or_good m.with_init_sections (continued m instant (newest_mark before)) (entered m instant (last_entered before))
-    (continued_good m instant (newest_mark before) g) (entered_good m instant (last_entered before) h)
+fill_good m before instant h g = grind (arith, or_good, continued_good, entered_good)
 
 -- ---- the history
 
@@ -155,8 +142,7 @@ pub record IsAlike (m : Bool) (s : Marked) : Type 0 where
 
 pub run_stands : (m : Bool) (s : Marked) (fill : Option Mark) → is_some s.segment.init_section ≡ m → IsGood m fill → Stand m (run_pieces s fill)
 unfolding IsGood
-run_stands m s None e g = record { some = omega arith; with_init_sections = init_sections-one m (kept_piece s) e }
-run_stands m s (Some f) e g = record { some = omega (arith, length-reverse (pod_pieces f), g.some); with_init_sections = init_sections-reverse m (pod_pieces f) g.with_init_sections }
+run_stands m s fill e g = grind (arith, init_sections-one, length-reverse, init_sections-reverse)
 
 pub item_has_init_section : (m : Bool) (b : Bool) (pieces : List Piece) → HaveInitSections m pieces → HaveInitSections m (cond b [] pieces)
 item_has_init_section m true pieces h = init_sections-nil m
@@ -164,7 +150,4 @@ item_has_init_section m false pieces h = h
 
 pub stitched_have_init_sections : (m : Bool) (history : List Marked) → AllByRecursion (IsAlike m) history → HaveInitSections m (stitched history)
 stitched_have_init_sections m [] h = init_sections-nil m
-stitched_have_init_sections m (s ∷ before) h =
-    let here = run_stands m s s.mark h.0.init_section h.0.mark in
-    init_sections-append m (cond (continues s before) [] (run_pieces s s.mark)) (stitched before)
-    (item_has_init_section m (continues s before) (run_pieces s s.mark) here.with_init_sections) (stitched_have_init_sections m before h.1)
+stitched_have_init_sections m (s ∷ before) h = grind (arith, run_stands, init_sections-append, item_has_init_section, stitched_have_init_sections m before h.1)

@@ -1,27 +1,25 @@
 -- A first refresh without decisions is owed as it was read.
-use Rattle.std.proofs.Common.{◌≡◌, ℕ, ◌+◌, ◌-◌, Bool, true, false, cond, not, ◌&&◌, ◌||◌, List, [], ◌∷◌, ◌++◌, map, filter, length, reverse, refl, ap, sym, ◌∙◌, subst, append_assoc, arith}
+use Rattle.std.proofs.Common.{◌≡◌, ℕ, ◌+◌, ◌-◌, Bool, true, false, cond, not, ◌&&◌, ◌||◌, List, [], ◌∷◌, ◌++◌, map, filter, reverse, refl, ap, sym, ◌∙◌, subst, append_assoc, arith}
 use Rattle.std.proofs.lemmas.Bool.{and_parts, eqb-true}
 use Rattle.std.proofs.lemmas.List.{append-nil, take_all}
-use Rattle.std.specs.Prelude.{ℤ, Option, Some, None, is_none, find, option_map}
+use Rattle.std.specs.Prelude.{ℤ, Option, Some, None, find}
 use Rattle.std.specs.List.{AllByRecursion, list_any}
 use Rattle.playlist_model.specs.declared.Segment.{Segment}
 use Rattle.playlist_model.specs.declared.DateRange.{DateRange}
 use Rattle.playlist_model.specs.declared.Playlist.{Playlist}
-use Rattle.playlist_model.specs.LookBack.{or_earlier}
 use Rattle.playlist_model.specs.Instants.{instants_after}
 use Rattle.playlist_model.specs.Numbering.{Numbers, segment_numbers, follows, all_follow, numbers_rise}
 use Rattle.pod_store.specs.Marks.{Mark, Marked, newest_mark, continues, are_one}
-use Rattle.stitcher.specs.Stitched.{Item, kept_piece, run_pieces, stitched, numbered, numbers_at, next_numbers, steps_between, numbers_from, first_numbers, newest_place, up_to, from_place}
-use Rattle.stitcher.specs.Paced.{older, run_length, newest_pieces, due_stitched, due_list}
-use Rattle.pod_store.specs.Store.{Store, nothing_decided}
+use Rattle.stitcher.specs.Stitched.{Item, kept_piece, stitched, numbered, numbers_at, next_numbers, steps_between, numbers_from, first_numbers, newest_place, up_to, from_place}
+use Rattle.stitcher.specs.Paced.{due_stitched, due_list}
+use Rattle.pod_store.specs.Store.{nothing_decided}
 use Rattle.break_finder.specs.Breaks.{Break}
 use Rattle.break_finder.specs.Entering.{enters_break}
 use Rattle.break_finder.specs.Entering as entering
 use Rattle.break_finder.specs.Known.{is_this}
-use Rattle.channel_spec.specs.declared.fault.RefreshFault.{RefreshFault}
-use Rattle.channel_spec.specs.Marking.{Moment, limits, continued, entered, instant_of, last_entered, newest_end, next_shown, show_all}
+use Rattle.channel_spec.specs.Marking.{Moment, entered, last_entered, newest_end, next_shown, show_all}
 use Rattle.channel_spec.specs.Successor.{first_number, end_number}
-use Rattle.channel_spec.specs.Live.{refreshed, Told, told, nothing_told, last_playlist, refusal, place_of, after_refresh, moment, item_segment, window_after}
+use Rattle.channel_spec.specs.Live.{refreshed, Told, told, nothing_told, last_playlist, place_of, after_refresh, moment, item_segment, window_after}
 use Rattle.channel_spec.specs.LiveLaws.{Linked}
 use Rattle.channel_spec.specs.Sound.{IsSoundPlaylist}
 use Rattle.channel_spec.specs.BreakLaws.{is_of_pod}
@@ -49,14 +47,10 @@ none_enters m [] instant = refl
 none_enters m (b ∷ breaks) instant = none_enters m breaks instant
 
 none_entered : (m : Moment) (instant : Option ℤ) (last : Option (List ℕ)) → m.store ≡ nothing_decided → entered m instant last ≡ None
-none_entered m None last e = refl
-none_entered m (Some instant) last e =
-    ap (λ (s : Store). entering.mark_of s (entering.entered (limits m last) s m.breaks (Some instant))) e
-    ∙ ap (λ b. entering.mark_of nothing_decided (option_map entering.id_of b)) (none_enters (limits m last) m.breaks instant)
+none_entered m instant last e = grind arith
 
 unmarked_next : (m : Moment) (before : List Marked) (s : Segment) (later : List Segment) → m.store ≡ nothing_decided → newest_mark before ≡ None → (next_shown m before s later).mark ≡ None
-unmarked_next m before s later e n =
-    ap (λ o. or_earlier (continued m (instant_of before s later) o) (entered m (instant_of before s later) (last_entered before))) n ∙ none_entered m (instant_of before s later) (last_entered before) e
+unmarked_next m before s later e n = grind arith
 
 abbrev Unmarked : List Marked → Type 0
 Unmarked history = AllByRecursion (λ (s : Marked). s.mark ≡ None) history
@@ -71,40 +65,27 @@ unmarked_all m history (s ∷ later) e u = unmarked_all m (next_shown m history 
 
 none_last : (history : List Marked) → Unmarked history → last_entered history ≡ None
 none_last [] u = refl
-none_last (s ∷ before) u = ap (λ o. last_with o before) u.0 ∙ none_last before u.1
-  where
-    last_with : Option Mark → List Marked → Option (List ℕ)
-    last_with o before = last_entered (record s { mark = o } ∷ before)
+none_last (s ∷ before) u = grind (arith, none_last before u.1)
 
 runs_alone : (s : Marked) (before : List Marked) → s.mark ≡ None → continues s before ≡ false
 runs_alone s before e = ap (λ o. are_one o (newest_mark before)) e
 
 stitched_plain : (history : List Marked) → Unmarked history → stitched history ≡ map kept_piece history
 stitched_plain [] u = refl
-stitched_plain (s ∷ before) u =
-    ap (λ b. cond b [] (run_pieces s s.mark) ++ stitched before) (runs_alone s before u.0)
-    ∙ (ap (λ o. run_pieces s o ++ stitched before) u.0 ∙ ap (λ ps. kept_piece s ∷ ps) (stitched_plain before u.1))
+stitched_plain (s ∷ before) u = grind (arith, stitched_plain before u.1)
 
 due_plain : (ended : Bool) (history : List Marked) → Linked history → Unmarked history → due_stitched ended history ≡ map kept_piece history
-due_plain ended [] l u = refl
-due_plain ended (s ∷ before) l u =
-    due_newest ended (run_length (s ∷ before)) s before l
-    ∙ (ap (λ o. newest_pieces ended (run_length (s ∷ before)) s o ++ stitched (older (s ∷ before))) u.0
-    ∙ (ap (λ b. kept_piece s ∷ stitched (cond b (older before) before)) (runs_alone s before u.0) ∙ ap (λ ps. kept_piece s ∷ ps) (stitched_plain before u.1)))
+due_plain ended history l u = grind (arith, due_newest, runs_alone, stitched_plain)
 
 -- ---- the numbers are the segments' own
 
 same_numbers : (media discontinuity number own steps : ℕ) → number ≡ media + 1 → own ≡ discontinuity + steps
     → ◌≡◌ {A = Numbers} (record { media_sequence = media + 1; discontinuity_sequence = discontinuity + (own - discontinuity); discontinuities = own - discontinuity }) (record { media_sequence = number; discontinuity_sequence = own; discontinuities = steps })
-same_numbers media discontinuity number own steps e f =
-    let a : media + 1 ≡ number = omega (arith, e) in
-    let b : discontinuity + (own - discontinuity) ≡ own = omega (arith, f) in
-    let c : own - discontinuity ≡ steps = omega (arith, f) in
-    cc
+same_numbers media discontinuity number own steps e f = grind arith
 
 as_segment : (s : Segment) (instant : Option ℤ) (mark : Option Mark) (n : Numbers) → n ≡ segment_numbers s
     → item_segment (record { piece = kept_piece (record { segment = s; instant = instant; mark = mark }); numbers = n }) ≡ record s { program_date_time = instant }
-as_segment s instant mark n e = ap (λ k. item_segment (record { piece = kept_piece (record { segment = s; instant = instant; mark = mark }); numbers = k })) e
+as_segment s instant mark n e = grind arith
 
 abbrev written : Numbers → List Marked → List Segment
 written first history = map item_segment (reverse (numbered first (map kept_piece history)))
@@ -160,9 +141,7 @@ place_first m s later end f =
 
 whole_list : (first : Numbers) (ended : Bool) (history : List Marked) (place : ℕ) → place ≡ 0 → Linked history → Unmarked history
     → reverse (from_place place (numbered first (due_stitched ended history))) ≡ reverse (numbered first (map kept_piece history))
-whole_list first ended history place e l u =
-    let items = numbered first (due_stitched ended history) in
-    ap (λ k. reverse (from_place k items)) e ∙ (ap (λ xs. reverse xs) (take_all (length items - 0) items (omega arith)) ∙ ap (λ ps. reverse (numbered first ps)) (due_plain ended history l u))
+whole_list first ended history place e l u = grind (arith, reverse, take_all, due_plain)
 
 module _ (tolerance : ℕ) (p : Playlist) (s : Segment) (later : List Segment) (sound : IsSoundPlaylist p) (segments : p.segments ≡ s ∷ later) where
   abbrev m : Moment
@@ -222,12 +201,8 @@ stay_by b date_ranges f h = same_left date_ranges (λ (r : DateRange). b && not 
     by true = all_stay date_ranges
     by false = none_stay date_ranges
 
-was_accepted : (tolerance : ℕ) (p : Playlist) (o : Option RefreshFault) → last_playlist (cond (is_none o) (after_refresh tolerance nothing_told p) nothing_told).accepted ≡ Some p → o ≡ None
-was_accepted tolerance p None e = refl
-was_accepted tolerance p (Some fault) e = absurd (cc)
-
 told_first : (tolerance : ℕ) (p : Playlist) → last_playlist (told tolerance (refreshed p ∷ [])).accepted ≡ Some p → told tolerance (refreshed p ∷ []) ≡ after_refresh tolerance nothing_told p
-told_first tolerance p e = ap (λ o. cond (is_none o) (after_refresh tolerance nothing_told p) nothing_told) (was_accepted tolerance p (refusal tolerance nothing_told p) e)
+told_first tolerance p e = grind arith
 
 pub nothing_decided_nothing_changed : NothingDecidedNothingChanged
 nothing_decided_nothing_changed tolerance p now h r = by p.segments refl

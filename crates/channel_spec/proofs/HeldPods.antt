@@ -2,14 +2,14 @@
 use Rattle.std.proofs.Common.{◌≡◌, inl, inr, ℕ, ◌≤◌, Bool, true, false, cond, ◌&&◌, ◌||◌, not, List, [], ◌∷◌, ◌++◌, map, refl, ap, sym, ◌∙◌, arith}
 use Rattle.std.proofs.lemmas.Bool.{le-leb, and_from, or_parts}
 use Rattle.std.proofs.lemmas.Slice.Eq.{bytes_eq-Decides}
-use Rattle.std.specs.Prelude.{Option, Some, None, Ok, fold, option_map, ℤ, nat_le, nat_lt, bytes_eq, find, filter}
+use Rattle.std.specs.Prelude.{Option, Some, None, Ok, fold, option_map, ℤ, nat_le, bytes_eq, find, filter}
 use Rattle.std.specs.List.{AllByRecursion, list_any}
 use Rattle.playlist_model.specs.declared.Segment.{Segment}
 use Rattle.playlist_model.specs.declared.Playlist.{Playlist}
 use Rattle.playlist_model.specs.LookBack.{or_earlier}
 use Rattle.pod_store.specs.Pods.{Pod}
 use Rattle.pod_store.specs.Marks.{Mark, Marked, newest_mark}
-use Rattle.pod_store.specs.Store.{Entry, Store, with_entries, with_copies, has_id, pod_of, entry_for, pod_for, has_own, is_used, is_used_entry, is_one_of, put, without, names_used, count_with, kept_in_use}
+use Rattle.pod_store.specs.Store.{Entry, Store, with_entries, with_copies, has_id, pod_of, entry_for, pod_for, is_used, is_used_entry, is_one_of, put, without, names_used, kept_in_use}
 use Rattle.pod_store.proofs.Copies.{all_own}
 use Rattle.spec_words.specs.Outcomes.{refuse_if}
 use Rattle.pod_store.specs.Outcome.{fault_at, nowhere}
@@ -17,7 +17,7 @@ use Rattle.pod_store.specs.declared.Decisions.{Decisions}
 use Rattle.pod_store.specs.declared.Decisions.TheVariants.{Breaks, Withdraw, Fallback, NoFallback}
 use Rattle.pod_store.specs.declared.fault.DecisionKind.TheVariants.{Used, Full, Unknown}
 use Rattle.break_finder.specs.Known.{Accepted, is_this}
-use Rattle.channel_spec.specs.Marking.{Moment, last_mark, last_entered, mark_id, continued, is_inside, entered, mark_of, instant_of, next_shown, show_all}
+use Rattle.channel_spec.specs.Marking.{Moment, last_mark, last_entered, continued, entered, mark_of, instant_of, next_shown, show_all}
 use Rattle.channel_spec.specs.Successor.{first_number}
 use Rattle.channel_spec.specs.Live.{succession_fault, last_playlist, taken, decide, is_marked, in_use, in_use_with, ids_in, marks_from, rest_before, rest_id}
 use Rattle.channel_spec.proofs.StoreAfter.{entries_after}
@@ -51,10 +51,7 @@ has_some store (Some mark) h = ap (λ o. or_earlier (option_map pod_of o) store.
 put_step : (id : List ℕ) (d : List ℕ × Pod) (e : Entry) (store : List Entry) → bytes_eq id d.0 ≡ false → find (has_id id) (put store d) ≡ find (has_id id) store
     → (b : Bool) → bytes_eq d.0 e.id ≡ b
     → find (has_id id) (cond b (record { id = e.id; pod = d.1; used = false; copied = false } ∷ store) (e ∷ put store d)) ≡ find (has_id id) (e ∷ store)
-put_step id d e store other rec true same =
-    let is : bytes_eq id e.id ≡ false = ap (bytes_eq id) (sym ((bytes_eq-Decides d.0 e.id).0 same)) ∙ other in
-    rw is refl
-put_step id d e store other rec false same = ap (λ o. cond (bytes_eq id e.id) (Some e) o) rec
+put_step id d e store other rec b same = grind (arith, bytes_eq-Decides)
 
 put_other : (id : List ℕ) (d : List ℕ × Pod) (store : List Entry) → bytes_eq id d.0 ≡ false → find (has_id id) (put store d) ≡ find (has_id id) store
 put_other id d [] other = rw other refl
@@ -77,17 +74,12 @@ unused_others store id (d ∷ ds) u h =
 
 all_step : (ds : List (List ℕ × Pod)) (store : Store) (mark : Mark) (used full : Bool) → list_any (names_used store) ds ≡ used
     → HasPod store (Some mark) → HasPod (taken store (refuse_if used (fault_at nowhere Used) (refuse_if full (fault_at nowhere Full) (Ok (with_entries store (fold put store.entries ds)))))) (Some mark)
-all_step ds store mark true full e h = h
-all_step ds store mark false true e h = h
-all_step ds store mark false false e (copied, h) =
-    (copied, put_others mark.id ds store.entries (unused_others store mark.id ds (found_used mark.id store (record { id = mark.id; pod = mark.pod; used = true; copied = copied }) refl h) e) ∙ h)
+all_step ds store mark used full e h = grind (arith, put_others, unused_others, found_used)
 
 drop_step : (id other : List ℕ) (e : Entry) (store : List Entry) → bytes_eq id other ≡ false → (b : Bool) → bytes_eq other e.id ≡ b
     → find (has_id id) (without other store) ≡ find (has_id id) store
     → find (has_id id) (cond b store (e ∷ without other store)) ≡ find (has_id id) (e ∷ store)
-drop_step id other e store h true same rec =
-    let is : bytes_eq id e.id ≡ false = ap (bytes_eq id) (sym ((bytes_eq-Decides other e.id).0 same)) ∙ h in rw is refl
-drop_step id other e store h false same rec = ap (λ o. cond (bytes_eq id e.id) (Some e) o) rec
+drop_step id other e store h b same rec = grind (arith, bytes_eq-Decides)
 
 drop_other : (id other : List ℕ) (store : List Entry) → bytes_eq id other ≡ false → find (has_id id) (without other store) ≡ find (has_id id) store
 drop_other id other [] h = refl
@@ -95,16 +87,12 @@ drop_other id other (e ∷ store) h = drop_step id other e store h (bytes_eq oth
 
 withdraw_step : (id : List ℕ) (store : Store) (mark : Mark) (unknown used : Bool) → is_used store id ≡ used → HasPod store (Some mark)
     → HasPod (taken store (refuse_if unknown (fault_at nowhere Unknown) (refuse_if used (fault_at nowhere Used) (Ok (with_entries store (without id store.entries)))))) (Some mark)
-withdraw_step id store mark true used e h = h
-withdraw_step id store mark false true e h = h
-withdraw_step id store mark false false e (copied, h) =
-    let u = found_used mark.id store (record { id = mark.id; pod = mark.pod; used = true; copied = copied }) refl h in
-    (copied, drop_other mark.id id store.entries (not_other mark.id id (bytes_eq mark.id id) refl (λ same. let k : true ≡ false = sym u ∙ (ap (is_used store) same ∙ e) in absurd (cc))) ∙ h)
+withdraw_step id store mark unknown used e h = grind (arith, found_used, drop_other, not_other)
 
 pub decide_keeps : (ds : Decisions) (store : Store) (mark : Option Mark) → HasPod store mark → HasPod (decide ds store) mark
 decide_keeps ds store None h = tt
-decide_keeps (Breaks ds) store (Some mark) h = all_step ds store mark (list_any (names_used store) ds) (nat_lt 256 (count_with store ds)) refl h
-decide_keeps (Withdraw id) store (Some mark) h = withdraw_step id store mark (not (has_own store id)) (is_used store id) refl h
+decide_keeps (Breaks ds) store (Some mark) h = grind (arith, all_step)
+decide_keeps (Withdraw id) store (Some mark) h = grind (arith, withdraw_step)
 decide_keeps (Fallback pod) store (Some mark) h = h
 decide_keeps NoFallback store (Some mark) h = h
 
@@ -112,12 +100,7 @@ decide_keeps NoFallback store (Some mark) h = h
 
 continued_has : (m : Moment) (instant : Option ℤ) (mark : Option Mark) → Has m.store mark → Has m.store (continued m instant mark)
 unfolding Has
-continued_has m instant None h = tt
-continued_has m instant (Some f) h = step (is_inside m instant f)
-  where
-    step : (b : Bool) → Has m.store (cond b (Some f) None)
-    step true = h
-    step false = tt
+continued_has m instant mark h = grind arith
 
 entry_has : (m : Moment) (last : Option (List ℕ)) (o : Option Mark) → IsEntered m last o → Has m.store o
 unfolding Has IsEntered
@@ -134,17 +117,10 @@ entered_has m instant last = entry_has m last (entered m instant last) (entered_
 
 newest_has : (store : Store) (before : List Marked) → Has store (last_mark before) → Has store (newest_mark before)
 unfolding Has
-newest_has store [] h = tt
-newest_has store (s ∷ before) h = step s.mark h
-  where
-    step : (o : Option Mark) → Has store (or_earlier o (last_mark before)) → Has store o
-    step None h = tt
-    step (Some x) h = h
+newest_has store before h = grind arith
 
 mark_has : (m : Moment) (before : List Marked) (instant : Option ℤ) → Has m.store (last_mark before) → Has m.store (mark_of m before instant)
-mark_has m before instant h =
-    or_has m.store (continued m instant (newest_mark before)) (entered m instant (last_entered before))
-    (continued_has m instant (newest_mark before) (newest_has m.store before h)) (entered_has m instant (last_entered before))
+mark_has m before instant h = grind (arith, or_has, continued_has, newest_has, entered_has)
 
 pub record AllHas (store : Store) (first : ℕ) (history : List Marked) : Type 0 where
   pub shown : AllByRecursion (λ (s : Marked). first ≤ s.segment.media_sequence → Has store s.mark) history
@@ -166,16 +142,7 @@ kept_step : (used : List ℕ → Bool) (id : List ℕ) (e : Entry) (store : List
     → (b : Bool) → bytes_eq id e.id ≡ b → cond b (Some e) (find (has_id id) store) ≡ Some x
     → (k : Bool) → (not e.used || used e.id) ≡ k
     → find (has_id id) (map (λ (y : Entry). record y { used = used y.id }) (cond k (e ∷ filter (λ (y : Entry). not y.used || used y.id) store) (filter (λ (y : Entry). not y.used || used y.id) store))) ≡ Some (record x { used = used x.id })
-kept_step used id e store x u rec true same h true keep =
-    let is : e ≡ x = cc in rw same (ap (λ (y : Entry). Some (record y { used = used y.id })) is)
-kept_step used id e store x u rec true same h false keep =
-    let t : (not e.used || used e.id) ≡ true = ap (λ i. not e.used || used i) (sym ((bytes_eq-Decides id e.id).0 same)) ∙ (ap (λ b. not e.used || b) u ∙ or_true (not e.used)) in absurd (cc)
-  where
-    or_true : (b : Bool) → (b || true) ≡ true
-    or_true true = refl
-    or_true false = refl
-kept_step used id e store x u rec false same h true keep = rw same (rec h)
-kept_step used id e store x u rec false same h false keep = rec h
+kept_step used id e store x u rec b same h k keep = grind (arith, bytes_eq-Decides)
 
 pub kept_found : (used : List ℕ → Bool) (id : List ℕ) (store : List Entry) (x : Entry) → used id ≡ true → find (has_id id) store ≡ Some x
     → find (has_id id) (entries_after used store) ≡ Some (record x { used = used x.id })
@@ -184,8 +151,7 @@ kept_found used id (e ∷ store) x u h = kept_step used id e store x u (kept_fou
 
 id_step : (id : List ℕ) (x e : Entry) (store : List Entry) (b : Bool) → bytes_eq id x.id ≡ b → cond b (Some x) (find (has_id id) store) ≡ Some e
     → (find (has_id id) store ≡ Some e → e.id ≡ id) → e.id ≡ id
-id_step id x e store true same k rec = let is : x ≡ e = cc in ap (λ (y : Entry). y.id) (sym is) ∙ sym ((bytes_eq-Decides id x.id).0 same)
-id_step id x e store false same k rec = rec k
+id_step id x e store b same k rec = grind (arith, bytes_eq-Decides)
 
 found_id : (id : List ℕ) (store : List Entry) (e : Entry) → find (has_id id) store ≡ Some e → e.id ≡ id
 found_id id [] e h = absurd (cc)
@@ -193,10 +159,7 @@ found_id id (x ∷ store) e h = id_step id x e store (bytes_eq id x.id) refl h (
 
 entry_is : (used : List ℕ → Bool) (e : Entry) (f : Mark) → e.id ≡ f.id → e.pod ≡ f.pod → used f.id ≡ true
     → ◌≡◌ {A = Option Entry} (Some (record e { used = used e.id })) (Some (record { id = f.id; pod = f.pod; used = true; copied = e.copied }))
-entry_is used e f i p u =
-    ap (λ j. Some (record { id = j; pod = e.pod; used = used j; copied = e.copied })) i
-    ∙ (ap (λ (pod : Pod). Some (record { id = f.id; pod = pod; used = used f.id; copied = e.copied })) p
-    ∙ ap (λ b. Some (record { id = f.id; pod = f.pod; used = b; copied = e.copied })) u)
+entry_is used e f i p u = grind arith
 
 pub after_has : (store : Store) (ids : List (List ℕ)) (mark : Option Mark) → Has store mark → ((f : Mark) → mark ≡ Some f → is_one_of ids f.id ≡ true) → HasPod (kept_in_use ids store) mark
 unfolding Has
@@ -213,11 +176,7 @@ any_in : {A : Type 0} (test : A → Bool) (xs : List A) (x : A) → In x xs → 
 unfolding In
 any_in test [] x h e = absurd h
 any_in test (y ∷ ys) x (inl same) e = ap (λ b. b || list_any test ys) (ap test (sym same) ∙ e)
-any_in test (y ∷ ys) x (inr h) e = ap (λ b. test y || b) (any_in test ys x h e) ∙ or_true (test y)
-  where
-    or_true : (b : Bool) → (b || true) ≡ true
-    or_true true = refl
-    or_true false = refl
+any_in test (y ∷ ys) x (inr h) e = grind (arith, any_in test ys x h e)
 
 pub or_front : (a b : Bool) → a ≡ true → (a || b) ≡ true
 or_front true b e = refl
@@ -236,12 +195,10 @@ abbrev pub is_shown : ℕ → List Marked → List ℕ → Bool
 is_shown first history id = is_shown_with first history (last_entered history) id
 
 pub shown_used : (first : ℕ) (history : List Marked) (s : Marked) (f : Mark) → In s history → first ≤ s.segment.media_sequence → s.mark ≡ Some f → is_shown first history f.id ≡ true
-shown_used first history s f h n e =
-    or_front _ _ (any_in (λ (x : Marked). nat_le first x.segment.media_sequence && is_marked f.id x.mark) history s h
-    (and_from _ _ (le-leb first s.segment.media_sequence n) (ap (is_marked f.id) e ∙ same_id f.id)))
+shown_used first history s f h n e = grind (arith, or_front, any_in, and_from, le-leb, same_id)
 
 pub last_used : (first : ℕ) (history : List Marked) (f : Mark) → last_mark history ≡ Some f → is_shown first history f.id ≡ true
-last_used first history f e = or_back _ _ (ap (λ o. is_this f.id (option_map mark_id o)) e ∙ same_id f.id)
+last_used first history f e = grind (arith, or_back, same_id)
 
 or_swap : (a b : Bool) → (a || b) ≡ (b || a)
 or_swap true true = refl
@@ -259,7 +216,7 @@ grouped false b c = refl
 
 one_of_append : (xs ys : List (List ℕ)) (id : List ℕ) → is_one_of (xs ++ ys) id ≡ (is_one_of xs id || is_one_of ys id)
 one_of_append [] ys id = refl
-one_of_append (x ∷ xs) ys id = ap (λ b. bytes_eq id x || b) (one_of_append xs ys id) ∙ grouped (bytes_eq id x) (is_one_of xs id) (is_one_of ys id)
+one_of_append (x ∷ xs) ys id = grind (arith, one_of_append xs ys id)
 
 one_id : (o : Option (List ℕ)) (id : List ℕ) → is_one_of (ids_in o) id ≡ is_this id o
 one_id None id = refl
@@ -268,29 +225,15 @@ one_id (Some other) id = or_alone (bytes_eq id other)
 marks_listed : (first : ℕ) (history : List Marked) (id : List ℕ)
     → is_one_of (marks_from first history) id ≡ list_any (λ (s : Marked). nat_le first s.segment.media_sequence && is_marked id s.mark) history
 marks_listed first [] id = refl
-marks_listed first (s ∷ before) id =
-    one_of_append (marks_from first before) (cond (nat_le first s.segment.media_sequence) (ids_in (option_map mark_id s.mark)) []) id
-    ∙ (ap (λ b. b || is_one_of (cond (nat_le first s.segment.media_sequence) (ids_in (option_map mark_id s.mark)) []) id) (marks_listed first before id)
-    ∙ (or_swap (list_any (λ (x : Marked). nat_le first x.segment.media_sequence && is_marked id x.mark) before) (is_one_of (cond (nat_le first s.segment.media_sequence) (ids_in (option_map mark_id s.mark)) []) id)
-    ∙ ap (λ b. b || list_any (λ (x : Marked). nat_le first x.segment.media_sequence && is_marked id x.mark) before) (here (nat_le first s.segment.media_sequence))))
-  where
-    here : (b : Bool) → is_one_of (cond b (ids_in (option_map mark_id s.mark)) []) id ≡ (b && is_marked id s.mark)
-    here true = one_id (option_map mark_id s.mark) id
-    here false = refl
+marks_listed first (s ∷ before) id = grind (arith, one_of_append, or_swap, one_id, marks_listed first before id)
 
 -- the breaks in use are those that are shown, and that of the rest
 pub in_use_with_is : (first : ℕ) (history : List Marked) (last : Option (List ℕ)) (rest : Option Rest) (id : List ℕ)
     → is_one_of (in_use_with first history last rest) id ≡ (is_shown_with first history last id || is_this id (rest_id rest))
-in_use_with_is first history last rest id =
-    let marked = list_any (λ (s : Marked). nat_le first s.segment.media_sequence && is_marked id s.mark) history in
-    one_of_append (marks_from first history) (ids_in last ++ ids_in (rest_id rest)) id
-    ∙ (ap (λ b. is_one_of (marks_from first history) id || b) (one_of_append (ids_in last) (ids_in (rest_id rest)) id)
-    ∙ (ap (λ b. b || (is_one_of (ids_in last) id || is_one_of (ids_in (rest_id rest)) id)) (marks_listed first history id)
-    ∙ (ap (λ b. marked || (b || is_one_of (ids_in (rest_id rest)) id)) (one_id last id)
-    ∙ (ap (λ b. marked || (is_this id last || b)) (one_id (rest_id rest) id) ∙ grouped marked (is_this id last) (is_this id (rest_id rest))))))
+in_use_with_is first history last rest id = grind (arith, one_of_append, marks_listed, one_id, grouped)
 
 pub in_use_is : (start first : ℕ) (history : List Marked) (id : List ℕ) → in_use start first history id ≡ (is_shown first history id || is_this id (rest_id (rest_before start first history)))
-in_use_is start first history id = in_use_with_is first history (last_entered history) (rest_before start first history) id
+in_use_is start first history id = grind (arith, in_use_with_is)
 
 -- ---- the last refresh
 

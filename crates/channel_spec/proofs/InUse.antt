@@ -1,8 +1,8 @@
 -- A break is used in the store exactly if it marks a shown segment or was entered last.
-use Rattle.std.proofs.Common.{◌≡◌, ℕ, ◌+◌, ◌≤◌, Bool, true, false, cond, ◌&&◌, ◌||◌, not, List, [], ◌∷◌, map, refl, ap, sym, ◌∙◌, subst}
+use Rattle.std.proofs.Common.{◌≡◌, ℕ, ◌≤◌, Bool, true, false, cond, ◌&&◌, ◌||◌, not, List, [], ◌∷◌, refl, ap, sym, ◌∙◌, arith}
 use Rattle.std.proofs.lemmas.Bool.{leb-true}
 use Rattle.std.proofs.lemmas.Slice.Eq.{bytes_eq-Decides}
-use Rattle.std.specs.Prelude.{Option, Some, None, Ok, fold, is_none, nat_le, nat_lt, bytes_eq, find, filter}
+use Rattle.std.specs.Prelude.{Option, Some, None, Ok, fold, is_none, nat_le, nat_lt, bytes_eq, find}
 use Rattle.std.specs.List.{AllByRecursion, list_any}
 use Rattle.playlist_model.specs.declared.Playlist.{Playlist}
 use Rattle.pod_store.specs.Pods.{Pod}
@@ -71,11 +71,7 @@ decide_in_use uses NoFallback store h = h
 
 after_in_use : (uses : List ℕ → Bool) (store : List Entry) → InUse uses (entries_after uses store)
 after_in_use uses [] = tt
-after_in_use uses (e ∷ store) = step (not e.used || uses e.id) (after_in_use uses store)
-  where
-    step : (b : Bool) → InUse uses (entries_after uses store) → InUse uses (map (λ (y : Entry). record y { used = uses y.id }) (cond b (e ∷ filter (λ (y : Entry). not y.used || uses y.id) store) (filter (λ (y : Entry). not y.used || uses y.id) store)))
-    step true h = (λ k. k, h)
-    step false h = h
+after_in_use uses (e ∷ store) = grind (arith, after_in_use uses store)
 
 abbrev uses_then : Told → List ℕ → Bool
 uses_then t id = in_use t.start (first_shown t.accepted) t.history id
@@ -111,14 +107,11 @@ used_uses uses id (e ∷ store) h k = used_step uses id e store h (used_uses use
 -- ---- from a break in use to its entry
 
 mark_used : (store : Store) (id : List ℕ) (mark : Option Mark) → HasPod store mark → is_marked id mark ≡ true → is_used store id ≡ true
-mark_used store id None h k = absurd (cc)
-mark_used store id (Some f) h k = ap (is_used store) ((bytes_eq-Decides id f.id).0 k) ∙ ap is_used_entry h.1
+mark_used store id mark h k = grind (arith, bytes_eq-Decides)
 
 shown_step : (store : Store) (first : ℕ) (id : List ℕ) (s : Marked) (rest : Bool) → (first ≤ s.segment.media_sequence → HasPod store s.mark) → (rest ≡ true → is_used store id ≡ true) → (a b : Bool)
     → nat_le first s.segment.media_sequence ≡ a → is_marked id s.mark ≡ b → ((a && b) || rest) ≡ true → is_used store id ≡ true
-shown_step store first id s rest h rec true true e f k = mark_used store id s.mark (h (leb-true first s.segment.media_sequence e)) f
-shown_step store first id s rest h rec true false e f k = rec k
-shown_step store first id s rest h rec false b e f k = rec k
+shown_step store first id s rest h rec a b e f k = grind (arith, mark_used, leb-true)
 
 shown_used : (store : Store) (first : ℕ) (id : List ℕ) (history : List Marked) → ShownHavePods store first history
     → list_any (λ (s : Marked). nat_le first s.segment.media_sequence && is_marked id s.mark) history ≡ true → is_used store id ≡ true
@@ -141,17 +134,12 @@ rest_used store id None h k = absurd (cc)
 rest_used store id (Some rest) h k = mark_used store id (Some rest.mark) h k
 
 no_rest : (start : ℕ) → rest_before start 0 [] ≡ None
-no_rest start = step (nat_lt start (0 + 0))
-  where
-    step : (b : Bool) → ◌≡◌ {A = Option Rest} (cond b None None) None
-    step true = refl
-    step false = refl
+no_rest start = grind arith
 
 rest_there : (store : Store) (accepted : List Accepted) (history : List Marked) (start : ℕ) → WindowOf accepted history start
     → HasPod store (rest_mark (rest_by (last_playlist accepted) start history)) → HasPod store (rest_mark (rest_before start (first_shown accepted) history))
 unfolding WindowOf
-rest_there store [] history start w h = subst (λ l. HasPod store (rest_mark (rest_before start 0 l))) (sym w) (subst (λ o. HasPod store (rest_mark o)) (sym (no_rest start)) tt)
-rest_there store (a ∷ earlier) history start w h = h
+rest_there store accepted history start w h = grind arith
 
 pub used_are_in_use : UsedAreInUse
 used_are_in_use tolerance events id sound =

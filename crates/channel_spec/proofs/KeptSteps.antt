@@ -1,13 +1,13 @@
 -- What is kept follows the whole history.
 use Rattle.std.proofs.Common.{◌≡◌, ℕ, ◌+◌, ◌<◌, ◌≤◌, Bool, true, false, cond, List, [], ◌∷◌, ◌++◌, length, refl, ap, sym, ◌∙◌, subst, append_assoc, arith}
-use Rattle.std.proofs.lemmas.Bool.{ltb-true, ltb-false, lt-leb, le-leb}
+use Rattle.std.proofs.lemmas.Bool.{ltb-true, ltb-false, le-leb}
 use Rattle.std.proofs.lemmas.List.{append-nil}
-use Rattle.std.specs.Prelude.{Option, Some, None, option_map, nat_le, nat_lt, filter}
+use Rattle.std.specs.Prelude.{Option, Some, None, option_map, nat_lt, filter}
 use Rattle.playlist_model.specs.declared.Segment.{Segment}
 use Rattle.playlist_model.specs.LookBack.{or_earlier}
 use Rattle.pod_store.specs.Marks.{Mark, Marked, newest_mark}
 use Rattle.channel_spec.specs.Marking.{Moment, mark_id, last_mark, last_entered, next_mark, instant_of, next_shown, show_all, is_new}
-use Rattle.channel_spec.specs.Live.{ids_in, marks_from}
+use Rattle.channel_spec.specs.Live.{marks_from}
 use Rattle.channel_spec.specs.LiveLaws.{GoesOn}
 use Rattle.channel_spec.specs.Kept.{shown_from, marked_on, entered_with, show_on}
 use Rattle.channel_spec.proofs.Growth.{goes_nowhere, goes_on_through}
@@ -44,10 +44,7 @@ show_grows m front entered (s ∷ later) =
 pub show_after : (m : Moment) (newer : List Marked) (s : Marked) (gone : List Marked) (segments : List Segment)
     → show_all m (newer ++ (s ∷ gone)) segments ≡ show_on m (newer ++ (s ∷ [])) (last_entered (newer ++ (s ∷ gone))) segments ++ gone
 show_after m [] s gone segments = show_split m s [] gone (last_entered (s ∷ gone)) segments refl
-show_after m (x ∷ newer) s gone segments =
-    let list : (newer ++ (s ∷ [])) ++ gone ≡ newer ++ (s ∷ gone) = append_assoc newer (s ∷ []) gone in
-    ap (λ h. show_all m (x ∷ h) segments) (sym list)
-    ∙ show_split m x (newer ++ (s ∷ [])) gone (last_entered (x ∷ (newer ++ (s ∷ gone)))) segments (ap (λ h. last_entered (x ∷ h)) (sym list))
+show_after m (x ∷ newer) s gone segments = grind (arith, append_assoc, show_split)
 
 pub newest_same : (newer : List Marked) (s : Marked) (gone : List Marked) → newest_mark (newer ++ (s ∷ gone)) ≡ newest_mark (newer ++ (s ∷ []))
 newest_same [] s gone = refl
@@ -70,7 +67,7 @@ pub record Cut (first : ℕ) (history : List Marked) : Type 0 where
 
 pub none_below : (first end : ℕ) (gone : List Marked) → FallFrom end gone → end ≤ first → shown_from first gone ≡ []
 none_below first end [] f h = refl
-none_below first end (g ∷ gone) f h = ap (λ b. cond b (g ∷ shown_from first gone) []) (lt-leb first g.segment.media_sequence (omega (arith, f.0, h)))
+none_below first end (g ∷ gone) f h = grind arith
 
 cut_step : (first end : ℕ) (x : Marked) (before : List Marked) → x.segment.media_sequence + 1 ≡ end → FallFrom x.segment.media_sequence before → first < end
     → (first < x.segment.media_sequence → Cut first before) → (b : Bool) → nat_lt first x.segment.media_sequence ≡ b → Cut first (x ∷ before)
@@ -111,15 +108,11 @@ from_step first x a b e false = refl
 
 pub shown_apart : (first : ℕ) (list gone : List Marked) → shown_from first gone ≡ [] → shown_from first (list ++ gone) ≡ shown_from first list
 shown_apart first [] gone e = e
-shown_apart first (x ∷ list) gone e = from_step first x (shown_from first (list ++ gone)) (shown_from first list) (shown_apart first list gone e) (nat_le first x.segment.media_sequence)
+shown_apart first (x ∷ list) gone e = grind (arith, shown_apart first list gone e)
 
 entered_append : (list gone : List Marked) → last_entered (list ++ gone) ≡ or_earlier (last_entered list) (last_entered gone)
 entered_append [] gone = refl
-entered_append (x ∷ list) gone = entered_cons x.mark (list ++ gone) ∙ (ap (entered_with x.mark) (entered_append list gone) ∙ step x.mark)
-  where
-    step : (mark : Option Mark) → entered_with mark (or_earlier (last_entered list) (last_entered gone)) ≡ or_earlier (option_map mark_id (or_earlier mark (last_mark list))) (last_entered gone)
-    step None = refl
-    step (Some f) = refl
+entered_append (x ∷ list) gone = grind (arith, entered_append list gone)
 
 -- the last break entered, of a list that goes on another before which some are gone
 or_twice : (a b g : Option (List ℕ)) → or_earlier (or_earlier a b) (or_earlier b g) ≡ or_earlier (or_earlier a b) g
@@ -128,19 +121,13 @@ or_twice None (Some y) g = refl
 or_twice None None g = refl
 
 pub entered_on : (more front gone : List Marked) → or_earlier (last_entered (more ++ front)) (last_entered (front ++ gone)) ≡ last_entered ((more ++ front) ++ gone)
-entered_on more front gone =
-    ap (λ o. or_earlier o (last_entered (front ++ gone))) (entered_append more front)
-    ∙ (ap (λ o. or_earlier (or_earlier (last_entered more) (last_entered front)) o) (entered_append front gone)
-    ∙ (or_twice (last_entered more) (last_entered front) (last_entered gone)
-    ∙ (ap (λ o. or_earlier o (last_entered gone)) (sym (entered_append more front)) ∙ sym (entered_append (more ++ front) gone))))
+entered_on more front gone = grind (arith, entered_append, or_twice)
 
 -- the marks of the segments that are gone are no part
 pub none_marked : (first end : ℕ) (gone : List Marked) → FallFrom end gone → end ≤ first → marks_from first gone ≡ []
 none_marked first end [] f h = refl
-none_marked first end (g ∷ gone) f h =
-    ap (λ ids. ids ++ cond (nat_le first g.segment.media_sequence) (ids_in (option_map mark_id g.mark)) []) (none_marked first g.segment.media_sequence gone f.1 (omega (arith, f.0, h)))
-    ∙ ap (λ b. cond b (ids_in (option_map mark_id g.mark)) []) (lt-leb first g.segment.media_sequence (omega (arith, f.0, h)))
+none_marked first end (g ∷ gone) f h = grind (arith, none_marked first g.segment.media_sequence gone f.1 (omega (arith, f.0, h)))
 
 pub marks_append : (first : ℕ) (list gone : List Marked) → marks_from first gone ≡ [] → marks_from first (list ++ gone) ≡ marks_from first list
 marks_append first [] gone e = e
-marks_append first (x ∷ list) gone e = ap (λ ids. ids ++ cond (nat_le first x.segment.media_sequence) (ids_in (option_map mark_id x.mark)) []) (marks_append first list gone e)
+marks_append first (x ∷ list) gone e = grind (arith, marks_append first list gone e)

@@ -1,15 +1,15 @@
 -- A refresh of what is kept is one of the whole history.
 use Rattle.std.proofs.Common.{◌≡◌, ℕ, ◌-◌, ◌<◌, ◌≤◌, Bool, true, false, cond, not, List, [], ◌∷◌, ◌++◌, map, length, reverse, refl, ap, sym, ◌∙◌, subst, append_assoc, length-append, arith, ◌+◌, min}
-use Rattle.std.proofs.lemmas.Bool.{ltb-true, ltb-false, lt-leb, eqb-true, eqb-false}
+use Rattle.std.proofs.lemmas.Bool.{lt-leb, eqb-true, eqb-false}
 use Rattle.std.proofs.lemmas.List.{append-nil, take_all, append_cancel_right}
 use mathlib.Core.List.{reverse_aux}
-use Rattle.std.specs.Prelude.{Option, Some, None, is_none, option_map, nat_le, nat_lt, filter, max, ◌==◌}
+use Rattle.std.specs.Prelude.{Option, Some, None, is_none, option_map, nat_le, filter, max, ◌==◌}
 use Rattle.std.specs.List.{list_all, list_any}
 use Rattle.playlist_model.specs.declared.DateRange.{DateRange}
 use Rattle.playlist_model.specs.declared.Playlist.{Playlist}
 use Rattle.channel_spec.specs.declared.heading.Heading.{Heading}
 use Rattle.playlist_model.specs.LookBack.{or_earlier}
-use Rattle.pod_store.specs.Marks.{Marked, Mark, newest_mark}
+use Rattle.pod_store.specs.Marks.{Marked, newest_mark}
 use Rattle.stitcher.specs.Stitched.{Piece, Numbers, Item, numbers_at, fits, stitched, numbered, first_numbers, newest_place, from_place}
 use Rattle.pod_store.specs.Store.{Store, is_one_of, kept_in_use}
 use Rattle.channel_spec.specs.declared.fault.RefreshFault.TheVariants.{NumberRange}
@@ -45,7 +45,7 @@ use Rattle.stitcher.specs.Paced.{Rest, run_length, due_with, due_stitched, due_l
 use Rattle.channel_spec.proofs.Windows.{split_at}
 use Rattle.channel_spec.specs.Sound.{IsSoundPlaylist}
 use Rattle.channel_spec.proofs.DueCut.{length_of, due_capped, due_cut, length_first, length_behind}
-use Rattle.channel_spec.proofs.Starts.{StartAt, StartOf, all_start, rest_with, rest_found, rest_is, Below, below_start, none_before}
+use Rattle.channel_spec.proofs.Starts.{StartAt, StartOf, all_start, rest_with, rest_is, Below, below_start, none_before}
 
 -- ---- the numbers of the first item
 
@@ -63,9 +63,7 @@ heads : (first n : Numbers) (whole pieces : List Piece) (rest : List Item) → 0
     → list_all fits (numbered first whole) ≡ list_all fits (numbered n pieces)
 heads first n whole [] rest h e = absurd (omega (arith, h))
 heads first n [] (p ∷ pieces) rest h e = absurd (cc)
-heads first n (q ∷ whole) (p ∷ pieces) rest h e =
-    let same : ◌≡◌ {A = Item} (record { piece = q; numbers = numbers_at first q whole }) (record { piece = p; numbers = numbers_at n p pieces }) = cc in
-    newest_fits first q whole ∙ (ap fits same ∙ sym (newest_fits n p pieces))
+heads first n (q ∷ whole) (p ∷ pieces) rest h e = grind (arith, newest_fits)
 
 -- ---- what is owed
 
@@ -82,13 +80,11 @@ owed_by p w date_ranges = record {
 
 date_ranges_by : (p : Playlist) (w v : List Item) (ids other : List (List ℕ)) → w ≡ v → ids ≡ other
     → date_ranges_left (list_any states_instant w) ids p.date_ranges ≡ date_ranges_left (list_any states_instant v) other p.date_ranges
-date_ranges_by p w v ids other e h =
-    ap (λ (u : List Item). date_ranges_left (list_any states_instant u) ids p.date_ranges) e ∙ ap (λ is. date_ranges_left (list_any states_instant v) is p.date_ranges) h
+date_ranges_by p w v ids other e h = grind arith
 
 owed_same : (p : Playlist) (w v : List Item) (ids other : List (List ℕ)) → w ≡ v → ids ≡ other
     → owed_by p w (filter (λ (r : DateRange). not (is_one_of ids r.id)) p.date_ranges) ≡ owed_by p v (filter (λ (r : DateRange). not (is_one_of other r.id)) p.date_ranges)
-owed_same p w v ids other e h =
-    ap (λ (u : List Item). owed_by p u (filter (λ (r : DateRange). not (is_one_of ids r.id)) p.date_ranges)) e ∙ ap (λ is. owed_by p v (filter (λ (r : DateRange). not (is_one_of is r.id)) p.date_ranges)) h
+owed_same p w v ids other e h = grind arith
 
 -- a list of the segments that are shown and of new ones, after which those that are gone stand
 pub record Parts (first : ℕ) (list gone : List Marked) (history : List Marked) (entered : Option (List ℕ)) : Type 0 where
@@ -125,23 +121,9 @@ stand_on whole more s gone start rest b l =
 
 -- ---- the rest, counted from another item
 
-lt_same : (a b c d : ℕ) → a + d ≡ c + b → nat_lt a b ≡ nat_lt c d
-lt_same a b c d e = step (nat_lt a b) refl (nat_lt c d) refl
-  where
-    step : (t : Bool) → nat_lt a b ≡ t → (u : Bool) → nat_lt c d ≡ u → t ≡ u
-    step true p true q = refl
-    step false p false q = refl
-    step true p false q = absurd (omega (arith, e, ltb-true a b p, ltb-false c d q))
-    step false p true q = absurd (omega (arith, e, ltb-false a b p, ltb-true c d q))
-
 rest_shift : (base below start later place whole : ℕ) (list all : List Marked) → later ≡ start + below → whole ≡ place + base + below → newest_mark all ≡ newest_mark list
     → newest_place all ≡ newest_place list + base + below → rest_with base start place list ≡ rest_with 0 later whole all
-rest_shift base below start later place whole list all e f g h =
-    let test : nat_lt start (place + base) ≡ nat_lt later (whole + 0) = lt_same start (place + base) later (whole + 0) (omega (arith, e, f)) in
-    let n : start - (newest_place list + base) ≡ later - (newest_place all + 0) = omega (arith, e, h) in
-    let there : ℕ → Mark → Rest = λ k mark. record { mark = mark; place = k } in
-    let found : rest_found base start list ≡ rest_found 0 later all = ap (λ k. option_map (there k) (newest_mark list)) n ∙ ap (λ o. option_map (there (later - (newest_place all + 0))) o) (sym g) in
-    ap (λ t. cond t (rest_found base start list) None) test ∙ ap (λ o. cond (nat_lt later (whole + 0)) o None) found
+rest_shift base below start later place whole list all e f g h = grind arith
 
 -- the segments before a number above the oldest one that is kept
 pub record Gone (number : ℕ) (more : List Marked) (s : Marked) (gone : List Marked) : Type 0 where

@@ -1,11 +1,11 @@
 -- A segment that goes on a run has its very fill.
-use Rattle.std.proofs.Common.{◌≡◌, ℕ, Bool, true, false, cond, List, [], ◌∷◌, refl, ap, subst}
-use Rattle.std.specs.Prelude.{Option, Some, None, is_none, ℤ, filter}
+use Rattle.std.proofs.Common.{◌≡◌, ℕ, Bool, true, false, cond, List, [], ◌∷◌, refl, subst, arith}
+use Rattle.std.specs.Prelude.{Option, Some, None, ℤ}
 use Rattle.playlist_model.specs.declared.Segment.{Segment}
 use Rattle.playlist_model.specs.LookBack.{or_earlier}
 use Rattle.pod_store.specs.Marks.{Mark, Marked, newest_mark, are_one}
-use Rattle.channel_spec.specs.Marking.{Moment, last_entered, continued, is_inside, entered, instant_of, next_shown, show_all, is_new}
-use Rattle.channel_spec.specs.Live.{Event, decided, refreshed, Told, told, happens, refusal, after_refresh, moment}
+use Rattle.channel_spec.specs.Marking.{Moment, last_entered, continued, is_inside, entered, instant_of, next_shown, show_all}
+use Rattle.channel_spec.specs.Live.{Event, Told, told, happens}
 use Rattle.break_finder.specs.Known.{is_this}
 use Rattle.channel_spec.specs.LiveLaws.{Linked, HistoriesAreLinked, MarksFollow}
 use Rattle.channel_spec.proofs.Entries.{IsEntered, entered_is}
@@ -53,18 +53,11 @@ either true t u h k = h
 either false t u h k = k
 
 event_linked : (tolerance : ℕ) (t : Told) (event : Event) → Linked t.history → Linked (happens tolerance t event).history
-event_linked tolerance t (decided ds) h = h
-event_linked tolerance t (refreshed playlist) h =
-    either (is_none (refusal tolerance t playlist)) (after_refresh tolerance t playlist) t (link_all (moment tolerance t playlist) t.history (filter (is_new t.history) playlist.segments) h) h
+event_linked tolerance t event h = grind (arith, either, link_all)
 
 pub histories_are_linked : HistoriesAreLinked
 histories_are_linked tolerance [] = tt
 histories_are_linked tolerance (event ∷ before) = event_linked tolerance (told tolerance before) event (histories_are_linked tolerance before)
 
 pub marks_follow : MarksFollow
-marks_follow m newest before other s later e =
-    ap (λ l. record {
-      segment = s;
-      instant = instant_of (newest ∷ []) s later;
-      mark = or_earlier (continued m (instant_of (newest ∷ []) s later) newest.mark) (entered m (instant_of (newest ∷ []) s later) l);
-    }) e
+marks_follow m newest before other s later e = grind arith

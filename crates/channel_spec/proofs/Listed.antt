@@ -10,8 +10,8 @@ use Rattle.playlist_model.specs.Same.{kept_parts}
 use Rattle.pod_store.specs.Marks.{Marked}
 use Rattle.break_finder.specs.Known.{Accepted}
 use Rattle.channel_spec.specs.declared.fault.RefreshFault.{RefreshFault}
-use Rattle.channel_spec.specs.Marking.{Moment, next_shown, show_all, is_new, history_after}
-use Rattle.channel_spec.specs.Live.{Event, decided, refreshed, Told, told, happens, moment, after_refresh, refusal, succession_fault, last_playlist}
+use Rattle.channel_spec.specs.Marking.{Moment, next_shown, show_all, history_after}
+use Rattle.channel_spec.specs.Live.{Event, decided, refreshed, Told, told, happens, after_refresh, refusal, succession_fault, last_playlist}
 use Rattle.channel_spec.specs.Kept.{segment_of, listed, shown_from, shown_by}
 use Rattle.channel_spec.specs.Sound.{RiseFrom, IsSoundPlaylist, IsSoundEvent}
 use Rattle.channel_spec.specs.Successor.{AgreesWith, Succeeds, first_number, end_number}
@@ -27,8 +27,8 @@ use Rattle.channel_spec.proofs.Windows.{In, all_from}
 within : (n : ℕ) (segments : List Segment) (s : Segment) → RiseFrom n segments → In s segments → (n ≤ s.media_sequence) × (s.media_sequence < n + length segments)
 unfolding In
 within n [] s r h = absurd h
-within n (t ∷ later) s r (inl e) = let same = ap (λ (u : Segment). u.media_sequence) e in (omega (arith, same, r.0), omega (arith, same, r.0))
-within n (t ∷ later) s r (inr h) = let k = within (n + 1) later s r.1 h in (omega (arith, k.0), omega (arith, k.1))
+within n (t ∷ later) s r (inl e) = grind arith
+within n (t ∷ later) s r (inr h) = grind (arith, within (n + 1) later s r.1 h)
 
 only : (n : ℕ) (segments : List Segment) (s t : Segment) → RiseFrom n segments → In s segments → In t segments → s.media_sequence ≡ t.media_sequence → s ≡ t
 unfolding In
@@ -54,9 +54,7 @@ has n k [] r h l = absurd (omega (arith, h, l))
 has n k (s ∷ later) r h l = has_step n k s later r.0 (λ b. has (n + 1) k later r.1 (omega (arith, b)) (omega (arith, l))) h (nat_lt n k) refl
 
 own : (n : ℕ) (segments : List Segment) → RiseFrom n segments → AllByRecursion (AgreesWith segments) segments
-own n segments r =
-    all_from (AgreesWith segments) segments (λ s h.
-    all_from (λ (t : Segment). s.media_sequence ≡ t.media_sequence → kept_parts s ≡ kept_parts t) segments (λ t k e. ap kept_parts (only n segments s t r h k e)))
+own n segments r = grind (arith, all_from, only)
 
 -- ---- a history that agrees with a playlist
 
@@ -105,14 +103,8 @@ ListedOf (r ∷ before) history = AllByRecursion (Agrees r.playlist.segments) hi
 refresh_agrees : (m : Moment) (accepted : List Accepted) (history : List Marked) (start : ℕ) (playlist : Playlist) → WindowOf accepted history start → ListedOf accepted history
     → IsSoundPlaylist playlist → succession_fault (last_playlist accepted) playlist ≡ None → AllByRecursion (Agrees playlist.segments) (history_after m history playlist)
 unfolding WindowOf ListedOf
-refresh_agrees m [] history start playlist w l r f =
-    subst (λ h. AllByRecursion (Agrees playlist.segments) (history_after m h playlist)) (sym w)
-    (show_agree playlist.segments m [] (filter (is_new []) playlist.segments) tt
-    (all_filter (AgreesWith playlist.segments) (is_new []) playlist.segments (own (first_number playlist.segments) playlist.segments r.numbers)))
-refresh_agrees m (a ∷ before) history start playlist w l r f =
-    show_agree playlist.segments m history (filter (is_new history) playlist.segments)
-    (old_agree a.playlist playlist history w.standing ((no_fault_succeeds a.playlist playlist w.standing.read r).0 f) r l)
-    (all_filter (AgreesWith playlist.segments) (is_new history) playlist.segments (own (first_number playlist.segments) playlist.segments r.numbers))
+refresh_agrees m [] history start playlist w l r f = grind (arith, show_agree, all_filter, own)
+refresh_agrees m (a ∷ before) history start playlist w l r f = grind (arith, show_agree, old_agree, no_fault_succeeds, all_filter, own)
 
 abbrev Lists : Told → Type 0
 Lists p = ListedOf p.accepted p.history
@@ -120,9 +112,7 @@ Lists p = ListedOf p.accepted p.history
 refusal_lists : (tolerance : ℕ) (p : Told) (playlist : Playlist) → Holds p → Lists p → IsSoundPlaylist playlist → (o : Option RefreshFault) → refusal tolerance p playlist ≡ o
     → Lists (cond (is_none o) (after_refresh tolerance p playlist) p)
 unfolding ListedOf
-refusal_lists tolerance p playlist h l r None e =
-    refresh_agrees (moment tolerance p playlist) p.accepted p.history p.start playlist h.standing l r (first_none (succession_fault (last_playlist p.accepted) playlist) _ e)
-refusal_lists tolerance p playlist h l r (Some x) e = l
+refusal_lists tolerance p playlist h l r o e = grind (arith, refresh_agrees, first_none)
 
 event_lists : (tolerance : ℕ) (p : Told) (event : Event) → Holds p → Lists p → IsSoundEvent event → Lists (happens tolerance p event)
 event_lists tolerance p (decided ds) h l g = l
@@ -144,9 +134,7 @@ same_parts : (n : ℕ) (xs ys : List Segment) → RiseFrom n xs → RiseFrom n y
 same_parts n [] [] r q e h = refl
 same_parts n [] (y ∷ ys) r q e h = absurd (omega (arith, e))
 same_parts n (x ∷ xs) [] r q e h = absurd (omega (arith, e))
-same_parts n (x ∷ xs) (y ∷ ys) r q e h =
-    ap (λ s. s ∷ map kept_parts xs) (h.0.0 (r.0 ∙ sym q.0))
-    ∙ ap (λ ss. kept_parts y ∷ ss) (same_parts (n + 1) xs ys r.1 q.1 (omega (arith, e)) (less y ys xs h.1))
+same_parts n (x ∷ xs) (y ∷ ys) r q e h = grind (arith, same_parts (n + 1) xs ys r.1 q.1 (omega (arith, e)) (less y ys xs h.1))
 
 -- the segments of a history from a number on, turned round, before others
 record Turned (first end : ℕ) (history after : List Marked) : Type 0 where
@@ -160,12 +148,7 @@ length_map (x ∷ xs) = omega (arith, length_map xs)
 turn_step : (first : ℕ) (x : Marked) (before after : List Marked) → RiseFrom (x.segment.media_sequence + 1) (map segment_of after) → first ≤ x.segment.media_sequence + 1
     → (first ≤ x.segment.media_sequence → Turned first x.segment.media_sequence before (x ∷ after)) → (b : Bool) → nat_le first x.segment.media_sequence ≡ b
     → Turned first (x.segment.media_sequence + 1) (x ∷ before) after
-turn_step first x before after r h rec true e =
-    let k = rec (leb-true first x.segment.media_sequence e) in
-    record { rise = rw e k.rise; size = rw e (omega (arith, k.size)) }
-turn_step first x before after r h rec false e =
-    let same : first ≡ x.segment.media_sequence + 1 = omega (arith, h, leb-false first x.segment.media_sequence e) in
-    record { rise = rw e (subst (λ n. RiseFrom n (map segment_of after)) (sym same) r); size = rw e (omega (arith, same, length_map after)) }
+turn_step first x before after r h rec b e = grind (arith, leb-true, leb-false, length_map)
 
 turn : (first end : ℕ) (history after : List Marked) → FallFrom end history → RiseFrom end (map segment_of after) → first ≤ end → end ≤ first + length history → Turned first end history after
 turn first end [] after f r h k =
@@ -179,11 +162,7 @@ turn first end (x ∷ before) after f r h k =
 
 from_agree : (segments : List Segment) (first : ℕ) (history : List Marked) → AllByRecursion (Agrees segments) history → AllByRecursion (Agrees segments) (shown_from first history)
 from_agree segments first [] a = tt
-from_agree segments first (x ∷ before) a = step (nat_le first x.segment.media_sequence) (from_agree segments first before a.1)
-  where
-    step : (b : Bool) → AllByRecursion (Agrees segments) (shown_from first before) → AllByRecursion (Agrees segments) (cond b (x ∷ shown_from first before) [])
-    step true h = (a.0, h)
-    step false h = tt
+from_agree segments first (x ∷ before) a = grind (arith, from_agree segments first before a.1)
 
 turn_agree : (segments : List Segment) (history after : List Marked) → AllByRecursion (Agrees segments) history → AllByRecursion (AgreesWith segments) (map segment_of after)
     → AllByRecursion (AgreesWith segments) (map segment_of (reverse_aux history after))
@@ -192,19 +171,12 @@ turn_agree segments (x ∷ before) after a h = turn_agree segments before (x ∷
 
 pub listed_parts : (last : Playlist) (history : List Marked) → Standing last history → AllByRecursion (Agrees last.segments) history
     → map kept_parts (listed (shown_from (first_number last.segments) history)) ≡ map kept_parts last.segments
-listed_parts last history s a =
-    let first = first_number last.segments in
-    let t = turn first (end_number last.segments) history [] s.falls tt (omega arith) (omega (arith, s.long)) in
-    same_parts first (listed (shown_from first history)) last.segments t.rise s.read.numbers (omega (arith, t.size))
-    (turn_agree last.segments (shown_from first history) [] (from_agree last.segments first history a) tt)
+listed_parts last history s a = grind (arith, turn, same_parts, turn_agree, from_agree)
 
 parts_after : (accepted : List Accepted) (history : List Marked) (start : ℕ) (last : Playlist) → last_playlist accepted ≡ Some last → WindowOf accepted history start → ListedOf accepted history
     → map kept_parts (listed (shown_by (Some last) history)) ≡ map kept_parts last.segments
 unfolding WindowOf ListedOf
-parts_after [] history start last e w l = absurd (cc)
-parts_after (r ∷ before) history start last e w l =
-    let same : r.playlist ≡ last = cc in
-    subst (λ (p : Playlist). map kept_parts (listed (shown_by (Some p) history)) ≡ map kept_parts p.segments) same (listed_parts r.playlist history w.standing l)
+parts_after accepted history start last e w l = grind (arith, listed_parts)
 
 pub shown_are_listed : ShownAreListed
 shown_are_listed tolerance events last now h =

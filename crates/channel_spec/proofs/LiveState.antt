@@ -1,15 +1,12 @@
 -- What holds of all that a list of events tells, and that each window succeeds the one before.
 use Rattle.std.proofs.Common.{◌≡◌, ℕ, ◌+◌, ◌<◌, ◌≤◌, Bool, true, false, cond, not, ◌||◌, List, [], ◌∷◌, ◌++◌, map, length, refl, ap, sym, ◌∙◌, subst, arith}
-use Rattle.std.specs.Prelude.{Option, Some, None, Ok, fold, is_some, filter, nat_lt, bytes_eq}
+use Rattle.std.specs.Prelude.{Option, None, Ok, fold, is_some, filter, nat_lt, bytes_eq}
 use Rattle.std.specs.List.{AllByRecursion}
 use Rattle.playlist_model.specs.declared.Segment.{Segment}
 use Rattle.playlist_model.specs.declared.Playlist.{Playlist}
 use Rattle.pod_store.specs.Pods.{Pod}
-use Rattle.std.specs.List.{list_any}
-use Rattle.pod_store.specs.declared.fault.DecisionKind.TheVariants.{Used, Full, Unknown}
-use Rattle.pod_store.specs.Store.{Entry, Store, with_entries, has_id, put, without, names_used, count_with, has_own, is_used, copied_last, with_copy, with_copies, is_one_of, kept_in_use}
+use Rattle.pod_store.specs.Store.{Entry, Store, put, without, copied_last, with_copy, with_copies, is_one_of, kept_in_use}
 use Rattle.spec_words.specs.Outcomes.{refuse_if}
-use Rattle.pod_store.specs.Outcome.{fault_at, nowhere}
 use Rattle.pod_store.specs.declared.fault.DecisionFault.{DecisionFault}
 use Rattle.pod_store.specs.declared.Decisions.{Decisions}
 use Rattle.pod_store.specs.declared.Decisions.TheVariants.{Breaks, Withdraw, Fallback, NoFallback}
@@ -137,7 +134,7 @@ without_step e store more h k false = (h.0, k)
 without_pods : (id : List ℕ) (store : List Entry) → HavePods store → HavePods (without id store)
 unfolding HavePods
 without_pods id [] h = tt
-without_pods id (e ∷ store) h = without_step e store (without id store) h (without_pods id store h.1) (has_id id e)
+without_pods id (e ∷ store) h = grind (arith, without_pods id store h.1)
 
 either_store : (a b : Bool) (f g : DecisionFault) (x y : Store) → IsStore x → IsStore y → IsStore (taken x (refuse_if a f (refuse_if b g (Ok y))))
 either_store true b f g x y h k = h
@@ -146,12 +143,8 @@ either_store false false f g x y h k = k
 
 pub decide_pods : (ds : Decisions) (store : Store) → AllPods IsSoundPod ds → IsStore store → IsStore (decide ds store)
 unfolding IsPodOrNone
-decide_pods (Breaks ds) store p h =
-    either_store (list_any (names_used store) ds) (nat_lt 256 (count_with store ds)) (fault_at nowhere Used) (fault_at nowhere Full) store (with_entries store (fold put store.entries ds)) h
-    (record { entries = put_all_pods ds store.entries p h.entries; fallback = h.fallback })
-decide_pods (Withdraw id) store p h =
-    either_store (not (has_own store id)) (is_used store id) (fault_at nowhere Unknown) (fault_at nowhere Used) store (with_entries store (without id store.entries)) h
-    (record { entries = without_pods id store.entries h.entries; fallback = h.fallback })
+decide_pods (Breaks ds) store p h = grind (arith, either_store, put_all_pods)
+decide_pods (Withdraw id) store p h = grind (arith, either_store, without_pods)
 decide_pods (Fallback pod) store p h = record { entries = h.entries; fallback = p }
 decide_pods NoFallback store p h = record { entries = h.entries; fallback = tt }
 
@@ -162,15 +155,10 @@ last_pod (e ∷ store) x h p = (h.0, last_pod store x h.1 p)
 
 copy_pods : (id : List ℕ) (store : List Entry) (pod : Option Pod) → HavePods store → IsPodOrNone pod → HavePods (copied_last store id pod)
 unfolding IsPodOrNone
-copy_pods id store None h p = h
-copy_pods id store (Some pod) h p = last_pod store (record { id = id; pod = pod; used = true; copied = true }) h p
+copy_pods id store pod h p = grind (arith, last_pod)
 
 copied_pods : (store : Store) (id : List ℕ) → IsStore store → IsStore (with_copy store id)
-copied_pods store id h = by (has_own store id)
-  where
-    by : (b : Bool) → IsStore (cond b store (with_entries store (copied_last store.entries id store.fallback)))
-    by true = h
-    by false = record { entries = copy_pods id store.entries store.fallback h.entries h.fallback; fallback = h.fallback }
+copied_pods store id h = grind (arith, IsStore, copy_pods)
 
 copies_pods : (store : Store) (ids : List (List ℕ)) → IsStore store → IsStore (with_copies store ids)
 copies_pods store [] h = h

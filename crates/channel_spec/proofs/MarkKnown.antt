@@ -1,21 +1,19 @@
 -- The mark of the newest segment is known.
-use Rattle.std.proofs.Common.{◌≡◌, ℕ, ◌+◌, ◌<◌, Bool, true, false, cond, List, [], ◌∷◌, refl, ap, subst, arith}
-use Rattle.std.specs.Prelude.{Option, Some, None, is_none, IsSome, option_map, ℤ, filter}
+use Rattle.std.proofs.Common.{◌≡◌, ℕ, ◌+◌, ◌<◌, Bool, true, false, cond, List, [], ◌∷◌, refl, ap, arith}
+use Rattle.std.specs.Prelude.{Option, Some, None, IsSome, option_map, ℤ, filter}
 use Rattle.std.specs.List.{list_any}
 use Rattle.playlist_model.specs.declared.Segment.{Segment}
 use Rattle.playlist_model.specs.declared.Playlist.{Playlist}
 use Rattle.playlist_model.specs.LookBack.{or_earlier}
 use Rattle.pod_store.specs.Marks.{Mark, Marked, newest_mark}
-use Rattle.channel_spec.specs.Marking.{Moment, last_entered, continued, is_inside, entered, mark_of, instant_of, next_shown, show_all, is_new}
-use Rattle.channel_spec.specs.Live.{Event, decided, refreshed, Told, told, happens, refusal, after_refresh, moment, acceptance}
+use Rattle.channel_spec.specs.Marking.{Moment, continued, entered, mark_of, instant_of, next_shown, show_all, is_new}
+use Rattle.channel_spec.specs.Live.{Event, decided, refreshed, Told, told, happens, after_refresh, moment, acceptance}
 use Rattle.break_finder.specs.Known.{known, known_ids, age, stands, is_this, is_tag_of}
 use Rattle.break_finder.specs.Breaks.{Break, break_of}
 use Rattle.break_finder.specs.Laws.{CarriesKnown}
 use Rattle.channel_spec.specs.LiveLaws.{MarksAreKnown}
 use Rattle.break_finder.proofs.Carried.{stood_known, known_stood, in_some, some_in, same_bytes, or_right}
 use Rattle.channel_spec.proofs.Entries.{IsEntered, entered_is}
-use Rattle.break_finder.specs.Entering.{is_inside_said}
-use Rattle.break_finder.specs.Breaks.{said_in}
 
 Known : List Break → Option Mark → Type 0
 Known breaks None = Unit {0}
@@ -25,22 +23,9 @@ or_known : (breaks : List Break) (a b : Option Mark) → Known breaks a → Know
 or_known breaks None b f g = g
 or_known breaks (Some x) b f g = f
 
-inside_known : (m : Moment) (instant : ℤ) (f : Mark) (o : Option Break) → is_inside_said (Some instant) m.tolerance f.pod (option_map said_in o) ≡ true → IsSome o
-inside_known m instant f None e = absurd (cc)
-inside_known m instant f (Some b) e = refl
-
-is_known : (m : Moment) (instant : Option ℤ) (f : Mark) → is_inside m instant f ≡ true → IsSome (break_of m.breaks f.id)
-is_known m None f e = absurd (cc)
-is_known m (Some instant) f e = inside_known m instant f (break_of m.breaks f.id) e
-
 continued_known : (m : Moment) (instant : Option ℤ) (o : Option Mark) → Known m.breaks (continued m instant o)
 unfolding Known
-continued_known m instant None = tt
-continued_known m instant (Some f) = step (is_inside m instant f) refl
-  where
-    step : (b : Bool) → is_inside m instant f ≡ b → Known m.breaks (cond b (Some f) None)
-    step true e = is_known m instant f e
-    step false e = tt
+continued_known m instant o = grind arith
 
 entry_known : (m : Moment) (last : Option (List ℕ)) (o : Option Mark) → IsEntered m last o → Known m.breaks o
 unfolding Known IsEntered
@@ -51,8 +36,7 @@ entered_known : (m : Moment) (instant : Option ℤ) (last : Option (List ℕ)) �
 entered_known m instant last = entry_known m last (entered m instant last) (entered_is m instant last)
 
 fill_known : (m : Moment) (before : List Marked) (instant : Option ℤ) → Known m.breaks (mark_of m before instant)
-fill_known m before instant =
-    or_known m.breaks (continued m instant (newest_mark before)) (entered m instant (last_entered before)) (continued_known m instant (newest_mark before)) (entered_known m instant (last_entered before))
+fill_known m before instant = grind (arith, or_known, continued_known, entered_known)
 
 show_known : (m : Moment) (history : List Marked) (segments : List Segment) → Known m.breaks (newest_mark history) → Known m.breaks (newest_mark (show_all m history segments))
 show_known m history [] h = h
@@ -76,8 +60,7 @@ record Carried (t : Told) : Type 0 where
 
 carried_known : (breaks : List Break) (o : Option Mark) → Known breaks o → (id : List ℕ) → option_map (λ (f : Mark). f.id) o ≡ Some id → IsSome (break_of breaks id)
 unfolding Known
-carried_known breaks None k id e = absurd (cc)
-carried_known breaks (Some f) k id e = let same : f.id ≡ id = cc in subst (λ j. IsSome (break_of breaks j)) same k
+carried_known breaks o k id e = grind arith
 
 refresh_carries : (tolerance : ℕ) (t : Told) (playlist : Playlist) → Carried t → Carried (after_refresh tolerance t playlist)
 refresh_carries tolerance t playlist h =
@@ -91,7 +74,7 @@ either false t u h k = k
 
 event_carries : (tolerance : ℕ) (t : Told) (event : Event) → Carried t → Carried (happens tolerance t event)
 event_carries tolerance t (decided ds) h = record { carries = h.carries; newest = h.newest }
-event_carries tolerance t (refreshed playlist) h = either (is_none (refusal tolerance t playlist)) (after_refresh tolerance t playlist) t (refresh_carries tolerance t playlist h) h
+event_carries tolerance t (refreshed playlist) h = grind (arith, either, refresh_carries)
 
 all_carried : (tolerance : ℕ) (events : List Event) → Carried (told tolerance events)
 unfolding Known

@@ -1,5 +1,5 @@
 -- The stitched list as segments of a written playlist.
-use Rattle.std.proofs.Common.{◌≡◌, ℕ, ◌-◌, List, [], ◌∷◌, ◌++◌, map, reverse, length, take, refl, ap, sym, ◌∙◌}
+use Rattle.std.proofs.Common.{◌≡◌, ℕ, List, [], ◌∷◌, ◌++◌, map, reverse, refl, arith}
 use Rattle.std.proofs.lemmas.List.{take-map, length-map, map-append}
 use Rattle.std.proofs.lemmas.Grind.{reverse_onto}
 use Rattle.playlist_model.specs.declared.Segment.{Segment}
@@ -21,12 +21,11 @@ reverse-cons x xs = reverse_onto xs x []
 
 pub map-reverse : {A B : Type 0} (f : A → B) (xs : List A) → map f (reverse xs) ≡ reverse (map f xs)
 map-reverse f [] = refl
-map-reverse f (x ∷ xs) =
-    ap (map f) (reverse-cons x xs) ∙ (map-append f (reverse xs) (x ∷ []) ∙ (ap (λ t. t ++ (f x ∷ [])) (map-reverse f xs) ∙ sym (reverse-cons (f x) (map f xs))))
+map-reverse f (x ∷ xs) = grind (arith, reverse-cons, map-append, reverse, map-reverse f xs)
 
 pub map-from_place : {A B : Type 0} (f : A → B) (place : ℕ) (xs : List A) → map f (from_place place xs) ≡ from_place place (map f xs)
-map-from_place f place xs = sym (ap (λ n. take (n - place) (map f xs)) (length-map xs f) ∙ take-map f (length xs - place) xs)
+map-from_place f place xs = grind (arith, length-map, take-map)
 
 -- a window's segments are the window of the segments
 pub map-window : (place : ℕ) (items : List Item) → map item_segment (reverse (from_place place items)) ≡ reverse (from_place place (map item_segment items))
-map-window place items = map-reverse item_segment (from_place place items) ∙ ap reverse (map-from_place item_segment place items)
+map-window place items = grind (arith, map-reverse, reverse, map-from_place)

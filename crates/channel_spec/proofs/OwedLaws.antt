@@ -1,17 +1,17 @@
 -- What is owed, in the words of a playlist.
-use Rattle.std.proofs.Common.{◌≡◌, ℕ, ◌-◌, ◌≤◌, Bool, true, false, cond, not, ◌&&◌, ◌||◌, List, [], ◌∷◌, ◌++◌, map, filter, take, drop, length, reverse, refl, ap, sym, ◌∙◌, subst, length-append, arith}
+use Rattle.std.proofs.Common.{◌≡◌, ℕ, ◌-◌, ◌≤◌, Bool, true, false, cond, ◌&&◌, ◌||◌, List, [], ◌∷◌, ◌++◌, map, filter, take, length, reverse, refl, ap, sym, ◌∙◌, subst, length-append, arith}
 use Rattle.std.proofs.lemmas.List.{take-map, append-nil}
 use Rattle.std.proofs.lemmas.List.Elements.{filter-append}
 use Rattle.std.proofs.Math.Seq.{take-append_seam}
-use Rattle.std.specs.Prelude.{Option, Some, None, Ok, Err, is_some, is_none, nat_le, option_map}
+use Rattle.std.specs.Prelude.{Option, Some, None, Ok, Err, is_some, is_none, nat_le}
 use Rattle.std.specs.List.{AllByRecursion, list_any}
 use Rattle.playlist_model.specs.declared.DateRange.{DateRange}
 use Rattle.playlist_model.specs.declared.Playlist.{Playlist}
-use Rattle.pod_store.specs.Marks.{Mark, Marked, newest_mark, continues, are_one}
-use Rattle.stitcher.specs.Stitched.{Piece, Item, Numbers, is_kept, kept_piece, pod_pieces, run_pieces, stitched, numbered, first_numbers, from_place}
+use Rattle.pod_store.specs.Marks.{Mark, Marked, continues}
+use Rattle.stitcher.specs.Stitched.{Piece, Item, Numbers, is_kept, kept_piece, run_pieces, stitched, numbered, first_numbers, from_place}
 use Rattle.stitcher.specs.Paced.{Rest, older, run_length, due, newest_pieces, due_with, due_stitched, rest_pieces}
 use Rattle.channel_spec.specs.declared.fault.RefreshFault.{RefreshFault}
-use Rattle.pod_store.specs.Store.{Store, own_pod, pod_for, is_named, is_one_of, is_used, kept_in_use}
+use Rattle.pod_store.specs.Store.{Store, is_named, kept_in_use}
 use Rattle.pod_store.specs.Outcome.{Outcome}
 use Rattle.pod_store.specs.Store.{decided as after_decisions}
 use Rattle.pod_store.specs.Laws.{Call, after_calls, are_distinct}
@@ -20,10 +20,10 @@ use Rattle.pod_store.proofs.StoreLaws.{stays_small, pods_in_use}
 use Rattle.break_finder.specs.Known.{Accepted}
 use Rattle.channel_spec.specs.Marking.{history_after}
 use Rattle.channel_spec.specs.Successor.{first_number, end_number}
-use Rattle.channel_spec.specs.Live.{Event, decided, refreshed, Told, told, last_playlist, refusal, rest_by, rest_over, in_use, breaks_in_use, taken, after_refresh, moment, start_after, item_segment, states_instant, window_after, window_from, owed_for}
+use Rattle.channel_spec.specs.Live.{Event, decided, refreshed, Told, told, last_playlist, refusal, rest_by, rest_over, breaks_in_use, taken, after_refresh, moment, start_after, item_segment, states_instant, window_from, owed_for}
 use Rattle.channel_spec.specs.LiveLaws.{Linked}
 use Rattle.channel_spec.specs.Kept.{shown_by, shown_from, capped}
-use Rattle.channel_spec.specs.OwedLaws.{IsOwed, HeaderIsTheLast, states_time, is_played, DateRangesAreTheOrigins, piece_of, segment_of, WindowIsStitched, is_unmarked, origin_of, UnmarkedStandOnce, PlayAs, SegmentsPlayTheWindow, PodsAreKept, StoreStaysSmall}
+use Rattle.channel_spec.specs.OwedLaws.{IsOwed, HeaderIsTheLast, states_time, DateRangesAreTheOrigins, piece_of, segment_of, WindowIsStitched, is_unmarked, origin_of, UnmarkedStandOnce, PlayAs, SegmentsPlayTheWindow, PodsAreKept, StoreStaysSmall}
 use Rattle.channel_spec.proofs.Windows.{reverse-cons}
 use Rattle.channel_spec.proofs.EachWindow.{WindowOf, WindowStanding, holds}
 use Rattle.channel_spec.proofs.Linked.{histories_are_linked}
@@ -38,21 +38,10 @@ use Rattle.channel_spec.proofs.Runs.{nothing_continues}
 -- ---- what is owed is what was accepted last, with the window
 
 pub owed_is : (tolerance : ℕ) (events : List Event) (last now : Playlist) → IsOwed tolerance events last now → owed_for (told tolerance events) last ≡ now
-owed_is tolerance events last now h =
-    let t = told tolerance events in
-    let both : ◌≡◌ {A = Option Playlist} (Some (owed_for t last)) (Some now) = sym (ap (option_map (owed_for t)) h.accepted) ∙ h.owed in
-    cc
+owed_is tolerance events last now h = grind arith
 
 pub header_is_the_last : HeaderIsTheLast
-header_is_the_last tolerance events last now h =
-    let e = owed_is tolerance events last now h in
-    record {
-      version = ap (λ (p : Playlist). p.version) (sym e);
-      target_duration = ap (λ (p : Playlist). p.target_duration) (sym e);
-      playlist_type = ap (λ (p : Playlist). p.playlist_type) (sym e);
-      independent_segments = ap (λ (p : Playlist). p.independent_segments) (sym e);
-      end_list = ap (λ (p : Playlist). p.end_list) (sym e);
-    }
+header_is_the_last tolerance events last now h = grind arith
 
 -- ---- date ranges
 
@@ -70,20 +59,10 @@ left_by false date_ranges test = none_left date_ranges test
 
 pub same_left : (date_ranges : List DateRange) (f g : DateRange → Bool) → ((r : DateRange) → f r ≡ g r) → filter f date_ranges ≡ filter g date_ranges
 same_left [] f g h = refl
-same_left (r ∷ date_ranges) f g h = ap (λ b. cond b (r ∷ filter f date_ranges) (filter f date_ranges)) (h r) ∙ ap (λ rs. cond (g r) (r ∷ rs) rs) (same_left date_ranges f g h)
+same_left (r ∷ date_ranges) f g h = grind (arith, same_left date_ranges f g h)
 
 pub date_ranges_are_the_origins : DateRangesAreTheOrigins
-date_ranges_are_the_origins tolerance events last now h =
-    let t = told tolerance events in
-    let e = owed_is tolerance events last now h in
-    let ids = breaks_in_use t.start (first_number last.segments) t.history in
-    let stated = list_any states_instant (window_after t last) in
-    let times : stated ≡ list_any states_time now.segments = timed (window_after t last) ∙ ap (λ (p : Playlist). list_any states_time p.segments) e in
-    ap (λ (p : Playlist). p.date_ranges) (sym e)
-    ∙ (left_by stated last.date_ranges (λ (r : DateRange). not (is_one_of ids r.id))
-    ∙ (ap (λ b. filter (λ (r : DateRange). b && not (is_one_of ids r.id)) last.date_ranges) times
-    ∙ same_left last.date_ranges (λ (r : DateRange). list_any states_time now.segments && not (is_one_of ids r.id)) (λ (r : DateRange). list_any states_time now.segments && not (is_played t last r.id))
-    (λ r. ap (λ b. list_any states_time now.segments && not b) (in_use_is_written tolerance events last r.id h.sound h.accepted))))
+date_ranges_are_the_origins tolerance events last now h = grind (arith, owed_is, timed, left_by, same_left, in_use_is_written)
 
 -- ---- the window
 
@@ -151,15 +130,11 @@ window_is_stitched tolerance events last now h =
 
 filter-reverse : {A : Type 0} (test : A → Bool) (xs : List A) → filter test (reverse xs) ≡ reverse (filter test xs)
 filter-reverse test [] = refl
-filter-reverse test (x ∷ xs) = ap (filter test) (reverse-cons x xs) ∙ (filter-append test (reverse xs) (x ∷ []) ∙ (ap (λ ys. ys ++ filter test (x ∷ [])) (filter-reverse test xs) ∙ step (test x)))
-  where
-    step : (b : Bool) → reverse (filter test xs) ++ cond b (x ∷ []) [] ≡ reverse (cond b (x ∷ filter test xs) (filter test xs))
-    step true = sym (reverse-cons x (filter test xs))
-    step false = append-nil (reverse (filter test xs))
+filter-reverse test (x ∷ xs) = grind (arith, reverse-cons, filter-append, reverse, append-nil, filter-reverse test xs)
 
 none_kept : (mark : Mark) (pieces : List Piece) → AllByRecursion (λ (p : Piece). p.mark ≡ Some mark) pieces → filter is_kept pieces ≡ []
 none_kept mark [] h = refl
-none_kept mark (p ∷ pieces) h = ap (λ o. cond (is_none o) (p ∷ filter is_kept pieces) (filter is_kept pieces)) h.0 ∙ none_kept mark pieces h.1
+none_kept mark (p ∷ pieces) h = grind (arith, none_kept mark pieces h.1)
 
 of_unmarked : Marked → Option Mark → List Piece
 of_unmarked s None = kept_piece s ∷ []
@@ -167,14 +142,11 @@ of_unmarked s (Some f) = []
 
 kept_newest : (whole : Bool) (n : ℕ) (s : Marked) (o : Option Mark) → filter is_kept (newest_pieces whole n s o) ≡ of_unmarked s o
 unfolding of_unmarked
-kept_newest whole n s None = refl
-kept_newest true n s (Some f) = filter-reverse is_kept (pod_pieces f) ∙ ap reverse (none_kept f (pod_pieces f) (ads_of f f.pod.ads))
-kept_newest false n s (Some f) = filter-reverse is_kept (due n (pod_pieces f)) ∙ ap reverse (none_kept f (due n (pod_pieces f)) (due_of f n (pod_pieces f) (ads_of f f.pod.ads)))
+kept_newest whole n s o = grind (arith, filter-reverse, reverse, none_kept, ads_of, due_of)
 
 kept_run : (s : Marked) (o : Option Mark) → filter is_kept (run_pieces s o) ≡ of_unmarked s o
 unfolding of_unmarked
-kept_run s None = refl
-kept_run s (Some f) = filter-reverse is_kept (pod_pieces f) ∙ ap reverse (none_kept f (pod_pieces f) (ads_of f f.pod.ads))
+kept_run s o = grind (arith, filter-reverse, reverse, none_kept, ads_of)
 
 kept_first : (s : Marked) (later : List Marked) (o : Option Mark) → of_unmarked s o ++ map kept_piece (filter is_unmarked later) ≡ map kept_piece (cond (is_none o) (s ∷ filter is_unmarked later) (filter is_unmarked later))
 unfolding of_unmarked
@@ -183,11 +155,7 @@ kept_first s later (Some f) = refl
 
 -- a segment that goes on a run is marked
 marked_on : (s : Marked) (before : List Marked) → continues s before ≡ true → is_unmarked s ≡ false
-marked_on s before e = by s.mark (newest_mark before) e
-  where
-    by : (a b : Option Mark) → are_one a b ≡ true → is_none a ≡ false
-    by None b e = absurd (cc)
-    by (Some f) b e = refl
+marked_on s before e = grind arith
 
 kept_stitched : (history : List Marked) → filter is_kept (stitched history) ≡ map kept_piece (filter is_unmarked history)
 kept_stitched [] = refl
@@ -201,38 +169,14 @@ kept_stitched (s ∷ before) = step (continues s before) refl (kept_stitched bef
 
 -- of the newest run no segment but an unmarked one is kept
 unmarked_older : (s : Marked) (before : List Marked) → Linked (s ∷ before) → filter is_unmarked (s ∷ before) ≡ cond (is_unmarked s) (s ∷ filter is_unmarked (older (s ∷ before))) (filter is_unmarked (older (s ∷ before)))
-unmarked_older s [] l = step (continues s [])
-  where
-    step : (b : Bool) → filter is_unmarked (s ∷ []) ≡ cond (is_unmarked s) (s ∷ filter is_unmarked (cond b [] [])) (filter is_unmarked (cond b [] []))
-    step true = refl
-    step false = refl
-unmarked_older s (t ∷ before) l = step (continues s (t ∷ before)) refl (unmarked_older t before l.1)
-  where
-    step : (b : Bool) → continues s (t ∷ before) ≡ b → filter is_unmarked (t ∷ before) ≡ cond (is_unmarked t) (t ∷ filter is_unmarked (older (t ∷ before))) (filter is_unmarked (older (t ∷ before)))
-        → filter is_unmarked (s ∷ t ∷ before)
-        ≡ cond (is_unmarked s) (s ∷ filter is_unmarked (cond b (older (t ∷ before)) (t ∷ before))) (filter is_unmarked (cond b (older (t ∷ before)) (t ∷ before)))
-    step true e rec =
-        let here = marked_on s (t ∷ before) e in
-        let there : is_unmarked t ≡ false = ap is_none (sym (l.0 e)) ∙ here in
-        ap (λ b. cond b (s ∷ filter is_unmarked (t ∷ before)) (filter is_unmarked (t ∷ before))) here
-        ∙ (rec ∙ (ap (λ b. cond b (t ∷ filter is_unmarked (older (t ∷ before))) (filter is_unmarked (older (t ∷ before)))) there
-        ∙ sym (ap (λ b. cond b (s ∷ filter is_unmarked (older (t ∷ before))) (filter is_unmarked (older (t ∷ before)))) here)))
-    step false e rec = refl
+unmarked_older s [] l = grind arith
+unmarked_older s (t ∷ before) l = grind (arith, unmarked_older t before l.1)
 
 kept_due : (whole : Bool) (n : ℕ) (history : List Marked) → Linked history → filter is_kept (due_with whole n history) ≡ map kept_piece (filter is_unmarked history)
-kept_due whole n [] l = refl
-kept_due whole n (s ∷ before) l =
-    ap (filter is_kept) (due_newest whole n s before l)
-    ∙ (filter-append is_kept (newest_pieces whole n s s.mark) (stitched (older (s ∷ before)))
-    ∙ (ap (λ ps. ps ++ filter is_kept (stitched (older (s ∷ before)))) (kept_newest whole n s s.mark)
-    ∙ (ap (λ ps. of_unmarked s s.mark ++ ps) (kept_stitched (older (s ∷ before)))
-    ∙ (kept_first s (older (s ∷ before)) s.mark ∙ ap (map kept_piece) (sym (unmarked_older s before l))))))
+kept_due whole n history l = grind (arith, due_newest, filter-append, kept_newest, of_unmarked, kept_stitched, kept_first, unmarked_older)
 
 kept_rest : (o : Option Rest) → filter is_kept (rest_pieces o) ≡ []
-kept_rest None = refl
-kept_rest (Some rest) =
-    filter-reverse is_kept (drop rest.place (pod_pieces rest.mark))
-    ∙ ap reverse (none_kept rest.mark (drop rest.place (pod_pieces rest.mark)) (all_drop (λ (p : Piece). p.mark ≡ Some rest.mark) rest.place (pod_pieces rest.mark) (ads_of rest.mark rest.mark.pod.ads)))
+kept_rest o = grind (arith, filter-reverse, reverse, none_kept, all_drop, ads_of)
 
 shown_linked : (first : ℕ) (history : List Marked) → Linked history → Linked (shown_from first history)
 shown_linked first [] l = tt
@@ -266,11 +210,10 @@ unmarked_stand_once tolerance events last now h =
 
 play_as : (items : List Item) → PlayAs items (map item_segment items)
 play_as [] = refl
-play_as (item ∷ items) = (record { uri = refl; byte_range = refl; keys = refl; init_section = refl; duration = refl; title = refl }, play_as items)
+play_as (item ∷ items) = grind (arith, play_as items)
 
 pub segments_play_the_window : SegmentsPlayTheWindow
-segments_play_the_window tolerance events last now h =
-    subst (λ (p : Playlist). PlayAs (window_after (told tolerance events) last) p.segments) (owed_is tolerance events last now h) (play_as (window_after (told tolerance events) last))
+segments_play_the_window tolerance events last now h = grind (arith, owed_is, play_as)
 
 -- ---- the store
 
@@ -303,9 +246,4 @@ store_stays_small tolerance events =
     subst (λ (s : Store). (are_distinct s.entries ≡ true) × (length (filter is_named s.entries) ≤ 256)) (sym k.1) (stays_small k.0)
 
 pub pods_are_kept : PodsAreKept
-pods_are_kept tolerance playlist before id e =
-    let t = told tolerance before in
-    let now = after_refresh tolerance t playlist in
-    let same : now ≡ told tolerance (refreshed playlist ∷ before) = sym (ap (λ o. cond (is_none o) (after_refresh tolerance t playlist) t) e) in
-    subst (λ (u : Told). own_pod u.store id ≡ cond (in_use u.start (first_number playlist.segments) u.history id) (pod_for t.store id) (cond (is_used t.store id) None (own_pod t.store id))) same
-    (pods_in_use (breaks_in_use now.start (first_number playlist.segments) now.history) id t.store (store_stays_small tolerance before).0)
+pods_are_kept tolerance playlist before id e = grind (arith, pods_in_use, store_stays_small)

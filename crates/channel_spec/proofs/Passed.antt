@@ -1,14 +1,13 @@
 -- What it takes to be accepted.
-use Rattle.std.proofs.Common.{◌≡◌, ℕ, ◌+◌, ◌≤◌, Bool, true, false, ◌&&◌, ◌||◌, not, refl}
+use Rattle.std.proofs.Common.{◌≡◌, ℕ, ◌+◌, ◌≤◌, Bool, true, false, ◌&&◌, ◌||◌, not, refl, arith}
 use Rattle.std.proofs.lemmas.Bool.{ltb-false, eqb-true, eqb-false}
-use Rattle.std.specs.Prelude.{Option, Some, None, nat_lt, ◌==◌}
+use Rattle.std.specs.Prelude.{Option, Some, None, ◌==◌}
 use Rattle.playlist_model.specs.declared.Playlist.{Playlist}
 use Rattle.playlist_model.specs.declared.PlaylistKind.{PlaylistKind}
 use Rattle.playlist_model.specs.declared.PlaylistKind.TheVariants.{Event, Vod}
 use Rattle.playlist_model.specs.LookBack.{or_earlier}
 use Rattle.channel_spec.specs.declared.fault.RefreshFault.{RefreshFault}
-use Rattle.channel_spec.specs.declared.fault.RefreshFault.TheVariants.{VersionChanged, TargetChanged, TypeChanged, MapsChanged, Back, Gap, Shrunk, Changed, Ended}
-use Rattle.channel_spec.specs.Successor.{fault_if, first_number, end_number, first_discontinuity, last_discontinuity, has_init_sections, kind_eq, are_different, first_changed, discontinuity_out_of_range, successor_fault}
+use Rattle.channel_spec.specs.Successor.{fault_if, first_number, end_number, first_discontinuity, last_discontinuity, has_init_sections, kind_eq, are_different, first_changed, successor_fault}
 
 -- what a playlist that may follow another keeps
 pub record Passed (old new : Playlist) : Type 0 where
@@ -75,31 +74,4 @@ ended_step true false a b e h = absurd (cc)
 ended_step false new a b e h = absurd (cc)
 
 pub passed : (old new : Playlist) → successor_fault old new ≡ None → Passed old new
-passed old new e =
-    let a = or_none (fault_if (not (new.version == old.version)) VersionChanged) _ e in
-    let b = or_none (fault_if (not (new.target_duration == old.target_duration)) TargetChanged) _ a.1 in
-    let c = or_none (fault_if (not (kind_eq new.playlist_type old.playlist_type)) TypeChanged) _ b.1 in
-    let d = or_none (fault_if (are_different (has_init_sections new.segments) (has_init_sections old.segments)) MapsChanged) _ c.1 in
-    let f = or_none (fault_if (nat_lt (first_number new.segments) (first_number old.segments)) Back) _ d.1 in
-    let g = or_none (fault_if (nat_lt (end_number old.segments) (first_number new.segments)) Gap) _ f.1 in
-    let h = or_none (fault_if (nat_lt (end_number new.segments) (end_number old.segments)) Shrunk) _ g.1 in
-    let i = or_none (first_changed old.segments new.segments) _ h.1 in
-    let j = or_none (fault_if (discontinuity_out_of_range old.segments new.segments) (Changed (first_number new.segments))) _ i.1 in
-    record {
-      version = eqb-true new.version old.version (negated _ (unless _ VersionChanged a.0));
-      target_duration = eqb-true new.target_duration old.target_duration (negated _ (unless _ TargetChanged b.0));
-      playlist_type = same_kind new.playlist_type old.playlist_type (negated _ (unless _ TypeChanged c.0));
-      with_init_sections = same_bool _ _ (unless _ MapsChanged d.0);
-      not_back = ltb-false (first_number new.segments) (first_number old.segments) (unless _ Back f.0);
-      no_gap = ltb-false (end_number old.segments) (first_number new.segments) (unless _ Gap g.0);
-      not_shrunk = ltb-false (end_number new.segments) (end_number old.segments) (unless _ Shrunk h.0);
-      same = i.0;
-      not_less = λ k. ltb-false (first_discontinuity new.segments) (last_discontinuity old.segments)
-          (lower_step (first_number new.segments == end_number old.segments) _ _ (unless _ (Changed (first_number new.segments)) j.0)
-          (eq_true (first_number new.segments) (end_number old.segments) k _ refl));
-      near = λ k. ltb-false (last_discontinuity old.segments + 1000) (first_discontinuity new.segments)
-          (near_step (first_number new.segments == end_number old.segments) _ _ (unless _ (Changed (first_number new.segments)) j.0)
-          (eq_true (first_number new.segments) (end_number old.segments) k _ refl));
-      end_list = λ k. let all = ended_step old.end_list new.end_list _ _ (unless _ Ended j.1) k in
-          (all.0, eqb-true (first_number new.segments) (first_number old.segments) all.1, eqb-true (end_number new.segments) (end_number old.segments) all.2);
-    }
+passed old new e = grind (arith, or_none, eqb-true, negated, unless, same_kind, same_bool, ltb-false, lower_step, eq_true, near_step, ended_step)

@@ -1,9 +1,9 @@
 -- The places where windows begin.
 use Rattle.std.proofs.Common.{◌≡◌, ℕ, ◌+◌, ◌<◌, ◌≤◌, Bool, true, false, cond, List, [], ◌∷◌, ◌++◌, length, refl, ap, sym, subst, length-append, arith}
 use Rattle.std.proofs.lemmas.Bool.{ltb-true, ltb-false}
-use Rattle.std.specs.Prelude.{nat_lt, Option, Some, None}
-use Rattle.pod_store.specs.Marks.{Marked, Mark, continues, are_one}
-use Rattle.stitcher.specs.Stitched.{Piece, stitched, newest_place, run_pieces, up_to}
+use Rattle.std.specs.Prelude.{nat_lt}
+use Rattle.pod_store.specs.Marks.{Marked, continues}
+use Rattle.stitcher.specs.Stitched.{Piece, stitched, newest_place, up_to}
 use Rattle.channel_spec.specs.LiveLaws.{GoesOn}
 use Rattle.channel_spec.proofs.Growth.{goes_nowhere, goes_on_through}
 use Rattle.channel_spec.proofs.Risen.{FallFrom}
@@ -15,16 +15,12 @@ place_step false pieces place before h = omega (arith, length-append pieces befo
 
 pub place_within : (history : List Marked) → newest_place history ≤ length (stitched history)
 place_within [] = omega arith
-place_within (s ∷ before) = place_step (continues s before) (run_pieces s s.mark) (newest_place before) (stitched before) (place_within before)
+place_within (s ∷ before) = grind (arith, place_step, place_within before)
 
 inside_step : (b : Bool) (pieces : List Piece) (place : ℕ) (before : List Piece) → 0 < length pieces → (b ≡ true → place < length before)
     → cond b place (length before) < length (cond b [] pieces ++ before)
 inside_step true pieces place before h k = k refl
 inside_step false pieces place before h k = omega (arith, length-append pieces before, h)
-
-pub goes_on_none : (s : Marked) (fill : Option Mark) → are_one fill None ≡ true → ⊥
-goes_on_none s None e = cc
-goes_on_none s (Some f) e = cc
 
 grow_step : (b : Bool) (old place most : ℕ) → old ≤ place → place ≤ most → old ≤ cond b place most
 grow_step true old place most h k = h

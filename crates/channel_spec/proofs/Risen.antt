@@ -1,16 +1,13 @@
 -- The numbers of the history, and the segments that a refresh adds.
-use Rattle.std.proofs.Common.{◌≡◌, ℕ, ◌+◌, ◌<◌, ◌≤◌, Bool, true, false, cond, List, [], ◌∷◌, length, refl, ap, sym, ◌∙◌, subst, arith}
-use Rattle.std.proofs.lemmas.Bool.{ltb-true, ltb-false, lt-ltb, eqb-true, eqb-false}
-use Rattle.std.specs.Prelude.{Option, Some, None, nat_lt, ◌==◌, find, filter, not}
+use Rattle.std.proofs.Common.{◌≡◌, ℕ, ◌+◌, ◌<◌, ◌≤◌, Bool, true, false, List, [], ◌∷◌, length, refl, ap, sym, ◌∙◌, subst, arith}
+use Rattle.std.proofs.lemmas.Bool.{ltb-true, ltb-false, eqb-true, eqb-false}
+use Rattle.std.specs.Prelude.{Option, Some, None, nat_lt, ◌==◌, find, filter}
 use Rattle.playlist_model.specs.declared.Segment.{Segment}
 use Rattle.playlist_model.specs.LookBack.{or_earlier}
 use Rattle.pod_store.specs.Marks.{Marked}
 use Rattle.channel_spec.specs.Marking.{Moment, next_shown, show_all}
 use Rattle.channel_spec.specs.Sound.{RiseFrom}
-use Rattle.playlist_model.proofs.SameSegments.{same_segment_decides}
-use Rattle.channel_spec.specs.declared.fault.RefreshFault.TheVariants.{Changed}
-use Rattle.channel_spec.specs.Successor.{fault_if, last_discontinuity, difference, first_changed}
-use Rattle.playlist_model.specs.Same.{same_segment}
+use Rattle.channel_spec.specs.Successor.{last_discontinuity, difference, first_changed}
 
 -- numbers fall by one, from one below `number` on
 abbrev pub FallFrom : ℕ → List Marked → Type 0
@@ -46,9 +43,7 @@ past newest segments = filter (λ (s : Segment). nat_lt newest s.media_sequence)
 
 pub all_past : (newest number : ℕ) (segments : List Segment) → newest < number → RiseFrom number segments → past newest segments ≡ segments
 all_past newest number [] h r = refl
-all_past newest number (s ∷ later) h r =
-    let test : nat_lt newest s.media_sequence ≡ true = lt-ltb newest s.media_sequence (omega (arith, h, r.0)) in
-    rw test (ap (λ xs. s ∷ xs) (all_past newest (number + 1) later (omega (arith, h)) r.1))
+all_past newest number (s ∷ later) h r = grind (arith, all_past newest (number + 1) later (omega (arith, h)) r.1)
 
 -- what is known of the new ones
 pub record ArePast (newest number : ℕ) (segments : List Segment) : Type 0 where
@@ -62,11 +57,7 @@ last_later s (t ∷ later) h = refl
 
 past_length : (newest : ℕ) (segments : List Segment) → length (past newest segments) ≤ length segments
 past_length newest [] = omega arith
-past_length newest (s ∷ later) = step (nat_lt newest s.media_sequence) (past_length newest later)
-  where
-    step : (b : Bool) → length (past newest later) ≤ length later → length (cond b (s ∷ past newest later) (past newest later)) ≤ length (s ∷ later)
-    step true h = omega (arith, h)
-    step false h = omega (arith, h)
+past_length newest (s ∷ later) = grind (arith, past_length newest later)
 
 past_step : (newest number : ℕ) (s : Segment) (later : List Segment) → number ≤ newest + 1 → (s.media_sequence ≡ number) → RiseFrom (number + 1) later
     → (number + 1 ≤ newest + 1 → ArePast newest (number + 1) later) → (b : Bool) → nat_lt newest s.media_sequence ≡ b → ArePast newest number (s ∷ later)
@@ -101,11 +92,7 @@ or_none None b e = (refl, e)
 or_none (Some x) b e = absurd (cc)
 
 alike : (s t : Segment) → difference s (Some t) ≡ None → s.discontinuity_sequence ≡ t.discontinuity_sequence
-alike s t e = step (same_segment s t) refl e
-  where
-    step : (b : Bool) → same_segment s t ≡ b → fault_if (not b) (Changed s.media_sequence) ≡ None → s.discontinuity_sequence ≡ t.discontinuity_sequence
-    step true same k = ap (λ (u : Segment). u.discontinuity_sequence) ((same_segment_decides s t).0 same)
-    step false same k = absurd (cc)
+alike s t e = grind arith
 
 record Found (s : Segment) (old : List Segment) : Type 0 where
   one : Segment
@@ -113,7 +100,7 @@ record Found (s : Segment) (old : List Segment) : Type 0 where
   last : one.discontinuity_sequence ≡ last_discontinuity old
 
 found_step : (s t : Segment) (old : List Segment) → 0 < length old → ((t.media_sequence == s.media_sequence) ≡ false) → Found s old → Found s (t ∷ old)
-found_step s t old h n k = record { one = k.one; is = rw n k.is; last = k.last ∙ sym (last_later t old h) }
+found_step s t old h n k = grind arith
 
 find_last : (s : Segment) (number : ℕ) (old : List Segment) → RiseFrom number old → s.media_sequence + 1 ≡ number + length old → 0 < length old → Found s old
 find_last s number [] r e h = absurd (omega (arith, h))

@@ -1,23 +1,19 @@
 -- A run keeps its pod, a fallback fills what has no pod of its own, and an open run's written end is near.
-use Rattle.std.proofs.Common.{◌≡◌, ℕ, ◌+◌, ◌-◌, ◌<◌, ◌≤◌, Bool, true, false, cond, not, List, [], ◌∷◌, ◌++◌, length, reverse, refl, ap, sym, ◌∙◌, subst, arith}
+use Rattle.std.proofs.Common.{◌≡◌, ℕ, ◌-◌, ◌<◌, ◌≤◌, Bool, true, false, cond, List, [], ◌∷◌, ◌++◌, length, reverse, refl, ap, sym, ◌∙◌, subst, arith}
 use Rattle.std.proofs.lemmas.Bool.{leb-false, and_from, or_parts}
-use Rattle.std.specs.Prelude.{Option, Some, None, is_none, nat_le, option_map, find, filter}
+use Rattle.std.specs.Prelude.{Option, Some, None, is_none, nat_le, find}
 use Rattle.std.specs.List.{AllByRecursion, list_any}
 use Rattle.playlist_model.specs.declared.Playlist.{Playlist}
-use Rattle.playlist_model.specs.LookBack.{or_earlier}
 use Rattle.pod_store.specs.Pods.{Pod}
-use Rattle.pod_store.specs.Marks.{Mark, Marked, newest_mark, continues, are_one}
+use Rattle.pod_store.specs.Marks.{Mark, Marked, newest_mark, are_one}
 use Rattle.stitcher.specs.Stitched.{Piece, pod_pieces, stitched}
 use Rattle.stitcher.specs.Paced.{older, run_length, due, newest_pieces}
-use Rattle.pod_store.specs.Store.{pod_for}
 use Rattle.break_finder.specs.Breaks.{Break}
-use Rattle.break_finder.specs.Entering.{enters_break, enters_with, id_of, mark_with}
 use Rattle.break_finder.specs.Entering as entering
 use Rattle.break_finder.specs.Known.{Accepted, is_this}
-use Rattle.channel_spec.specs.Marking.{limits, entered, next_mark, next_shown, last_entered, is_new}
-use Rattle.channel_spec.specs.Successor.{has_init_sections}
+use Rattle.channel_spec.specs.Marking.{last_entered}
 use Rattle.channel_spec.specs.declared.fault.RefreshFault.{RefreshFault}
-use Rattle.channel_spec.specs.Live.{Event, decided, refreshed, Told, told, happens, refusal, after_refresh, moment}
+use Rattle.channel_spec.specs.Live.{Event, decided, refreshed, Told, told, happens, refusal, after_refresh}
 use Rattle.channel_spec.specs.LiveLaws.{GoesOn, Linked}
 use Rattle.channel_spec.specs.BreakLaws.{RunsKeepTheirPods, FallbackFills, lasts, EndsNear, WrittenEndIsNear}
 use Rattle.channel_spec.proofs.Growth.{goes_nowhere, goes_on_through, history_grows}
@@ -29,7 +25,7 @@ use Rattle.channel_spec.proofs.DueCut.{due_newest}
 -- ---- a run keeps its pod
 
 refresh_grows : (tolerance : ℕ) (t : Told) (playlist : Playlist) (o : Option RefreshFault) → GoesOn t.history (cond (is_none o) (after_refresh tolerance t playlist) t).history
-refresh_grows tolerance t playlist None = history_grows (moment tolerance t playlist) t.history (filter (is_new t.history) playlist.segments)
+refresh_grows tolerance t playlist None = grind (arith, history_grows)
 refresh_grows tolerance t playlist (Some fault) = goes_nowhere t.history
 
 event_grows : (tolerance : ℕ) (t : Told) (event : Event) → GoesOn t.history (happens tolerance t event).history
@@ -58,24 +54,7 @@ runs_apart id pod before None e h = refl
 runs_apart id pod before (Some f) e h = ap (is_this id) (sym (last_is before f e)) ∙ h
 
 pub fallback_fills : FallbackFills
-fallback_fills m before s later b pod h own fallback fits =
-    let last = last_entered before in
-    let l = limits m last in
-    let mark : Mark = record { id = b.id; pod = pod } in
-    let its : pod_for m.store b.id ≡ Some pod = ap (λ o. or_earlier o m.store.fallback) own ∙ fallback in
-    let enters : enters_break l m.store h.instant b ≡ true =
-    ap (enters_with l h.instant b) its ∙ and_from _ _ (and_from _ _ (and_from _ _ h.signalled h.not_past) fits) (ap not h.not_last) in
-    let found : entering.entered l m.store m.breaks (Some h.instant) ≡ Some b.id =
-    ap (λ bs. option_map id_of (find (enters_break l m.store h.instant) bs)) h.known ∙ ap (option_map id_of) (found_after (enters_break l m.store h.instant) h.earlier h.after b h.first enters) in
-    let filled : entered m (Some h.instant) last ≡ Some mark = ap (entering.mark_of m.store) found ∙ ap (mark_with b.id) its in
-    let marked : (next_shown m before s later).mark ≡ Some mark =
-    ap (next_mark m (newest_mark before) last) h.begins ∙ (ap (λ o. or_earlier o (entered m (Some h.instant) last)) h.run_ends ∙ filled) in
-    let here = next_shown m before s later in
-    let begun : continues here before ≡ false = ap (λ o. are_one o (newest_mark before)) marked ∙ runs_apart b.id pod before (newest_mark before) refl h.not_last in
-    let plain : s.duration + 0 ≡ s.duration = omega arith in (
-      marked,
-      fresh here before begun ∙ ap (λ xs. xs ++ stitched before) (ap (newest_pieces false (s.duration + 0) here) marked ∙ ap (λ n. reverse (due n (pod_pieces mark))) plain),
-    )
+fallback_fills m before s later b pod h own fallback fits = grind (arith, and_from, found_after, runs_apart, fresh, reverse)
 
 -- ---- the written end
 
@@ -117,8 +96,7 @@ ends_near m (x ∷ before) mark l a e =
 
 open_end : (accepted : List Accepted) (history : List Marked) (start : ℕ) (mark : Mark) → WindowOf accepted history start → Linked history → newest_mark history ≡ Some mark → EndsNear history mark
 unfolding WindowOf
-open_end [] history start mark w l e = let none : newest_mark history ≡ None = ap newest_mark w in absurd (cc)
-open_end (a ∷ earlier) history start mark w l e = ends_near (has_init_sections a.playlist.segments) history mark l w.standing.alike e
+open_end accepted history start mark w l e = grind (arith, ends_near)
 
 pub written_end_is_near : WrittenEndIsNear
 written_end_is_near tolerance events mark sound goes_on e =

@@ -1,16 +1,11 @@
 -- The newest run of a history.
-use Rattle.std.proofs.Common.{◌≡◌, Bool, true, false, cond, List, [], ◌∷◌, ◌++◌, length, refl}
+use Rattle.std.proofs.Common.{◌≡◌, Bool, true, false, cond, List, [], ◌∷◌, ◌++◌, length, refl, arith}
 use Rattle.pod_store.specs.Marks.{Marked, continues}
 use Rattle.stitcher.specs.Stitched.{run_pieces, stitched, newest_place}
 use Rattle.stitcher.specs.Paced.{first_of_run, older}
-use Rattle.channel_spec.proofs.Places.{goes_on_none}
 
 pub nothing_continues : (s : Marked) → continues s [] ≡ false
-nothing_continues s = step (continues s []) refl
-  where
-    step : (b : Bool) → continues s [] ≡ b → b ≡ false
-    step true e = absurd (goes_on_none s s.mark e)
-    step false e = refl
+nothing_continues s = grind arith
 
 split_step : (s t : Marked) (before : List Marked) (b : Bool)
     → stitched (t ∷ before) ≡ run_pieces (first_of_run t before) (first_of_run t before).mark ++ stitched (older (t ∷ before))
@@ -26,8 +21,4 @@ newest_item s (t ∷ before) = split_step s t before (continues s (t ∷ before)
 
 pub place_is : (history : List Marked) → newest_place history ≡ length (stitched (older history))
 place_is [] = refl
-place_is (s ∷ before) = step (continues s before) (place_is before)
-  where
-    step : (b : Bool) → newest_place before ≡ length (stitched (older before)) → cond b (newest_place before) (length (stitched before)) ≡ length (stitched (cond b (older before) before))
-    step true e = e
-    step false e = refl
+place_is (s ∷ before) = grind (arith, place_is before)

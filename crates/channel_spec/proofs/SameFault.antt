@@ -1,5 +1,5 @@
 -- Which playlist may follow another is asked of what is the same of its segments alone.
-use Rattle.std.proofs.Common.{◌≡◌, ℕ, Bool, true, false, cond, List, [], ◌∷◌, map, length, refl, ap, sym, ◌∙◌, arith}
+use Rattle.std.proofs.Common.{◌≡◌, ℕ, List, [], ◌∷◌, map, length, refl, ap, sym, ◌∙◌, arith}
 use Rattle.std.specs.Prelude.{Option, Some, None, option_map, ◌==◌, find}
 use Rattle.playlist_model.specs.declared.Segment.{Segment}
 use Rattle.playlist_model.specs.declared.Playlist.{Playlist}
@@ -27,12 +27,7 @@ parts_last (x ∷ y ∷ xs) = parts_last (y ∷ xs)
 
 find_parts : (n : ℕ) (xs : List Segment) → find (λ (t : Segment). t.media_sequence == n) (map kept_parts xs) ≡ option_map kept_parts (find (λ (t : Segment). t.media_sequence == n) xs)
 find_parts n [] = refl
-find_parts n (x ∷ xs) = step (x.media_sequence == n) (find_parts n xs)
-  where
-    step : (b : Bool) → find (λ (t : Segment). t.media_sequence == n) (map kept_parts xs) ≡ option_map kept_parts (find (λ (t : Segment). t.media_sequence == n) xs)
-        → cond b (Some (kept_parts x)) (find (λ (t : Segment). t.media_sequence == n) (map kept_parts xs)) ≡ option_map kept_parts (cond b (Some x) (find (λ (t : Segment). t.media_sequence == n) xs))
-    step true h = refl
-    step false h = h
+find_parts n (x ∷ xs) = grind (arith, find_parts n xs)
 
 difference_parts : (s : Segment) (o : Option Segment) → difference s (option_map kept_parts o) ≡ difference s o
 difference_parts s None = refl
@@ -45,13 +40,7 @@ parts_changed xs (s ∷ later) =
     ∙ ap (or_earlier (difference s (find (λ (t : Segment). t.media_sequence == s.media_sequence) xs))) (parts_changed xs later)
 
 fault_parts : (h : Heading) (xs : List Segment) (p : Playlist) → following_fault h (map kept_parts xs) p ≡ following_fault h xs p
-fault_parts h xs p =
-    let a = parts_first xs in
-    let b = parts_length xs in
-    let c = parts_init xs in
-    let d = parts_last xs in
-    let e = parts_changed xs p.segments in
-    cc
+fault_parts h xs p = grind (arith, parts_first, parts_length, parts_init, parts_last, parts_changed)
 
 -- segments that are the same in what is asked of them have one fault, and one first number
 pub same_fault : (h : Heading) (xs ys : List Segment) (p : Playlist) → map kept_parts xs ≡ map kept_parts ys → following_fault h xs p ≡ following_fault h ys p

@@ -1,5 +1,5 @@
 -- The window follows from the shown segments and the numbers of the first item.
-use Rattle.std.proofs.Common.{◌≡◌, ℕ, ◌+◌, ◌-◌, ◌≤◌, Bool, true, false, cond, List, [], ◌∷◌, ◌++◌, take, length, refl, ap, sym, ◌∙◌, append_assoc, length-append, arith, suc}
+use Rattle.std.proofs.Common.{◌≡◌, ℕ, ◌+◌, ◌≤◌, Bool, true, false, cond, List, [], ◌∷◌, ◌++◌, length, refl, ap, ◌∙◌, append_assoc, length-append, arith, suc}
 use Rattle.std.proofs.lemmas.List.{append-nil, take-append-le}
 use Rattle.std.proofs.lemmas.Bool.{ltb-true}
 use Rattle.std.specs.Prelude.{Option, Some, None, nat_lt}
@@ -18,11 +18,7 @@ rest_of s gone = cond (continues s gone) (older gone) gone
 
 pub run_fill : (r : Marked) (before : List Marked) → Linked (r ∷ before) → (first_of_run r before).mark ≡ r.mark
 run_fill r [] h = refl
-run_fill r (t ∷ before) h = step (continues r (t ∷ before)) refl (run_fill t before h.1)
-  where
-    step : (b : Bool) → continues r (t ∷ before) ≡ b → (first_of_run t before).mark ≡ t.mark → (cond b (first_of_run t before) r).mark ≡ r.mark
-    step true e k = k ∙ sym (h.0 e)
-    step false e k = refl
+run_fill r (t ∷ before) h = grind (arith, run_fill t before h.1)
 
 same_pod : (s f : Marked) (o : Option Mark) (g : Option Mark) → are_one o g ≡ true → run_pieces s o ≡ run_pieces f o
 same_pod s f None g e = absurd (cc)
@@ -30,27 +26,16 @@ same_pod s f (Some h) g e = refl
 
 one_list : (s : Marked) (gone : List Marked) → (continues s gone ≡ true → s.mark ≡ newest_mark gone) → Linked gone → (b : Bool) → continues s gone ≡ b
     → cond b [] (run_pieces s s.mark) ++ stitched gone ≡ run_pieces s s.mark ++ stitched (cond b (older gone) gone)
-one_list s gone l h false e = refl
-one_list s [] l h true e = let k = nothing_continues s in absurd (cc)
-one_list s (r ∷ before) l h true e =
-    let f = first_of_run r before in
-    let same : f.mark ≡ s.mark = run_fill r before h ∙ sym (l e) in
-    newest_item r before
-    ∙ ap (λ o. run_pieces f o ++ stitched (older (r ∷ before))) same
-    ∙ ap (λ xs. xs ++ stitched (older (r ∷ before))) (sym (same_pod s f s.mark (newest_mark (r ∷ before)) e))
+one_list s gone l h b e = grind (arith, nothing_continues, run_fill, newest_item, same_pod)
 
 one_alone : (s : Marked) → stitched (s ∷ []) ≡ run_pieces s s.mark
-one_alone s = ap (λ b. cond b [] (run_pieces s s.mark) ++ []) (nothing_continues s) ∙ append-nil (run_pieces s s.mark)
+one_alone s = grind (arith, nothing_continues, append-nil)
 
 pub cut_list : (newer : List Marked) (s : Marked) (gone : List Marked) → Linked (newer ++ (s ∷ gone)) → stitched (newer ++ (s ∷ gone)) ≡ stitched (newer ++ (s ∷ [])) ++ stitched (rest_of s gone)
 unfolding rest_of
-cut_list [] s gone h = one_list s gone h.0 h.1 (continues s gone) refl ∙ ap (λ xs. xs ++ stitched (rest_of s gone)) (sym (one_alone s))
-cut_list (x ∷ []) s gone h =
-    let here = cond (continues x (s ∷ [])) [] (run_pieces x x.mark) in
-    ap (λ xs. here ++ xs) (cut_list [] s gone h.1) ∙ sym (append_assoc here (stitched (s ∷ [])) (stitched (rest_of s gone)))
-cut_list (x ∷ y ∷ newer) s gone h =
-    let here = cond (continues x (y ∷ newer)) [] (run_pieces x x.mark) in
-    ap (λ xs. here ++ xs) (cut_list (y ∷ newer) s gone h.1) ∙ sym (append_assoc here (stitched (y ∷ (newer ++ (s ∷ [])))) (stitched (rest_of s gone)))
+cut_list [] s gone h = grind (arith, one_list, one_alone)
+cut_list (x ∷ []) s gone h = grind (arith, append_assoc, cut_list [] s gone h.1)
+cut_list (x ∷ y ∷ newer) s gone h = grind (arith, append_assoc, cut_list (y ∷ newer) s gone h.1)
 
 -- ---- places
 
@@ -116,22 +101,11 @@ length-numbered first (p ∷ pieces) = ap suc (length-numbered first pieces)
 pub onto_alone : (first : Numbers) (front : List Piece) (q : Piece) (after : List Piece) → onto first after (front ++ (q ∷ [])) ≡ numbered (numbers_at first q after) (front ++ (q ∷ []))
 unfolding onto
 onto_alone first [] q after = refl
-onto_alone first (p ∷ front) q after =
-    let list = append_assoc front (q ∷ []) after in
-    ap (λ (xs : List Piece). item p (numbers_at first p xs) ∷ onto first after (front ++ (q ∷ []))) list
-    ∙ ap (λ (n : Numbers). item p n ∷ onto first after (front ++ (q ∷ []))) (numbers_over first p front q after)
-    ∙ ap (λ xs. item p (numbers_at (numbers_at first q after) p (front ++ (q ∷ []))) ∷ xs) (onto_alone first front q after)
+onto_alone first (p ∷ front) q after = grind (arith, append_assoc, numbers_over, onto_alone first front q after)
 
 pub from_over : (first : Numbers) (place : ℕ) (front : List Piece) (q : Piece) (after : List Piece)
     → from_place (place + length after) (numbered first ((front ++ (q ∷ [])) ++ after)) ≡ from_place place (numbered (numbers_at first q after) (front ++ (q ∷ [])))
-from_over first place front q after =
-    let all = front ++ (q ∷ []) in
-    let n = numbers_at first q after in
-    let whole : numbered first (all ++ after) ≡ numbered n all ++ numbered first after = numbered-onto first all after ∙ ap (λ xs. xs ++ numbered first after) (onto_alone first front q after) in
-    let size : length (numbered first (all ++ after)) - (place + length after) ≡ length (numbered n all) - place
-    = omega (arith, ap length whole, length-append (numbered n all) (numbered first after), length-numbered first after) in
-    ap (λ k. take k (numbered first (all ++ after))) size ∙ ap (λ xs. take (length (numbered n all) - place) xs) whole
-    ∙ take-append-le (length (numbered n all) - place) (numbered n all) (numbered first after) (omega arith)
+from_over first place front q after = grind (arith, numbered-onto, onto_alone, length-append, length-numbered, take-append-le)
 
 pub empty : (xs : List Piece) → length xs ≡ 0 → xs ≡ []
 empty [] e = refl

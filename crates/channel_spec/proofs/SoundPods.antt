@@ -16,6 +16,4 @@ filled [] h = tt
 filled (ad ∷ ads) h = let p = and_parts _ _ h in (some (length ad.segments) (and_parts _ _ (and_parts _ _ p.0).0).1, filled ads p.1)
 
 pub kept_is_sound : (pod : Pod) → ads_keep pod.ads ≡ true → IsSoundPod pod
-kept_is_sound pod h =
-    let p = and_parts _ _ h in
-    record { some = some (length pod.ads) (and_parts _ _ p.0).0; filled = filled pod.ads p.1 }
+kept_is_sound pod h = grind (arith, and_parts, some, filled)

@@ -1,6 +1,6 @@
 -- A window starts at the item of its first shown segment, or within the pod of the run right before that.
 use Rattle.std.proofs.Common.{◌≡◌, ℕ, ◌+◌, ◌-◌, ◌<◌, ◌≤◌, Bool, true, false, cond, List, [], ◌∷◌, ◌++◌, take, min, length, reverse, refl, ap, sym, ◌∙◌, subst, append_assoc, length-append, arith}
-use Rattle.std.proofs.lemmas.Bool.{lt-leb, le-leb, lt-ltb, ltb-true, eqb-true}
+use Rattle.std.proofs.lemmas.Bool.{le-leb, lt-ltb, eqb-true}
 use Rattle.std.proofs.lemmas.List.{reverse-append, take-append-drop, length-take}
 use Rattle.std.proofs.Math.Decide.{dec_lt}
 use Rattle.std.specs.Prelude.{Option, Some, None, option_map, is_none, nat_lt, ◌==◌, drop}
@@ -15,7 +15,7 @@ use Rattle.channel_spec.specs.Successor.{first_number, end_number, has_init_sect
 use Rattle.channel_spec.specs.Live.{Event, decided, refreshed, succession_fault, last_playlist, moment}
 use Rattle.channel_spec.specs.LiveLaws.{Linked}
 use Rattle.channel_spec.specs.Sound.{IsSoundPlaylist, IsSoundEvent}
-use Rattle.stitcher.specs.Paced.{first_of_run, run_length, older, newest_pieces, due_with, due_stitched, Rest, rest_pieces}
+use Rattle.stitcher.specs.Paced.{first_of_run, run_length, older, due_with, due_stitched, Rest, rest_pieces}
 use Rattle.channel_spec.specs.Live.{Told, place_of, gone_before, rest_over, start_after, after_refresh, refusal, happens, told}
 use Rattle.channel_spec.proofs.Growth.{history_grows}
 use Rattle.channel_spec.proofs.Windows.{length-reverse}
@@ -28,46 +28,30 @@ use Rattle.channel_spec.proofs.LiveState.{Standing, new_standing}
 use Rattle.channel_spec.proofs.EachWindow.{all_after}
 use Rattle.channel_spec.proofs.KeptSteps.{cut}
 use Rattle.channel_spec.proofs.ShownAlone.{rest_of, run_fill}
-use Rattle.channel_spec.proofs.DueCut.{none_first}
 use Rattle.channel_spec.proofs.EachWindow.{inside_due, within_due, WindowOf, Holds, holds, plain_standing, first_none}
 
 -- ---- the segments that are gone
 
 gone_below : (n end : ℕ) (gone : List Marked) → FallFrom end gone → end ≤ n → gone_before n gone ≡ gone
 gone_below n end [] f h = refl
-gone_below n end (g ∷ gone) f h = ap (λ b. cond b (gone_before n gone) (g ∷ gone)) (lt-leb n g.segment.media_sequence (omega (arith, f.0, h)))
+gone_below n end (g ∷ gone) f h = grind arith
 
 -- the history from a segment on, and the one before it, by its number
 pub gone_bottom : (end : ℕ) (newer : List Marked) (s : Marked) (gone : List Marked) → FallFrom end (newer ++ (s ∷ gone)) → gone_before s.segment.media_sequence (newer ++ (s ∷ gone)) ≡ gone
-gone_bottom end [] s gone f =
-    ap (λ b. cond b (gone_before s.segment.media_sequence gone) (s ∷ gone)) (le-leb s.segment.media_sequence s.segment.media_sequence (omega arith)) ∙ gone_below s.segment.media_sequence s.segment.media_sequence gone f.1 (omega arith)
-gone_bottom end (x ∷ newer) s gone f =
-    ap (λ b. cond b (gone_before s.segment.media_sequence (newer ++ (s ∷ gone))) (x ∷ (newer ++ (s ∷ gone))))
-    (le-leb s.segment.media_sequence x.segment.media_sequence (omega (arith, fall_length x.segment.media_sequence newer s gone f.1)))
-    ∙ gone_bottom x.segment.media_sequence newer s gone f.1
+gone_bottom end [] s gone f = grind (arith, le-leb, gone_below)
+gone_bottom end (x ∷ newer) s gone f = grind (arith, le-leb, fall_length, gone_bottom x.segment.media_sequence newer s gone f.1)
 
 not_less : (n : ℕ) → nat_lt n n ≡ false
-not_less n = step (nat_lt n n) refl
-  where
-    step : (t : Bool) → nat_lt n n ≡ t → t ≡ false
-    step true e = absurd (omega (arith, ltb-true n n e))
-    step false e = refl
+not_less n = grind arith
 
 pub up_bottom : (end : ℕ) (newer : List Marked) (s : Marked) (gone : List Marked) → FallFrom end (newer ++ (s ∷ gone)) → up_to s.segment.media_sequence (newer ++ (s ∷ gone)) ≡ s ∷ gone
-up_bottom end [] s gone f = ap (λ b. cond b (up_to s.segment.media_sequence gone) (s ∷ gone)) (not_less s.segment.media_sequence)
-up_bottom end (x ∷ newer) s gone f =
-    ap (λ b. cond b (up_to s.segment.media_sequence (newer ++ (s ∷ gone))) (x ∷ (newer ++ (s ∷ gone))))
-    (lt-ltb s.segment.media_sequence x.segment.media_sequence (omega (arith, fall_length x.segment.media_sequence newer s gone f.1)))
-    ∙ up_bottom x.segment.media_sequence newer s gone f.1
+up_bottom end [] s gone f = grind (arith, not_less)
+up_bottom end (x ∷ newer) s gone f = grind (arith, lt-ltb, fall_length, up_bottom x.segment.media_sequence newer s gone f.1)
 
 -- what stands before the item of a segment
 pub place_rest : (s : Marked) (gone : List Marked) → newest_place (s ∷ gone) ≡ length (stitched (rest_of s gone))
 unfolding rest_of
-place_rest s gone = step (continues s gone)
-  where
-    step : (b : Bool) → cond b (newest_place gone) (length (stitched gone)) ≡ length (stitched (cond b (older gone) gone))
-    step true = place_is gone
-    step false = refl
+place_rest s gone = grind (arith, place_is)
 
 -- ---- where a window starts
 
@@ -86,10 +70,7 @@ fall_tail end [] x history f = f.1
 fall_tail end (y ∷ later) x history f = fall_tail y.segment.media_sequence later x history f.1
 
 due_unmarked : (whole : Bool) (n : ℕ) (x : Marked) (before : List Marked) → x.mark ≡ None → due_with whole n (x ∷ before) ≡ stitched (x ∷ before)
-due_unmarked whole n x before e =
-    let f = first_of_run x before in
-    let none : f.mark ≡ None = ap (λ (y : Marked). y.mark) (none_first x before e) ∙ e in
-    ap (λ xs. xs ++ stitched (older (x ∷ before))) (ap (newest_pieces whole n f) none ∙ sym (ap (run_pieces f) none)) ∙ sym (newest_item x before)
+due_unmarked whole n x before e = grind arith
 
 rest_begins : (m ended : Bool) (k end : ℕ) (newest : Marked) (before more : List Marked) → AllByRecursion (IsAlike m) (more ++ (newest ∷ before)) → FallFrom end (more ++ (newest ∷ before))
     → 0 < length (up_to k (more ++ (newest ∷ before))) → Begins k more newest before → length (due_stitched ended (newest ∷ before)) < place_of k (more ++ (newest ∷ before))
@@ -199,7 +180,7 @@ refresh_starts tolerance p playlist h s r (Some x) e q same = subst (λ (x : Tol
 event_starts : (tolerance : ℕ) (p : Told) (event : Event) → Holds p → StartOf p.accepted p.history p.start → IsSoundEvent event
     → StartOf (happens tolerance p event).accepted (happens tolerance p event).history (happens tolerance p event).start
 event_starts tolerance p (decided ds) h s g = s
-event_starts tolerance p (refreshed playlist) h s g = refresh_starts tolerance p playlist h s g (refusal tolerance p playlist) refl (happens tolerance p (refreshed playlist)) refl
+event_starts tolerance p (refreshed playlist) h s g = grind (arith, refresh_starts)
 
 pub all_start : (tolerance : ℕ) (events : List Event) → AllByRecursion IsSoundEvent events → StartOf (told tolerance events).accepted (told tolerance events).history (told tolerance events).start
 unfolding StartOf
@@ -216,9 +197,7 @@ rest_with base start place gone = cond (nat_lt start (place + base)) (rest_found
 
 pub rest_is : (end start : ℕ) (newer : List Marked) (s : Marked) (gone : List Marked) → FallFrom end (newer ++ (s ∷ gone))
     → rest_over 0 start s.segment.media_sequence (newer ++ (s ∷ gone)) ≡ rest_with 0 start (length (stitched (rest_of s gone))) gone
-rest_is end start newer s gone f =
-    ap (λ n. rest_with 0 start n (gone_before s.segment.media_sequence (newer ++ (s ∷ gone)))) (ap newest_place (up_bottom end newer s gone f) ∙ place_rest s gone)
-    ∙ ap (rest_with 0 start (length (stitched (rest_of s gone)))) (gone_bottom end newer s gone f)
+rest_is end start newer s gone f = grind (arith, up_bottom, place_rest, rest_of, gone_bottom)
 
 pub record Below (s : Marked) (gone : List Marked) (start : ℕ) (rest : Option Rest) : Type 0 where
   pub below : List Piece
@@ -226,11 +205,7 @@ pub record Below (s : Marked) (gone : List Marked) (start : ℕ) (rest : Option 
   pub size : length below ≡ start
 
 pub none_before : (start place : ℕ) (gone : List Marked) → start ≡ place → rest_with 0 start place gone ≡ None
-none_before start place gone e = step (nat_lt start (place + 0)) refl
-  where
-    step : (b : Bool) → nat_lt start (place + 0) ≡ b → cond b (rest_found 0 start gone) None ≡ None
-    step true t = absurd (omega (arith, ltb-true start (place + 0) t, e))
-    step false t = refl
+none_before start place gone e = grind arith
 
 cut_pod : (s r : Marked) (before : List Marked) (start : ℕ) (f : Mark) → Linked (r ∷ before) → r.mark ≡ Some f → newest_place (r ∷ before) ≤ start
     → (b : Bool) → start < length (stitched (cond b (older (r ∷ before)) (r ∷ before))) → length (stitched (cond b (older (r ∷ before)) (r ∷ before))) ≡ length (stitched (r ∷ before))
@@ -251,14 +226,11 @@ cut_pod s r before start f l e h false i j n k =
     )
 
 found_there : (start : ℕ) (gone : List Marked) (f : Mark) → newest_mark gone ≡ Some f → rest_found 0 start gone ≡ Some (record { mark = f; place = start - (newest_place gone + 0) })
-found_there start gone f e =
-    let there : Mark → Rest = λ mark. record { mark = mark; place = start - (newest_place gone + 0) } in
-    ap (λ o. option_map there o) e
+found_there start gone f e = grind arith
 
 is_before : (start place : ℕ) (gone : List Marked) (f : Mark) → start < place → newest_mark gone ≡ Some f
     → rest_with 0 start place gone ≡ Some (record { mark = f; place = start - (newest_place gone + 0) })
-is_before start place gone f h e =
-    ap (λ b. cond b (rest_found 0 start gone) None) (lt-ltb start (place + 0) (omega (arith, h))) ∙ found_there start gone f e
+is_before start place gone f h e = grind arith
 
 below_part : (s : Marked) (gone : List Marked) (start : ℕ) (f : Mark) → Linked gone → newest_mark gone ≡ Some f → newest_place gone ≤ start → start < length (stitched (rest_of s gone))
     → length (stitched (rest_of s gone)) ≡ length (stitched gone) → Below s gone start (rest_with 0 start (length (stitched (rest_of s gone))) gone)
@@ -271,11 +243,4 @@ below_part s (r ∷ before) start f l e h i j =
 
 pub below_start : (end start : ℕ) (newer : List Marked) (s : Marked) (gone : List Marked) → FallFrom end (newer ++ (s ∷ gone)) → Linked gone
     → StartAt s.segment.media_sequence (newer ++ (s ∷ gone)) start → Below s gone start (rest_with 0 start (length (stitched (rest_of s gone))) gone)
-below_start end start newer s gone f l (at_item e) =
-    let same : start ≡ length (stitched (rest_of s gone)) = e ∙ (ap newest_place (up_bottom end newer s gone f) ∙ place_rest s gone) in
-    subst (λ (o : Option Rest). Below s gone start o) (sym (none_before start (length (stitched (rest_of s gone))) gone same)) (record { below = stitched (rest_of s gone); is = refl; size = sym same })
-below_start end start newer s gone f l (in_rest m a b c d) =
-    let g = gone_bottom end newer s gone f in
-    let place = ap newest_place (up_bottom end newer s gone f) ∙ place_rest s gone in
-    below_part s gone start m l (sym (ap newest_mark g) ∙ a) (subst (λ x. newest_place x ≤ start) g b) (subst (λ x. start < x) place c)
-    (sym place ∙ (d ∙ ap (λ x. length (stitched x)) g))
+below_start end start newer s gone f l h = grind (arith, rest_of, up_bottom, place_rest, none_before, gone_bottom, below_part)

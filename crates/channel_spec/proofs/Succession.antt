@@ -20,8 +20,7 @@ cut_is first place pieces = refl
 pub cut_at : (first : Numbers) (place : ℕ) (pieces front : List Piece) (q : Piece) (after : List Piece) → pieces ≡ front ++ (q ∷ after) → length after ≡ place
     → cut first place pieces ≡ window_of first front q after
 unfolding cut
-cut_at first place pieces front q after e h =
-    ap (λ (ps : List Piece). reverse (from_place place (numbered first ps))) e ∙ window_is first place front q after h
+cut_at first place pieces front q after e h = grind (arith, reverse, numbered, window_is)
 
 -- a piece that stands just above the old list is at most so many discontinuities away
 pub record Above (pieces old : List Piece) : Type 0 where

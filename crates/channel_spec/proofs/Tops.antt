@@ -39,12 +39,7 @@ top_in (x ∷ xs) ys p rest h e = let same : p ≡ x = cc in inl same
 marked_step : (f : Mark) (g : Option Mark) (before : List Marked) (p : Piece) (rest : List Piece) → 0 < length (reverse (pod_pieces f))
     → cond (are_one (Some f) g) [] (reverse (pod_pieces f)) ++ stitched before ≡ p ∷ rest
     → ((k : Mark) → g ≡ Some k → stitched before ≡ p ∷ rest → is_kept p ≡ false) → is_kept p ≡ false
-marked_step f None before p rest h e rec = pod_not_kept f p (top_in (reverse (pod_pieces f)) (stitched before) p rest h e)
-marked_step f (Some k) before p rest h e rec = step (are_one (Some f) (Some k)) e
-  where
-    step : (b : Bool) → cond b [] (reverse (pod_pieces f)) ++ stitched before ≡ p ∷ rest → is_kept p ≡ false
-    step true d = rec k refl d
-    step false d = pod_not_kept f p (top_in (reverse (pod_pieces f)) (stitched before) p rest h d)
+marked_step f g before p rest h e rec = grind (arith, pod_not_kept, top_in, reverse)
 
 pub run_some : (m : Bool) (f : Mark) → IsGood m (Some f) → 0 < length (reverse (pod_pieces f))
 unfolding IsGood
@@ -84,11 +79,7 @@ few p q h a false false x y z = omega arith
 pub run_first : (m : Bool) (x : Marked) (fill : Option Mark) (history : List Marked) (q : Piece) → AllByRecursion (IsAlike m) history → In q (run_pieces x fill)
     → x.segment.discontinuity_sequence ≤ newest_discontinuity history + 1000 → (p : Piece) (rest : List Piece) → stitched history ≡ p ∷ rest → steps_between p q ≤ 1000
 unfolding In
-run_first m x None history q a (inl h) n p rest d =
-    few p q (λ u v. omega (arith, n, ap (λ (y : Piece). y.segment.discontinuity_sequence) h, top_kept m history p rest a d u)) (is_kept p) (is_kept q) q.first_of_ad refl refl refl
-run_first m x None history q a (inr h) n p rest d = absurd h
-run_first m x (Some f) history q a h n p rest d =
-    let no = pod_not_kept f q h in few p q (λ u v. absurd (cc)) (is_kept p) (is_kept q) q.first_of_ad refl refl refl
+run_first m x fill history q a h n p rest d = grind (arith, few, top_kept, pod_not_kept)
 
 pub above : (m : Bool) (later : List Marked) (x : Marked) (history : List Marked) → IsAlike m x → AllByRecursion (IsAlike m) history → continues x history ≡ false
     → x.segment.discontinuity_sequence ≤ newest_discontinuity history + 1000 → Above (stitched (later ++ (x ∷ history))) (stitched history)

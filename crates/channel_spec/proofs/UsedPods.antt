@@ -1,22 +1,22 @@
 -- The store has the pods of the marks that are shown, of the last break entered and of the rest.
-use Rattle.std.proofs.Common.{◌≡◌, ℕ, ◌+◌, ◌-◌, ◌<◌, ◌≤◌, Bool, true, false, cond, ◌||◌, List, [], ◌∷◌, min, length, refl, ap, sym, ◌∙◌, subst, arith}
+use Rattle.std.proofs.Common.{◌≡◌, ℕ, ◌<◌, ◌≤◌, Bool, true, false, cond, ◌||◌, List, [], ◌∷◌, min, length, refl, ap, sym, ◌∙◌, subst, arith}
 use Rattle.std.proofs.lemmas.Bool.{leb-true, eqb-true, eqb-false}
 use Rattle.std.proofs.Math.Decide.{dec_lt}
-use Rattle.std.specs.Prelude.{Option, Some, None, is_none, option_map, nat_le, nat_lt, filter, ◌==◌}
+use Rattle.std.specs.Prelude.{Option, Some, None, is_none, nat_le, filter, ◌==◌}
 use Rattle.std.specs.List.{AllByRecursion}
 use Rattle.playlist_model.specs.declared.Playlist.{Playlist}
 use Rattle.channel_spec.specs.declared.fault.RefreshFault.{RefreshFault}
 use Rattle.pod_store.specs.Marks.{Mark, Marked, newest_mark}
-use Rattle.stitcher.specs.Stitched.{newest_place, up_to}
+use Rattle.stitcher.specs.Stitched.{up_to}
 use Rattle.pod_store.specs.Store.{Store, kept_in_use, is_one_of}
 use Rattle.break_finder.specs.Known.{Accepted, is_this}
 use Rattle.channel_spec.specs.Marking.{Moment, last_mark, is_new, history_after}
 use Rattle.channel_spec.specs.Successor.{first_number, end_number}
-use Rattle.channel_spec.specs.Live.{Event, decided, refreshed, moment, succession_fault, last_playlist, breaks_in_use, rest_before, decide}
+use Rattle.channel_spec.specs.Live.{Event, decided, refreshed, moment, succession_fault, last_playlist, breaks_in_use, rest_before}
 use Rattle.channel_spec.specs.LiveLaws.{HasPod, ShownHavePods, first_shown}
 use Rattle.channel_spec.specs.Sound.{IsSoundPlaylist, IsSoundEvent}
 use Rattle.stitcher.specs.Paced.{Rest, due_stitched}
-use Rattle.channel_spec.specs.Live.{Told, place_of, gone_before, rest_over, rest_id, start_after, after_refresh, refusal, happens, told}
+use Rattle.channel_spec.specs.Live.{Told, place_of, gone_before, rest_over, rest_id, start_after, after_refresh, refusal, happens}
 use Rattle.channel_spec.specs.Live.{rest_by}
 use Rattle.channel_spec.specs.LiveLaws.{rest_mark, MarksHavePods}
 use Rattle.channel_spec.proofs.Windows.{all_from}
@@ -42,15 +42,7 @@ newest_gone store first number end (x ∷ before) f h k a = step (nat_le number 
 
 found_has : (store : Store) (start : ℕ) (place : ℕ) (gone : List Marked) → Has store (newest_mark gone) → Has store (rest_mark (rest_with 0 start place gone))
 unfolding Has
-found_has store start place gone h = step (nat_lt start (place + 0)) (newest_mark gone) h
-  where
-    there : Mark → Rest
-    there mark = record { mark = mark; place = start - (newest_place gone + 0) }
-
-    step : (b : Bool) (o : Option Mark) → Has store o → Has store (rest_mark (cond b (option_map there o) None))
-    step true None h = tt
-    step true (Some m) h = h
-    step false o h = tt
+found_has store start place gone h = grind arith
 
 -- ---- one refresh
 
@@ -60,11 +52,10 @@ Held p =
     × (HasPod p.store (last_mark p.history) × HasPod p.store (rest_mark (rest_by (last_playlist p.accepted) p.start p.history)))
 
 rest_used : (rest : Option Rest) (f : Mark) → rest_mark rest ≡ Some f → is_this f.id (rest_id rest) ≡ true
-rest_used None f e = absurd (cc)
-rest_used (Some r) f e = let same : r.mark ≡ f = cc in ap (λ (m : Mark). is_this f.id (Some m.id)) same ∙ same_id f.id
+rest_used rest f e = grind (arith, same_id)
 
 rest_same : (n : ℕ) (new old : List Marked) (start : ℕ) → up_to n new ≡ up_to n old → gone_before n new ≡ gone_before n old → rest_over 0 start n new ≡ rest_over 0 start n old
-rest_same n new old start u g = ap (λ l. rest_with 0 start (newest_place l) (gone_before n new)) u ∙ ap (rest_with 0 start (newest_place (up_to n old))) g
+rest_same n new old start u g = grind arith
 
 rest_step : (store : Store) (k n end : ℕ) (new old : List Marked) (start other : ℕ) → n ≤ k → rest_over 0 start n new ≡ rest_over 0 start n old → FallFrom end new → k ≤ end
     → HasPod store (rest_mark (rest_over 0 start n old)) → AllByRecursion (λ (s : Marked). n ≤ s.segment.media_sequence → Has store s.mark) new
@@ -126,20 +117,13 @@ refresh_held tolerance p playlist ph r h e =
 
 refusal_step : (tolerance : ℕ) (p : Told) (playlist : Playlist) → Holds p → IsSoundPlaylist playlist → Held p → (o : Option RefreshFault) → refusal tolerance p playlist ≡ o
     → Held (cond (is_none o) (after_refresh tolerance p playlist) p)
-refusal_step tolerance p playlist ph r h None e = refresh_held tolerance p playlist ph r h (first_none (succession_fault (last_playlist p.accepted) playlist) _ e)
+refusal_step tolerance p playlist ph r h None e = grind (arith, refresh_held, first_none)
 refusal_step tolerance p playlist ph r h (Some x) e = h
 
 event_held : (tolerance : ℕ) (p : Told) (event : Event) → Holds p → IsSoundEvent event → Held p → Held (happens tolerance p event)
-event_held tolerance p (decided ds) ph g h =
-    let t = p in
-    let rest = rest_by (last_playlist t.accepted) p.start t.history in (
-      all_more (λ (s : Marked). first_shown t.accepted ≤ s.segment.media_sequence → HasPod t.store s.mark) (λ (s : Marked). first_shown t.accepted ≤ s.segment.media_sequence → HasPod (decide ds t.store) s.mark) t.history
-          (λ s k n. decide_keeps ds t.store s.mark (k n)) h.0,
-      (decide_keeps ds t.store (last_mark t.history) h.1.0, decide_keeps ds t.store (rest_mark rest) h.1.1),
-    )
-event_held tolerance p (refreshed playlist) ph g h = refusal_step tolerance p playlist ph g h (refusal tolerance p playlist) refl
+event_held tolerance p (decided ds) ph g h = grind (arith, all_more, decide_keeps)
+event_held tolerance p (refreshed playlist) ph g h = grind (arith, refusal_step)
 
 pub marks_have_pods : MarksHavePods
 marks_have_pods tolerance [] g = (tt, (tt, tt))
-marks_have_pods tolerance (event ∷ before) g =
-    event_held tolerance (told tolerance before) event (holds tolerance before g.1) g.0 (marks_have_pods tolerance before g.1)
+marks_have_pods tolerance (event ∷ before) g = grind (arith, event_held, holds, marks_have_pods tolerance before g.1)

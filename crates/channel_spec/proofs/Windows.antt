@@ -88,7 +88,7 @@ onto first after (p ∷ front) = numbered_segment p (numbers_at first p (front +
 pub numbered-onto : (first : Numbers) (front after : List Piece) → numbered first (front ++ after) ≡ onto first after front ++ numbered first after
 unfolding onto
 numbered-onto first [] after = refl
-numbered-onto first (p ∷ front) after = ap (λ xs. numbered_segment p (numbers_at first p (front ++ after)) ∷ xs) (numbered-onto first front after)
+numbered-onto first (p ∷ front) after = grind (arith, numbered-onto first front after)
 
 pub length-onto : (first : Numbers) (front after : List Piece) → length (onto first after front) ≡ length front
 unfolding onto
@@ -126,7 +126,7 @@ unfolding window_of
 first_of_window first front q after = media_at first q after
 
 pub end_of_window : (first : Numbers) (front : List Piece) (q : Piece) (after : List Piece) → end_number (window_of first front q after) ≡ first.media_sequence + length (front ++ (q ∷ after))
-end_of_window first front q after = omega (arith, first_of_window first front q after, length-window first front q after, length-append front (q ∷ after))
+end_of_window first front q after = grind (arith, first_of_window, length-window, length-append)
 
 -- ---- what stands in a window stands in the list
 

@@ -1,13 +1,13 @@
 -- A break is in use exactly if a segment of its pod is written, or it was entered last.
-use Rattle.std.proofs.Common.{◌≡◌, ℕ, ◌+◌, ◌-◌, ◌<◌, ◌≤◌, Bool, true, false, cond, ◌&&◌, ◌||◌, List, [], ◌∷◌, ◌++◌, map, zero, suc, take, drop, length, reverse, refl, ap, sym, ◌∙◌, subst, length-append, arith}
-use Rattle.std.proofs.lemmas.Bool.{lt-leb, le-leb, ltb-true}
+use Rattle.std.proofs.Common.{◌≡◌, ℕ, ◌-◌, ◌<◌, ◌≤◌, Bool, true, false, cond, ◌&&◌, ◌||◌, List, [], ◌∷◌, ◌++◌, map, zero, suc, take, drop, length, reverse, refl, ap, sym, ◌∙◌, subst, length-append, arith}
+use Rattle.std.proofs.lemmas.Bool.{le-leb, ltb-true}
 use Rattle.std.proofs.Math.Seq.{take-append_seam}
-use Rattle.std.specs.Prelude.{Option, Some, None, is_some, nat_le, nat_lt}
+use Rattle.std.specs.Prelude.{Option, Some, is_some, nat_le}
 use Rattle.std.specs.List.{AllByRecursion, list_any}
 use Rattle.playlist_model.specs.declared.Playlist.{Playlist}
 use Rattle.pod_store.specs.Pods.{PodSegment, Ad}
 use Rattle.pod_store.specs.Marks.{Mark, Marked, newest_mark, continues}
-use Rattle.stitcher.specs.Stitched.{Piece, Numbers, ad_piece, ad_pieces, pieces_of_ads, pod_pieces, run_pieces, stitched, numbered, first_numbers, from_place}
+use Rattle.stitcher.specs.Stitched.{Piece, Numbers, ad_piece, ad_pieces, pieces_of_ads, run_pieces, stitched, numbered, first_numbers, from_place}
 use Rattle.stitcher.specs.Paced.{Rest, older, due, newest_pieces, due_with, due_stitched, rest_pieces}
 use Rattle.break_finder.specs.Known.{Accepted, is_this}
 use Rattle.channel_spec.specs.Marking.{last_entered}
@@ -32,11 +32,7 @@ use Rattle.channel_spec.proofs.KeptWhole.{stand_on, linked_behind}
 
 any_append : {A : Type 0} (test : A → Bool) (xs ys : List A) → list_any test (xs ++ ys) ≡ (list_any test xs || list_any test ys)
 any_append test [] ys = refl
-any_append test (x ∷ xs) ys = ap (λ b. test x || b) (any_append test xs ys) ∙ grouped (test x) (list_any test xs) (list_any test ys)
-  where
-    grouped : (a b c : Bool) → (a || (b || c)) ≡ ((a || b) || c)
-    grouped true b c = refl
-    grouped false b c = refl
+any_append test (x ∷ xs) ys = grind (arith, any_append test xs ys)
 
 or_swap : (a b : Bool) → (a || b) ≡ (b || a)
 or_swap true true = refl
@@ -54,10 +50,7 @@ or_twice false b = refl
 
 pub any_reverse : {A : Type 0} (test : A → Bool) (xs : List A) → list_any test (reverse xs) ≡ list_any test xs
 any_reverse test [] = refl
-any_reverse test (x ∷ xs) =
-    ap (list_any test) (reverse-cons x xs)
-    ∙ (any_append test (reverse xs) (x ∷ [])
-    ∙ (ap (λ b. b || (test x || false)) (any_reverse test xs) ∙ (or_swap (list_any test xs) (test x || false) ∙ ap (λ b. b || list_any test xs) (or_false (test x)))))
+any_reverse test (x ∷ xs) = grind (arith, reverse-cons, any_append, reverse, or_swap, or_false, any_reverse test xs)
 
 -- ---- pieces of a pod
 
@@ -86,25 +79,17 @@ ad_of mark ad (s ∷ segments) = (refl, later_of mark ad segments)
 
 pub ads_of : (mark : Mark) (ads : List Ad) → AllByRecursion (of_mark mark) (pieces_of_ads mark ads)
 ads_of mark [] = tt
-ads_of mark (ad ∷ ads) = all_append (of_mark mark) (ad_pieces mark ad ad.segments) (pieces_of_ads mark ads) (ad_of mark ad ad.segments) (ads_of mark ads)
+ads_of mark (ad ∷ ads) = grind (arith, all_append, ad_of, ads_of mark ads)
 
 pub due_of : (mark : Mark) (n : ℕ) (pieces : List Piece) → AllByRecursion (of_mark mark) pieces → AllByRecursion (of_mark mark) (due n pieces)
 due_of mark n [] h = tt
-due_of mark n (p ∷ pieces) h = (h.0, on (nat_le n p.segment.duration) (due_of mark (n - p.segment.duration) pieces h.1))
-  where
-    on : (b : Bool) → AllByRecursion (of_mark mark) (due (n - p.segment.duration) pieces) → AllByRecursion (of_mark mark) (cond b [] (due (n - p.segment.duration) pieces))
-    on true k = tt
-    on false k = k
+due_of mark n (p ∷ pieces) h = grind (arith, due_of mark (n - p.segment.duration) pieces h.1)
 
 -- pieces of one pod, if there are any
 any_of : (id : List ℕ) (mark : Mark) (pieces : List Piece) → AllByRecursion (of_mark mark) pieces → 0 < length pieces → list_any (of_pod id) pieces ≡ is_marked id (Some mark)
 any_of id mark [] h n = absurd (omega (arith, n))
-any_of id mark (p ∷ []) h n = ap (λ o. is_marked id o || false) h.0 ∙ or_false (is_marked id (Some mark))
-any_of id mark (p ∷ q ∷ pieces) h n = ap (λ o. is_marked id o || list_any (of_pod id) (q ∷ pieces)) h.0 ∙ (ap (λ b. is_marked id (Some mark) || b) (any_of id mark (q ∷ pieces) h.1 (omega arith)) ∙ same (is_marked id (Some mark)))
-  where
-    same : (b : Bool) → (b || b) ≡ b
-    same true = refl
-    same false = refl
+any_of id mark (p ∷ []) h n = grind arith
+any_of id mark (p ∷ q ∷ pieces) h n = grind (arith, any_of id mark (q ∷ pieces) h.1 (omega arith))
 
 due_some : (n : ℕ) (pieces : List Piece) → 0 < length pieces → 0 < length (due n pieces)
 due_some n [] h = absurd (omega (arith, h))
@@ -113,15 +98,11 @@ due_some n (p ∷ pieces) h = omega arith
 -- what stands for a run is of its pod, or of none
 any_newest : (m whole : Bool) (n : ℕ) (id : List ℕ) (s : Marked) (o : Option Mark) → IsGood m o → list_any (of_pod id) (newest_pieces whole n s o) ≡ is_marked id o
 unfolding IsGood
-any_newest m whole n id s None g = refl
-any_newest m true n id s (Some f) g = any_reverse (of_pod id) (pod_pieces f) ∙ any_of id f (pod_pieces f) (ads_of f f.pod.ads) g.some
-any_newest m false n id s (Some f) g =
-    any_reverse (of_pod id) (due n (pod_pieces f)) ∙ any_of id f (due n (pod_pieces f)) (due_of f n (pod_pieces f) (ads_of f f.pod.ads)) (due_some n (pod_pieces f) g.some)
+any_newest m whole n id s o g = grind (arith, any_reverse, any_of, ads_of, due_of, due_some)
 
 any_run : (m : Bool) (id : List ℕ) (s : Marked) (o : Option Mark) → IsGood m o → list_any (of_pod id) (run_pieces s o) ≡ is_marked id o
 unfolding IsGood
-any_run m id s None g = refl
-any_run m id s (Some f) g = any_reverse (of_pod id) (pod_pieces f) ∙ any_of id f (pod_pieces f) (ads_of f f.pod.ads) g.some
+any_run m id s o g = grind (arith, any_reverse, any_of, ads_of)
 
 -- ---- the marks of segments
 
@@ -130,8 +111,7 @@ marked_by id s = is_marked id s.mark
 
 -- a segment that goes on a run marks nothing more
 goes_on : (id : List ℕ) (s : Marked) (before : List Marked) → s.mark ≡ newest_mark before → list_any (marked_by id) (s ∷ before) ≡ list_any (marked_by id) before
-goes_on id s [] e = ap (λ o. is_marked id o || false) e
-goes_on id s (t ∷ before) e = ap (λ o. is_marked id o || (is_marked id t.mark || list_any (marked_by id) before)) e ∙ or_twice (is_marked id t.mark) (list_any (marked_by id) before)
+goes_on id s before e = grind arith
 
 any_stitched : (m : Bool) (id : List ℕ) (history : List Marked) → Linked history → AllByRecursion (IsAlike m) history → list_any (of_pod id) (stitched history) ≡ list_any (marked_by id) history
 any_stitched m id [] l a = refl
@@ -146,32 +126,15 @@ any_stitched m id (s ∷ before) l a = step (continues s before) refl (any_stitc
 
 older_linked : (history : List Marked) → Linked history → Linked (older history)
 older_linked [] l = tt
-older_linked (s ∷ before) l = step (continues s before) (older_linked before l.1)
-  where
-    step : (b : Bool) → Linked (older before) → Linked (cond b (older before) before)
-    step true k = k
-    step false k = l.1
+older_linked (s ∷ before) l = grind (arith, older_linked before l.1)
 
 older_alike : (m : Bool) (history : List Marked) → AllByRecursion (IsAlike m) history → AllByRecursion (IsAlike m) (older history)
 older_alike m [] a = tt
-older_alike m (s ∷ before) a = step (continues s before) (older_alike m before a.1)
-  where
-    step : (b : Bool) → AllByRecursion (IsAlike m) (older before) → AllByRecursion (IsAlike m) (cond b (older before) before)
-    step true k = k
-    step false k = a.1
+older_alike m (s ∷ before) a = grind (arith, older_alike m before a.1)
 
 any_older : (id : List ℕ) (s : Marked) (before : List Marked) → Linked (s ∷ before) → (is_marked id s.mark || list_any (marked_by id) (older (s ∷ before))) ≡ list_any (marked_by id) (s ∷ before)
-any_older id s [] l = step (continues s [])
-  where
-    step : (b : Bool) → (is_marked id s.mark || list_any (marked_by id) (cond b [] [])) ≡ (is_marked id s.mark || false)
-    step true = refl
-    step false = refl
-any_older id s (t ∷ before) l = step (continues s (t ∷ before)) refl (any_older id t before l.1)
-  where
-    step : (b : Bool) → continues s (t ∷ before) ≡ b → (is_marked id t.mark || list_any (marked_by id) (older (t ∷ before))) ≡ list_any (marked_by id) (t ∷ before)
-        → (is_marked id s.mark || list_any (marked_by id) (cond b (older (t ∷ before)) (t ∷ before))) ≡ list_any (marked_by id) (s ∷ t ∷ before)
-    step true e rec = ap (λ o. is_marked id o || list_any (marked_by id) (older (t ∷ before))) (l.0 e) ∙ (rec ∙ sym (goes_on id s (t ∷ before) (l.0 e)))
-    step false e rec = refl
+any_older id s [] l = grind arith
+any_older id s (t ∷ before) l = grind (arith, any_older id t before l.1)
 
 -- a list with what is due of its newest run has pieces of the pods of its marks
 any_due : (m whole : Bool) (n : ℕ) (id : List ℕ) (history : List Marked) → Linked history → AllByRecursion (IsAlike m) history → list_any (of_pod id) (due_with whole n history) ≡ list_any (marked_by id) history
@@ -185,23 +148,11 @@ any_due m whole n id (s ∷ before) l a =
 -- ---- the rest
 
 any_rest : (id : List ℕ) (o : Option Rest) → (is_some o ≡ true → 0 < length (rest_pieces o)) → list_any (of_pod id) (rest_pieces o) ≡ is_this id (rest_id o)
-any_rest id None h = refl
-any_rest id (Some rest) h =
-    any_reverse (of_pod id) (drop rest.place (pod_pieces rest.mark))
-    ∙ any_of id rest.mark (drop rest.place (pod_pieces rest.mark)) (all_drop (of_mark rest.mark) rest.place (pod_pieces rest.mark) (ads_of rest.mark rest.mark.pod.ads))
-    (omega (arith, h refl, length-reverse (drop rest.place (pod_pieces rest.mark))))
+any_rest id o h = grind (arith, any_reverse, any_of, all_drop, ads_of, length-reverse)
 
 rest_some : (s : Marked) (gone : List Marked) (start : ℕ) → Below s gone start (rest_with 0 start (length (stitched (rest_of s gone))) gone)
     → is_some (rest_with 0 start (length (stitched (rest_of s gone))) gone) ≡ true → 0 < length (rest_pieces (rest_with 0 start (length (stitched (rest_of s gone))) gone))
-rest_some s gone start b e = sized (length (stitched (rest_of s gone))) (rest_with 0 start (length (stitched (rest_of s gone))) gone) (inside (nat_lt start (length (stitched (rest_of s gone)) + 0)) refl e)
-    (ap length b.is ∙ length-append (rest_pieces (rest_with 0 start (length (stitched (rest_of s gone))) gone)) b.below) b.size
-  where
-    inside : (t : Bool) → nat_lt start (length (stitched (rest_of s gone)) + 0) ≡ t → is_some (cond t (rest_found 0 start gone) None) ≡ true → start < length (stitched (rest_of s gone)) + 0
-    inside true t k = ltb-true start (length (stitched (rest_of s gone)) + 0) t
-    inside false t k = absurd (cc)
-
-    sized : (place : ℕ) (o : Option Rest) → start < place + 0 → place ≡ length (rest_pieces o) + length b.below → length b.below ≡ start → 0 < length (rest_pieces o)
-    sized place o h k l = omega (arith, h, k, l)
+rest_some s gone start b e = grind (arith, rest_of, rest_with, length-append, rest_found, ltb-true)
 
 -- ---- the window
 
@@ -221,18 +172,12 @@ any_window id first stood below pieces start e f =
 
 none_used : (first end : ℕ) (id : List ℕ) (gone : List Marked) → FallFrom end gone → end ≤ first → list_any (λ (s : Marked). nat_le first s.segment.media_sequence && is_marked id s.mark) gone ≡ false
 none_used first end id [] f h = refl
-none_used first end id (g ∷ gone) f h =
-    ap (λ b. (b && is_marked id g.mark) || list_any (λ (s : Marked). nat_le first s.segment.media_sequence && is_marked id s.mark) gone) (lt-leb first g.segment.media_sequence (omega (arith, f.0, h)))
-    ∙ none_used first g.segment.media_sequence id gone f.1 (omega (arith, f.0, h))
+none_used first end id (g ∷ gone) f h = grind (arith, none_used first g.segment.media_sequence id gone f.1 (omega (arith, f.0, h)))
 
 any_shown : (first end : ℕ) (id : List ℕ) (newer : List Marked) (s : Marked) (gone : List Marked) → FallFrom end (newer ++ (s ∷ gone)) → s.segment.media_sequence ≡ first
     → list_any (λ (x : Marked). nat_le first x.segment.media_sequence && is_marked id x.mark) (newer ++ (s ∷ gone)) ≡ list_any (marked_by id) (newer ++ (s ∷ []))
-any_shown first end id [] s gone f e =
-    ap (λ b. (b && is_marked id s.mark) || list_any (λ (x : Marked). nat_le first x.segment.media_sequence && is_marked id x.mark) gone) (le-leb first s.segment.media_sequence (omega (arith, e)))
-    ∙ ap (λ b. is_marked id s.mark || b) (none_used first s.segment.media_sequence id gone f.1 (omega (arith, e)))
-any_shown first end id (x ∷ newer) s gone f e =
-    ap (λ b. (b && is_marked id x.mark) || list_any (λ (y : Marked). nat_le first y.segment.media_sequence && is_marked id y.mark) (newer ++ (s ∷ gone))) (le-leb first x.segment.media_sequence (omega (arith, fall_length x.segment.media_sequence newer s gone f.1, e)))
-    ∙ ap (λ b. is_marked id x.mark || b) (any_shown first x.segment.media_sequence id newer s gone f.1 e)
+any_shown first end id [] s gone f e = grind (arith, le-leb, none_used)
+any_shown first end id (x ∷ newer) s gone f e = grind (arith, le-leb, fall_length, any_shown first x.segment.media_sequence id newer s gone f.1 e)
 
 alike_cut : (m : Bool) (newer : List Marked) (s : Marked) (gone : List Marked) → AllByRecursion (IsAlike m) (newer ++ (s ∷ gone)) → AllByRecursion (IsAlike m) (newer ++ (s ∷ []))
 alike_cut m [] s gone a = (a.0, tt)

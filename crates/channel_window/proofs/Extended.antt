@@ -1,15 +1,14 @@
 -- A run with one segment more.
-use Rattle.std.proofs.Common.{◌≡◌, ℕ, ◌+◌, ℤ, Bool, true, false, cond, List, [], ◌∷◌, refl, ap, sym, ◌∙◌}
-use Rattle.std.specs.Prelude.{Option, Some, None, is_some, option_map}
+use Rattle.std.proofs.Common.{◌≡◌, ℕ, ◌+◌, ℤ, Bool, true, false, cond, List, ◌∷◌, refl, ap, sym, ◌∙◌}
+use Rattle.std.specs.Prelude.{Option, Some, None, is_some}
 use Rattle.std.proofs.lemmas.Slice.Eq.{bytes_eq-Decides}
 use Rattle.playlist_model.specs.declared.Segment.{Segment}
 use Rattle.playlist_model.specs.LookBack.{or_earlier}
 use Rattle.pod_store.specs.Store.{Store}
-use Rattle.pod_store.specs.Marks.{Mark, Marked, newest_mark}
 use Rattle.stitcher.specs.declared.marked.MarkedSegment.{MarkedSegment as Held}
 use Rattle.stitcher.specs.Making.{is_same_run}
 use Rattle.break_finder.specs.Entering.{entered}
-use Rattle.channel_spec.specs.Marking.{Moment, limits, mark_id, last_mark, last_entered}
+use Rattle.channel_spec.specs.Marking.{Moment, limits}
 use Rattle.channel_window.specs.Marking.{stays, next_id, mark_on, capped_in, length_before, length_after}
 use Rattle.channel_window.specs.Inner.Terms.{entered_after}
 use Rattle.channel_window.specs.declared.marking.Run.{Run}
@@ -68,14 +67,6 @@ earlier_twice None last = refl
 earlier_twice (Some id) last = refl
 
 -- ---- the break of the newest segment, if any, is the last one entered
-
-newest_by : (o : Option Mark) (newest last : Option (List ℕ)) (before : Option Mark) → option_map mark_id o ≡ newest → or_earlier (option_map mark_id (or_earlier o before)) last ≡ last → or_earlier newest last ≡ last
-newest_by None newest last before e h = sym (ap (λ id. or_earlier id last) e)
-newest_by (Some mark) newest last before e h = sym (ap (λ id. or_earlier id last) e) ∙ h
-
-pub newest_is_last : (seen : List Marked) (newest last : Option (List ℕ)) → option_map mark_id (newest_mark seen) ≡ newest → or_earlier (last_entered seen) last ≡ last → or_earlier newest last ≡ last
-newest_is_last [] newest last e h = newest_by None newest last None e h
-newest_is_last (s ∷ before) newest last e h = newest_by s.mark newest last (last_mark before) e h
 
 -- ---- the marks of the next segments
 

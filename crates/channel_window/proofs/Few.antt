@@ -1,5 +1,5 @@
 -- Few breaks, looked through.
-use Rattle.std.proofs.Common.{◌≡◌, ℕ, Bool, true, false, cond, not, ◌||◌, List, [], ◌∷◌, ◌++◌, map, filter, refl, ap, ◌∙◌}
+use Rattle.std.proofs.Common.{◌≡◌, ℕ, Bool, true, false, cond, not, ◌||◌, List, [], ◌∷◌, ◌++◌, map, refl, ap, ◌∙◌, arith}
 use Rattle.std.specs.Prelude.{bytes_eq}
 use Rattle.std.proofs.lemmas.Slice.Eq.{bytes_eq-Decides}
 use Rattle.playlist_model.specs.declared.DateRange.{DateRange}
@@ -15,10 +15,10 @@ pub among_themselves : (ids : List (List ℕ)) → AreAmong ids ids
 among_themselves ids = record { are = λ id h. h }
 
 pub among_later : (first : List ℕ) (later some all : List (List ℕ)) → some ≡ first ∷ later → AreAmong some all → AreAmong later all
-among_later first later some all is h = record { are = λ id k. h.are id (ap (λ ids. is_one_of ids id) is ∙ (ap (λ b. bytes_eq id first || b) k ∙ either_true (bytes_eq id first))) }
+among_later first later some all is h = grind arith
 
 pub first_among : (id : List ℕ) (later some all : List (List ℕ)) → some ≡ id ∷ later → AreAmong some all → is_one_of all id ≡ true
-first_among id later some all is h = h.are id (ap (λ ids. is_one_of ids id) is ∙ ap (λ b. b || is_one_of later id) ((bytes_eq-Decides id id).1 refl))
+first_among id later some all is h = grind (arith, bytes_eq-Decides)
 
 pub here : (id one : List ℕ) (later ids : List (List ℕ)) → ids ≡ one ∷ later → bytes_eq id one ≡ true → is_one_of ids id ≡ true
 here id one later ids is h = ap (λ xs. is_one_of xs id) is ∙ ap (λ b. b || is_one_of later id) h
@@ -36,10 +36,4 @@ text_gone ids r h = ap (λ b. map date_range_text (cond (not b) (r ∷ []) [])) 
 
 -- those of a date range and of later ones
 pub texts_on : (ids : List (List ℕ)) (r : DateRange) (later : List DateRange) → texts_left ids (r ∷ later) ≡ texts_left ids (r ∷ []) ++ texts_left ids later
-texts_on ids r later = step (not (is_one_of ids r.id))
-  where
-    step : (b : Bool)
-        → map date_range_text (cond b (r ∷ filter (λ (x : DateRange). not (is_one_of ids x.id)) later) (filter (λ (x : DateRange). not (is_one_of ids x.id)) later))
-        ≡ map date_range_text (cond b (r ∷ []) []) ++ texts_left ids later
-    step true = refl
-    step false = refl
+texts_on ids r later = grind arith

@@ -27,9 +27,7 @@ is_not a b h false e = refl
 
 below : (n k : ℕ) (segments : List Segment) → RiseFrom n segments → k < n → find (has_number k) segments ≡ None
 below n k [] r h = refl
-below n k (s ∷ later) r h =
-    let test : (s.media_sequence == k) ≡ false = is_not s.media_sequence k (λ e. omega (arith, e, r.0, h)) (s.media_sequence == k) refl in
-    rw test (below (n + 1) k later r.1 (omega (arith, h)))
+below n k (s ∷ later) r h = grind (arith, below (n + 1) k later r.1 (omega (arith, h)))
 
 there : (n k : ℕ) (segments : List Segment) → RiseFrom n segments → n ≤ k → find (has_number k) segments ≡ slice_get segments (k - n)
 there n k [] r h = sym (nothing (k - n))
@@ -105,7 +103,7 @@ meant_listed store (m ∷ held) = ap (λ ss. m.segment ∷ ss) (meant_listed sto
 
 -- as they are meant, the newest first, they are listed as they are held
 pub held_listed : (store : Store) (held : List Held) → listed (so_far store held) ≡ segments_in held
-held_listed store held = ap (map segment_of) (reverse-reverse (map (meant store) held)) ∙ meant_listed store held
+held_listed store held = grind (arith, reverse-reverse, meant_listed)
 
 pub last_append : (xs : List Segment) (x : Segment) → last_discontinuity (xs ++ x ∷ []) ≡ x.discontinuity_sequence
 last_append [] x = refl

@@ -1,12 +1,11 @@
 -- A stitched list goes on from the begin of a run.
 use Rattle.std.proofs.Common.{◌≡◌, ℕ, ◌+◌, ◌-◌, ◌<◌, ◌≤◌, Bool, true, false, not, cond, suc, List, [], ◌∷◌, ◌++◌, map, drop, length, reverse, refl, ap, sym, ◌∙◌, arith, append_assoc, length-append, true≢false}
-use Rattle.std.specs.Prelude.{Option, Some, None}
 use Rattle.std.specs.List.{list_all}
 use Rattle.std.proofs.lemmas.List.{append-nil, map-append, reverse-append, length-map, length-drop, drop-drop}
 use Rattle.std.proofs.Math.Seq.{drop-append_seam, drop-append-add}
-use Rattle.pod_store.specs.Marks.{Mark, Marked, continues}
-use Rattle.stitcher.specs.Stitched.{Piece, Numbers, Item, fits, numbered, numbers_at, next_numbers, steps_between, stitched, run_pieces}
-use Rattle.stitcher.specs.Paced.{first_of_run, older, newest_pieces, due_with}
+use Rattle.pod_store.specs.Marks.{Marked, continues}
+use Rattle.stitcher.specs.Stitched.{Piece, Numbers, Item, fits, numbered, numbers_at, next_numbers, steps_between, stitched}
+use Rattle.stitcher.specs.Paced.{first_of_run, older, due_with}
 use Rattle.stitcher.specs.Written.{written_item}
 use Rattle.stitcher.specs.declared.OutSegment.{OutSegment}
 use Rattle.channel_spec.proofs.Runs.{nothing_continues}
@@ -28,18 +27,13 @@ cond_alike false a c d e rest f g = g
 
 pub stitched_apart : (later before : List Marked) → begins_run later before ≡ true → stitched (later ++ before) ≡ stitched later ++ stitched before
 stitched_apart [] before e = absurd (true≢false (sym e))
-stitched_apart (s ∷ []) before e =
-    let run = run_pieces s s.mark in
-    ap (λ b. cond b [] run ++ stitched before) (not_true (continues s before) e ∙ sym (nothing_continues s))
-    ∙ ap (λ xs. xs ++ stitched before) (sym (append-nil (cond (continues s []) [] run)))
-stitched_apart (s ∷ (t ∷ earlier)) before e =
-    let here = cond (continues s (t ∷ earlier)) [] (run_pieces s s.mark) in
-    ap (λ xs. here ++ xs) (stitched_apart (t ∷ earlier) before e) ∙ sym (append_assoc here (stitched (t ∷ earlier)) (stitched before))
+stitched_apart (s ∷ []) before e = grind (arith, not_true, nothing_continues, append-nil)
+stitched_apart (s ∷ (t ∷ earlier)) before e = grind (arith, append_assoc, stitched_apart (t ∷ earlier) before e)
 
 first_apart : (s : Marked) (earlier before : List Marked) → begins_run (s ∷ earlier) before ≡ true → first_of_run s (earlier ++ before) ≡ first_of_run s earlier
 first_apart s [] [] e = refl
-first_apart s [] (x ∷ before) e = ap (λ b. cond b (first_of_run x before) s) (not_true (continues s (x ∷ before)) e)
-first_apart s (t ∷ earlier) before e = ap (λ f. cond (continues s (t ∷ earlier)) f s) (first_apart t earlier before e)
+first_apart s [] (x ∷ before) e = grind arith
+first_apart s (t ∷ earlier) before e = grind (arith, first_apart t earlier before e)
 
 older_apart : (s : Marked) (earlier before : List Marked) → begins_run (s ∷ earlier) before ≡ true → stitched (older (s ∷ (earlier ++ before))) ≡ stitched (older (s ∷ earlier)) ++ stitched before
 older_apart s [] before e =
@@ -50,31 +44,13 @@ older_apart s (t ∷ earlier) before e =
 
 -- what is due of the newest run doesn't depend on what came before a run that begins
 pub due_apart : (whole : Bool) (n : ℕ) (later before : List Marked) → begins_run later before ≡ true → due_with whole n (later ++ before) ≡ due_with whole n later ++ stitched before
-due_apart whole n [] before e = absurd (true≢false (sym e))
-due_apart whole n (s ∷ earlier) before e =
-    let f = first_of_run s earlier in
-    ap (λ (g : Marked). newest_pieces whole n g g.mark ++ stitched (older (s ∷ (earlier ++ before)))) (first_apart s earlier before e)
-    ∙ ap (λ xs. newest_pieces whole n f f.mark ++ xs) (older_apart s earlier before e)
-    ∙ sym (append_assoc (newest_pieces whole n f f.mark) (stitched (older (s ∷ earlier))) (stitched before))
-
-whole_pieces : (n : ℕ) (s : Marked) (o : Option Mark) → newest_pieces true n s o ≡ run_pieces s o
-whole_pieces n s None = refl
-whole_pieces n s (Some m) = refl
+due_apart whole n later before e = grind (arith, true≢false, first_apart, older_apart, append_assoc)
 
 -- all of each pod is due of runs that are over
 pub due_whole : (n : ℕ) (marked : List Marked) → due_with true n marked ≡ stitched marked
 due_whole n [] = refl
-due_whole n (s ∷ []) =
-    let run = run_pieces s s.mark in
-    ap (λ xs. xs ++ stitched (older (s ∷ []))) (whole_pieces n s s.mark)
-    ∙ ap (λ b. run ++ stitched (cond b [] [])) (nothing_continues s)
-    ∙ sym (ap (λ b. cond b [] run ++ []) (nothing_continues s))
-due_whole n (s ∷ (t ∷ before)) = step (continues s (t ∷ before)) (due_whole n (t ∷ before))
-  where
-    step : (b : Bool) → due_with true n (t ∷ before) ≡ stitched (t ∷ before)
-        → newest_pieces true n (cond b (first_of_run t before) s) (cond b (first_of_run t before) s).mark ++ stitched (cond b (older (t ∷ before)) (t ∷ before)) ≡ cond b [] (run_pieces s s.mark) ++ stitched (t ∷ before)
-    step true h = h
-    step false h = ap (λ xs. xs ++ stitched (t ∷ before)) (whole_pieces n s s.mark)
+due_whole n (s ∷ []) = grind arith
+due_whole n (s ∷ (t ∷ before)) = grind (arith, due_whole n (t ∷ before))
 
 -- more segments after them begin no other run in front
 pub begins_still : (fresh later before : List Marked) → begins_run later before ≡ true → begins_run (fresh ++ later) before ≡ true
@@ -104,23 +80,17 @@ base_here first p (q ∷ front) after = ap (λ (n : Numbers). next_numbers n (st
 renumbered : (first : Numbers) (front after : List Piece) → numbered first (front ++ after) ≡ numbered (base_at first front after) front ++ numbered first after
 renumbered first [] after = refl
 renumbered first (p ∷ []) after = refl
-renumbered first (p ∷ (q ∷ front)) after =
-    ap (λ (n : Numbers). record { piece = p; numbers = n } ∷ numbered first ((q ∷ front) ++ after)) (base_here first p (q ∷ front) after)
-    ∙ ap (λ (xs : List Item). record { piece = p; numbers = numbers_at (base_at first (p ∷ (q ∷ front)) after) p (q ∷ front) } ∷ xs) (renumbered first (q ∷ front) after)
+renumbered first (p ∷ (q ∷ front)) after = grind (arith, renumbered first (q ∷ front) after)
 
 out_append : (first : Numbers) (front after : List Piece) → out_of first (front ++ after) ≡ out_of first after ++ out_of (base_at first front after) front
-out_append first front after =
-    let n = base_at first front after in
-    ap (λ (xs : List Item). map written_item (reverse xs)) (renumbered first front after)
-    ∙ (ap (map written_item) (reverse-append (numbered n front) (numbered first after))
-    ∙ map-append written_item (reverse (numbered first after)) (reverse (numbered n front)))
+out_append first front after = grind (arith, reverse, renumbered, reverse-append, map-append)
 
 length_items : (first : Numbers) (pieces : List Piece) → length (numbered first pieces) ≡ length pieces
 length_items first [] = refl
 length_items first (p ∷ pieces) = ap suc (length_items first pieces)
 
 pub out_long : (first : Numbers) (pieces : List Piece) → length (out_of first pieces) ≡ length pieces
-out_long first pieces = length-map (reverse (numbered first pieces)) written_item ∙ (length-reverse (numbered first pieces) ∙ length_items first pieces)
+out_long first pieces = grind (arith, length-map, reverse, length-reverse, length_items)
 
 head_append : (xs ys : List OutSegment) → 0 < length xs → head_of (xs ++ ys) ≡ head_of xs
 head_append [] ys h = absurd (omega (arith, h))
@@ -141,9 +111,7 @@ head_at first (p ∷ (q ∷ before)) h =
 pub from_run : (first : Numbers) (whole : Bool) (n : ℕ) (later before : List Marked) (rest : List Piece) → begins_run later before ≡ true
     → out_of first (due_with whole n (later ++ before) ++ rest)
     ≡ out_of first (stitched before ++ rest) ++ out_of (base_at first (due_with whole n later) (stitched before ++ rest)) (due_with whole n later)
-from_run first whole n later before rest e =
-    ap (λ ps. out_of first (ps ++ rest)) (due_apart whole n later before e)
-    ∙ (ap (out_of first) (append_assoc (due_with whole n later) (stitched before) rest) ∙ out_append first (due_with whole n later) (stitched before ++ rest))
+from_run first whole n later before rest e = grind (arith, due_apart, append_assoc, out_append)
 
 -- what the list comes to with fresh segments: the items before the run stay, and those from its first on are made again with its numbers
 pub record GoesFrom (first n : Numbers) (whole : Bool) (lasted : ℕ) (later before : List Marked) (rest : List Piece) (window old : List OutSegment) (items : ℕ) : Type 0 where
@@ -154,9 +122,7 @@ pub record GoesFrom (first n : Numbers) (whole : Bool) (lasted : ℕ) (later bef
 
 fits_alike : (first : Numbers) (front after : List Piece) → 0 < length front → list_all fits (numbered first (front ++ after)) ≡ list_all fits (numbered (base_at first front after) front)
 fits_alike first [] after h = absurd (omega (arith, h))
-fits_alike first (p ∷ front) after h =
-    newest_fits first p (front ++ after)
-    ∙ (ap (λ (n : Numbers). fits (record { piece = p; numbers = n })) (base_here first p front after) ∙ sym (newest_fits (base_at first (p ∷ front) after) p front))
+fits_alike first (p ∷ front) after h = grind (arith, newest_fits, base_here)
 
 module _ (first n : Numbers) (whole0 whole1 : Bool) (lasted0 lasted1 : ℕ) (fresh later before : List Marked) (rest : List Piece) (more : List OutSegment) (items : ℕ) (begins : begins_run later before ≡ true) where
   abbrev old : List OutSegment
@@ -211,10 +177,7 @@ dropped_long n xs = length-drop n xs
 
 -- the items from a place on, counted from the end, are the same without some in front
 pub from_end : (start items : ℕ) (xs : List OutSegment) → start + items ≤ length xs → drop (length (drop start xs) - items) (drop start xs) ≡ drop (length xs - items) xs
-from_end start items xs h =
-    let k = length (drop start xs) - items in
-    drop-drop k start xs ∙ ap (λ j. drop j xs) (let d = dropped_long start xs in omega (arith, d, h))
+from_end start items xs h = grind (arith, drop-drop, dropped_long)
 
 pub from_end_after : (items : ℕ) (front xs : List OutSegment) → items ≤ length xs → drop (length xs - items) xs ≡ drop (length (front ++ xs) - items) (front ++ xs)
-from_end_after items front xs h =
-    sym (ap (λ j. drop j (front ++ xs)) (let a = length-append front xs in omega (arith, a, h)) ∙ drop-append-add front xs (length xs - items))
+from_end_after items front xs h = grind (arith, length-append, drop-append-add)

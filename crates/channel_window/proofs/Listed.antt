@@ -80,10 +80,7 @@ over n k h = grind (arith, nat_tests)
 
 pub rest_after : (n k : ℕ) (segments : List Segment) → n < k → RiseFrom k segments → filter (is_after n) segments ≡ segments
 rest_after n k [] h r = refl
-rest_after n k (s ∷ later) h r =
-    let here : nat_lt n s.media_sequence ≡ true = ap (nat_lt n) r.0 ∙ over n k h in
-    ap (λ b. cond b (s ∷ filter (is_after n) later) (filter (is_after n) later)) here
-    ∙ ap (λ xs. s ∷ xs) (rest_after n (k + 1) later (omega (arith, h)) r.1)
+rest_after n k (s ∷ later) h r = grind (arith, rest_after n (k + 1) later (omega (arith, h)) r.1)
 
 pub drop_all : {A : Type 0} (n : ℕ) (xs : List A) → length xs ≤ n → drop n xs ≡ []
 drop_all zero [] h = refl
@@ -107,11 +104,7 @@ after_from n k (s ∷ later) r = step (nat_lt n s.media_sequence) refl (after_fr
         rec ∙ sym (ap (λ m. drop m (s ∷ later)) one)
 
 pub drop_min : {A : Type 0} (n k : ℕ) (xs : List A) → k ≡ min n (length xs) → drop k xs ≡ drop n xs
-drop_min n k xs e = by (dec_le n (length xs))
-  where
-    by : Dec (n ≤ length xs) → drop k xs ≡ drop n xs
-    by (yes h) = let same : k ≡ n = omega (arith, e, h) in ap (λ m. drop m xs) same
-    by (no h) = drop_all k xs (omega (arith, e, h)) ∙ sym (drop_all n xs (omega (arith, h)))
+drop_min n k xs e = grind (arith, dec_le, drop_all)
 
 pub after_at : (n first place : ℕ) (segments : List Segment) → first ≡ first_number segments → AreContiguous segments → first ≤ n → place ≡ min ((n - first) + 1) (length segments) → drop place segments ≡ filter (is_after n) segments
 after_at n first place segments f r h e =
@@ -138,9 +131,7 @@ tail_of segments front rest e =
     ap (λ n. drop n segments) n ∙ (ap (drop (length front)) e ∙ dropped front rest)
 
 pub tail_at : (place : ℕ) (segments : List Segment) → place ≤ length segments → IsTail (drop place segments) segments
-tail_at place segments h =
-    let n : length segments - length (drop place segments) ≡ place = omega (arith, h, length-drop place segments) in
-    ap (λ n. drop n segments) n
+tail_at place segments h = grind (arith, length-drop)
 
 -- and so is the whole
 pub tail_whole : (segments : List Segment) → IsTail segments segments

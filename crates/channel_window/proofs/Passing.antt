@@ -1,5 +1,5 @@
 -- A first number that passes its range, and the window in the stitched list.
-use Rattle.std.proofs.Common.{suc, ◌≤◌, ◌≡◌, ℕ, ◌+◌, ◌<◌, ◌^◌, Bool, true, false, cond, ◌&&◌, List, [], ◌∷◌, ◌++◌, map, length, refl, ap, sym, ◌∙◌, subst, arith, length-append}
+use Rattle.std.proofs.Common.{suc, ◌≤◌, ◌≡◌, ℕ, ◌+◌, ◌<◌, ◌^◌, Bool, true, false, cond, List, [], ◌∷◌, ◌++◌, map, length, refl, ap, ◌∙◌, subst, arith, length-append}
 use Rattle.std.specs.Prelude.{Option, Some, None, Result, Ok, Err, IfErr, IsSome, is_some, nat_lt, slice_get}
 use Rattle.std.specs.List.{list_all, AllByRecursion}
 use Rattle.std.proofs.lemmas.Bool.{and_parts}
@@ -15,9 +15,9 @@ use Rattle.stitcher.specs.declared.ends.Rest.{Rest}
 use Rattle.stitcher.specs.declared.ends.Ends.{Ends}
 use Rattle.stitcher.specs.declared.making.Last.{Last}
 use Rattle.stitcher.specs.Written.{written_item}
-use Rattle.stitcher.specs.StitchedSegments.{meant, mark_in, mark_with, IsDecided, AreDecided, KnowRuns, item_fits, stitched_segments}
+use Rattle.stitcher.specs.StitchedSegments.{mark_in, mark_with, IsDecided, AreDecided, KnowRuns, item_fits, stitched_segments}
 use Rattle.stitcher.specs.Making.{pod_with, begun, is_same_run}
-use Rattle.stitcher.specs.Inner.Making.{counted, last_of, numbers_after, begun_with, part_of, part_at, part_due, whole_from, goes_on_to_last, pieces_at, pieces_on, rest_on, pieces_between}
+use Rattle.stitcher.specs.Inner.Making.{counted, last_of, numbers_after, begun_with, part_of, part_at, part_due, whole_from, goes_on_to_last, pieces_on, rest_on, pieces_between}
 use Rattle.stitcher.proofs.Parts.{whole_is_part}
 use Rattle.stitcher.proofs.Runs.{in_order, rest_in_order}
 use Rattle.stitcher.proofs.Known.{known_front}
@@ -32,16 +32,10 @@ use Rattle.channel_window.specs.Listed.{RefusesList}
 use Rattle.channel_window.specs.Inner.Listed.{IsFront, first_alone, first_numbers_of, pod_keeps}
 use Rattle.channel_window.proofs.Listed.{all_after}
 
-and_false : (a b : Bool) → ((a && false) && b) ≡ false
-and_false true b = refl
-and_false false b = refl
-
 first_fails : (first : Numbers) (pieces : List Piece) → 0 < length pieces → nat_lt first.discontinuity_sequence (2 ^ 64) ≡ false
     → list_all item_fits (map written_item (counted first None pieces)) ≡ false
 first_fails first [] some h = absurd (omega (arith, some))
-first_fails first (p ∷ later) some h =
-    ap (λ b. (nat_lt first.media_sequence (2 ^ 64) && b) && list_all item_fits (map written_item (counted first (Some (last_of p first)) later))) h
-    ∙ and_false (nat_lt first.media_sequence (2 ^ 64)) _
+first_fails first (p ∷ later) some h = grind arith
 
 some_pieces : (mark : Mark) (ad : Ad) (segments : List PodSegment) (more : List Piece) → 0 < length segments → 0 < length (ad_pieces mark ad segments ++ more)
 some_pieces mark ad [] more h = absurd (omega (arith, h))
@@ -52,8 +46,7 @@ pod_long mark [] some h = absurd (omega (arith, some))
 pod_long mark (ad ∷ ads) some h = some_pieces mark ad ad.segments (pieces_of_ads mark ads) h.0
 
 pod_stands : (id : List ℕ) (o : Option Pod) → IsSome o → pod_keeps o ≡ true → 0 < length (pod_with id o)
-pod_stands id None d h = absurd (cc)
-pod_stands id (Some pod) d h = let sound = kept_is_sound pod h in pod_long (record { id = id; pod = pod }) pod.ads sound.some sound.filled
+pod_stands id o d h = grind (arith, kept_is_sound, pod_long)
 
 -- what is shown of a pod from its front on is something
 part_some : (whole : Bool) (left : ℕ) (pieces : List Piece) → 0 < length pieces → 0 < length (part_of (record { skip = 0; whole = whole; left = left; done = false }) pieces)
@@ -65,21 +58,10 @@ due_some None pieces h = part_some true 0 pieces h
 due_some (Some length) pieces h = part_some false length pieces h
 
 at_some : (so_far : Option ℕ) (mark : Option (List ℕ)) (later : List MarkedSegment) (pieces : List Piece) → 0 < length pieces → 0 < length (part_of (part_at so_far mark later) pieces)
-at_some so_far mark later pieces h = step (goes_on_to_last mark later)
-  where
-    step : (b : Bool) → 0 < length (part_of (cond b (part_due so_far) (whole_from 0)) pieces)
-    step true = due_some so_far pieces h
-    step false = part_some true 0 pieces h
+at_some so_far mark later pieces h = grind (arith, due_some, part_some)
 
 front_some : (store : Store) (ends : Ends) (m : MarkedSegment) (later : List MarkedSegment) (id : List ℕ) → m.mark ≡ Some id → 0 < length (pod_with id (pod_for store id)) → 0 < length (pieces_between store ends (m ∷ later))
-front_some store ends m later id is h =
-    let part = part_at ends.so_far m.mark later in
-    let here : pieces_at store ends.so_far None m later ≡ part_of part (pod_with id (pod_for store id)) =
-    ap (λ o. cond (is_same_run o None) [] (begun_with store part m o)) is in
-    let some = at_some ends.so_far m.mark later (pod_with id (pod_for store id)) h in
-    let a = length-append (rest_on store ends.rest) (pieces_on store ends.so_far None (m ∷ later)) in
-    let b = length-append (pieces_at store ends.so_far None m later) (pieces_on store ends.so_far m.mark later) in
-    omega (arith, a, b, ap length here, some)
+front_some store ends m later id is h = grind (arith, at_some, length-append)
 
 -- a pod in front whose number passes its range
 front_at : (store : Store) (ends : Ends) (m : MarkedSegment) (later : List MarkedSegment) (id : List ℕ) → AreDecided store (m ∷ later) → m.mark ≡ Some id → pod_keeps (pod_for store id) ≡ true
@@ -93,10 +75,7 @@ front_at store ends m later id d is keep h =
 
 pub front_fails : (store : Store) (ends : Ends) (marked : List MarkedSegment) (m : MarkedSegment) (id : List ℕ) → slice_get marked 0 ≡ Some m → AreDecided store marked → m.mark ≡ Some id
     → pod_keeps (pod_for store id) ≡ true → nat_lt (m.segment.discontinuity_sequence + 1) (2 ^ 64) ≡ false → list_all item_fits (stitched_segments store (first_numbers_of marked) ends marked) ≡ false
-front_fails store ends [] m id at d is keep h = absurd (cc)
-front_fails store ends (x ∷ later) m id at d is keep h =
-    let same : x ≡ m = cc in
-    front_at store ends x later id d (ap (λ (y : MarkedSegment). y.mark) same ∙ is) keep (ap (λ (y : MarkedSegment). nat_lt (y.segment.discontinuity_sequence + 1) (2 ^ 64)) same ∙ h)
+front_fails store ends marked m id at d is keep h = grind (arith, front_at)
 
 -- the fault of the first numbers is handed on
 pub pod_passes : {A : Type 0} (r : Result A RefreshFault) {P Q : Type 0} → IfErr r (λ e. (e ≡ NumberRange) × P) → (P → Q) → IfErr r (λ e. RefusesList e Q)
@@ -118,8 +97,7 @@ with_mark store s None h = refl
 with_mark store s (Some id) h = with_pod s id (pod_for store id) h
 
 pub begins : (store : Store) (held : List MarkedSegment) → AreDecided store held → first_numbers (so_far store held) ≡ first_numbers_of held
-begins store [] d = refl
-begins store (m ∷ later) d = first_of (map (meant store) later) (meant store m) [] ∙ with_mark store m.segment m.mark d.0
+begins store held d = grind (arith, first_of, with_mark)
 
 -- ---- the window
 
@@ -128,7 +106,7 @@ pieces_counted first last [] = refl
 pieces_counted first last (p ∷ later) = ap suc (pieces_counted first (Some (last_of p (numbers_after first last p))) later)
 
 pub as_long : (store : Store) (first : Numbers) (ends : Ends) (list : List MarkedSegment) → AreDecided store list → length (stitched_segments store first ends list) ≡ length (pieces_between store ends list)
-as_long store first ends list d = ap length (in_order store first ends list d) ∙ pieces_counted first None (pieces_between store ends list)
+as_long store first ends list d = grind (arith, in_order, pieces_counted)
 
 -- a run that goes on to the last segment begins where it begins
 stays_put : (store : Store) (mark : Option (List ℕ)) (start count : ℕ) (front tail : List MarkedSegment) → goes_on_to_last mark (front ++ tail) ≡ true → place_on store mark start count front ≡ start
@@ -163,16 +141,12 @@ place_bounded store so_far previous start count (m ∷ front) tail h =
         omega (arith, anew, a, whole_long store m m.mark)
 
 rest_long : (store : Store) (rest : Option Rest) → length (rest_on store rest) ≡ rest_count store rest
-rest_long store rest = sym (ap length (rest_in_order store rest) ∙ length-reverse (rest_on store rest))
+rest_long store rest = grind (arith, rest_in_order, length-reverse)
 
 -- the item of each front's last segment is among the items
 pub within : (store : Store) (first : Numbers) (ends : Ends) (list front : List MarkedSegment) → AreDecided store list → IsFront front list
     → place_on store None 0 0 front + rest_count store ends.rest ≤ length (stitched_segments store first ends list)
-within store first ends list front d f =
-    let a = place_bounded store ends.so_far None 0 0 front f.0 (omega arith) in
-    let same : length (pieces_on store ends.so_far None list) ≡ length (pieces_on store ends.so_far None (front ++ f.0)) = ap (λ xs. length (pieces_on store ends.so_far None xs)) f.1 in
-    let b = length-append (rest_on store ends.rest) (pieces_on store ends.so_far None list) in
-    omega (arith, a, same, b, rest_long store ends.rest, as_long store first ends list d)
+within store first ends list front d f = grind (arith, place_bounded, length-append, rest_long, as_long)
 
 pub front_decided : (store : Store) (list front : List MarkedSegment) → AreDecided store list → IsFront front list → AreDecided store front
 front_decided store list front d f = (all_after (λ (m : MarkedSegment). IsDecided store m.mark) front f.0 (subst (AreDecided store) f.1 d)).0
@@ -181,10 +155,9 @@ pub front_known : (list front : List MarkedSegment) → KnowRuns None list → I
 front_known list front k f = known_front None front f.0 (subst (KnowRuns None) f.1 k)
 
 pub first_here : (store : Store) (held : List MarkedSegment) (numbers : Numbers) (last : Option Heading) → AreDecided store held → last ≡ None → first_numbers_of held ≡ numbers_on last numbers (so_far store held)
-first_here store held numbers last d e = sym (ap (λ o. numbers_on o numbers (so_far store held)) e ∙ begins store held d)
+first_here store held numbers last d e = grind (arith, begins)
 
 pub refuses_first : (store : Store) (ends : Ends) (held : List MarkedSegment) (numbers : Numbers) (last : Option Heading) (e : RefreshFault) → AreDecided store held → last ≡ None
     → RefusesList e (list_all item_fits (stitched_segments store (first_numbers_of held) ends held) ≡ false)
     → RefusesList e (list_all item_fits (stitched_segments store (numbers_on last numbers (so_far store held)) ends held) ≡ false)
-refuses_first store ends held numbers last e d is h =
-    subst (λ (first : Numbers). RefusesList e (list_all item_fits (stitched_segments store first ends held) ≡ false)) (first_here store held numbers last d is) h
+refuses_first store ends held numbers last e d is h = grind (arith, first_here)

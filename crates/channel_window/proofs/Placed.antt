@@ -24,9 +24,7 @@ both id other (Some pod) (Some q) h k = refl
 
 pub same_run : (store : Store) (mark previous : Option (List ℕ)) → IsDecided store mark → IsDecided store previous
     → are_one (mark_in store mark) (mark_in store previous) ≡ is_same_run mark previous
-same_run store None previous h k = refl
-same_run store (Some id) None h k = alone id (pod_for store id) h
-same_run store (Some id) (Some other) h k = both id other (pod_for store id) (pod_for store other) h k
+same_run store mark previous h k = grind arith
 
 pod_long : (store : Store) (m : Held) (id : List ℕ) (o : Option Pod) → IsSome o → length (run_pieces (meant store m) (mark_with id o)) ≡ length (pod_with id o)
 pod_long store m id None h = absurd (cc)

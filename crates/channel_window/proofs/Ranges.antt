@@ -1,5 +1,5 @@
 -- The date ranges that are left.
-use Rattle.std.proofs.Common.{◌≡◌, ℕ, List, map, filter, not, ap, sym, ◌∙◌, Ok, Err}
+use Rattle.std.proofs.Common.{◌≡◌, ℕ, List, map, filter, not, ap, sym, ◌∙◌, Ok, Err, arith}
 use Rattle.std.specs.Prelude.{Bool, true, Result, IfOk}
 use Rattle.playlist_model.specs.declared.DateRange.{DateRange}
 use Rattle.pod_store.specs.Store.{is_one_of}
@@ -10,8 +10,7 @@ use Rattle.channel_window.specs.Inner.Listed.{texts_left}
 -- the date ranges of other breaks than those of a set, if these are in it
 pub left_alike : (ids set : List (List ℕ)) (date_ranges : List DateRange) → ((id : List ℕ) → is_one_of set id ≡ is_one_of ids id)
     → texts_left set date_ranges ≡ map date_range_text (filter (λ (r : DateRange). not (is_one_of ids r.id)) date_ranges)
-left_alike ids set date_ranges same =
-    ap (map date_range_text) (filter_same (λ (r : DateRange). not (is_one_of set r.id)) (λ (r : DateRange). not (is_one_of ids r.id)) (λ r. ap not (same r.id)) date_ranges)
+left_alike ids set date_ranges same = grind (arith, filter_same)
 
 -- if one of the items states a time
 pub left_timed : {V E : Type 0} (items : V → List (List ℕ)) (result : Result V E) (timed : Bool) (ids set : List (List ℕ)) (date_ranges : List DateRange) → timed ≡ true

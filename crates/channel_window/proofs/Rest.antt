@@ -5,9 +5,8 @@ use Rattle.stitcher.specs.StitchedSegments.{item_fits}
 use Rattle.std.proofs.Common.{◌≡◌, ℕ, ◌+◌, ◌-◌, ◌≤◌, zero, List, [], ◌∷◌, ◌++◌, map, take, drop, length, reverse, refl, ap, sym, ◌∙◌, suc, arith, length-append}
 use Rattle.std.proofs.lemmas.List.{take-append-drop, reverse-append, drop-map, length-map}
 use Rattle.std.proofs.Math.Seq.{drop-append_seam}
-use Rattle.stitcher.specs.Stitched.{numbered, Item, fits}
-use Rattle.stitcher.specs.Paced.{stitched_with}
-use Rattle.stitcher.specs.StitchedSegments.{ends_in, item_fits, meant, stitched_segments}
+use Rattle.stitcher.specs.Stitched.{Item, fits}
+use Rattle.stitcher.specs.StitchedSegments.{item_fits}
 use Rattle.stitcher.specs.Written.{written_item}
 use Rattle.channel_spec.proofs.Windows.{length-reverse}
 use Rattle.channel_spec.proofs.Reversed.{list_all-reverse}
@@ -31,16 +30,11 @@ reverse-take k xs h =
     sym (ap (λ n. drop n (reverse xs)) (sym size) ∙ (ap (drop (length front)) whole ∙ drop-append_seam front back))
 
 pub window_is_stitched : WindowIsStitched
-window_is_stitched store first ends marked place h =
-    let items = numbered first (stitched_with (ends_in store ends) (reverse (map (meant store) marked))) in
-    let size : length (stitched_segments store first ends marked) ≡ length items = length-map (reverse items) written_item ∙ length-reverse items in
-    ap (map written_item) (reverse-take place items (omega (arith, h, size))) ∙ sym (drop-map written_item place (reverse items))
+window_is_stitched store first ends marked place h = grind (arith, reverse, length-map, length-reverse, reverse-take, drop-map)
 
 pub written_fit : (items : List Item) → list_all item_fits (map written_item items) ≡ list_all fits items
 written_fit [] = refl
 written_fit (item ∷ items) = ap (λ b. fits item && b) (written_fit items)
 
 pub number_range_is_stitched : NumberRangeIsStitched
-number_range_is_stitched store first ends marked =
-    let items = numbered first (stitched_with (ends_in store ends) (reverse (map (meant store) marked))) in
-    written_fit (reverse items) ∙ list_all-reverse fits items
+number_range_is_stitched store first ends marked = grind (arith, reverse, written_fit, list_all-reverse)

@@ -30,11 +30,7 @@ drop_less : {A : Type 0} (n : ℕ) (xs : List A) → drop n xs ≡ drop (min n (
 drop_less n xs = sym (drop_min n (min n (length xs)) xs refl)
 
 take_less : {A : Type 0} (n : ℕ) (xs : List A) → take n xs ≡ take (min n (length xs)) xs
-take_less n xs = by (dec_le n (length xs))
-  where
-    by : Dec (n ≤ length xs) → take n xs ≡ take (min n (length xs)) xs
-    by (yes h) = let same : n ≡ min n (length xs) = omega (arith, h) in ap (λ k. take k xs) same
-    by (no h) = take_all n xs (omega (arith, h)) ∙ sym (take_all (min n (length xs)) xs (omega (arith, h)))
+take_less n xs = grind (arith, dec_le, min, take_all)
 
 -- ---- as they are meant
 
@@ -135,8 +131,7 @@ rise_joined n (x ∷ xs) ys r s = (r.0, rise_joined (n + 1) xs ys r.1 (subst (λ
 pub rise_marked : (m : Moment) (n : ℕ) (newest last : Option (List ℕ)) (segments : List Segment) (instants : List (Option ℤ)) → RiseFrom n segments → RiseByOne n (mark_on m newest last segments instants)
 rise_marked m n newest last [] instants r = tt
 rise_marked m n newest last (s ∷ later) [] r = tt
-rise_marked m n newest last (s ∷ later) (i ∷ more) r =
-    (r.0, rise_marked m (n + 1) (next_id m newest last i) (or_earlier (next_id m newest last i) last) later more r.1)
+rise_marked m n newest last (s ∷ later) (i ∷ more) r = grind (arith, rise_marked m (n + 1) (next_id m newest last i) (or_earlier (next_id m newest last i) last) later more r.1)
 
 every_new : (segments : List Segment) → filter (is_new []) segments ≡ segments
 every_new [] = refl
@@ -162,4 +157,4 @@ rises_on m shown newest last segments fresh instants marked list h r fresh_is ma
 
 pub first_is : (n : ℕ) (list : List Held) (m : Held) → RiseByOne n list → slice_get list 0 ≡ Some m → m.segment.media_sequence ≡ n
 first_is n [] m r e = absurd (cc)
-first_is n (x ∷ later) m r e = let same : x ≡ m = cc in ap (λ (h : Held). h.segment.media_sequence) (sym same) ∙ r.0
+first_is n (x ∷ later) m r e = grind arith

@@ -1,15 +1,11 @@
 -- How many items stand for rests, and where a run begins.
-use Rattle.std.proofs.Common.{◌≡◌, ℕ, ◌+◌, ◌-◌, ◌≤◌, Bool, true, false, cond, List, [], ◌∷◌, map, sum, drop, length, ap, ◌∙◌, arith}
-use Rattle.std.specs.Prelude.{Option, Some, option_map}
+use Rattle.std.proofs.Common.{◌≡◌, ℕ, ◌+◌, ◌-◌, ◌≤◌, Bool, true, false, cond, List, [], ◌∷◌, map, sum, length, arith}
+use Rattle.std.specs.Prelude.{Option, Some}
 use Rattle.std.proofs.lemmas.List.{length-drop}
 use Rattle.pod_store.specs.Pods.{Pod, segment_count}
-use Rattle.pod_store.specs.Marks.{Mark}
-use Rattle.stitcher.specs.Stitched.{pod_pieces}
-use Rattle.stitcher.specs.Paced.{rest_pieces}
 use Rattle.pod_store.specs.Store.{Store, pod_for}
 use Rattle.stitcher.specs.declared.marked.MarkedSegment.{MarkedSegment as Held}
 use Rattle.stitcher.specs.declared.ends.Rest.{Rest}
-use Rattle.stitcher.specs.StitchedSegments.{mark_with, rest_from}
 use Rattle.stitcher.specs.Making.{begun, is_same_run}
 use Rattle.channel_spec.proofs.Windows.{length-reverse}
 use Rattle.channel_window.specs.Marking.{place_on}
@@ -19,10 +15,7 @@ use Rattle.channel_window.proofs.Sizes.{ads_size}
 -- ---- runs and rests
 
 pub rest_size : (store : Store) (rest : Rest) (pod : Pod) → pod_for store rest.id ≡ Some pod → rest_count store (Some rest) ≡ sum (map segment_count pod.ads) - rest.place
-rest_size store rest pod found =
-    let mark : Mark = record { id = rest.id; pod = pod } in
-    ap (λ o. length (rest_pieces (option_map (rest_from rest.place) (mark_with rest.id o)))) found
-    ∙ (length-reverse (drop rest.place (pod_pieces mark)) ∙ (length-drop rest.place (pod_pieces mark) ∙ ap (λ n. n - rest.place) (ads_size mark pod.ads)))
+rest_size store rest pod found = grind (arith, length-reverse, length-drop, ads_size)
 
 -- ---- where a run begins
 
@@ -37,7 +30,4 @@ place_from store previous start count (m ∷ later) h =
     step false a b = omega (arith, h, b)
 
 pub begun_anew : (store : Store) (previous : Option (List ℕ)) (start count : ℕ) (m : Held) (later : List Held) → is_same_run m.mark previous ≡ false → count ≤ place_on store previous start count (m ∷ later)
-begun_anew store previous start count m later e =
-    let more = count + length (begun store m m.mark) in
-    let is : place_on store previous start count (m ∷ later) ≡ place_on store m.mark count more later = ap (λ b. cond b (place_on store m.mark start count later) (place_on store m.mark count more later)) e in
-    omega (arith, is, place_from store m.mark count more later (omega arith))
+begun_anew store previous start count m later e = grind (arith, place_from)

@@ -1,5 +1,5 @@
 -- The segments that are shown after a refresh, from those that a channel holds.
-use Rattle.std.proofs.Common.{◌≡◌, ℕ, ℤ, List, [], ◌∷◌, ◌++◌, map, length, refl, ap, sym, ◌∙◌, subst}
+use Rattle.std.proofs.Common.{◌≡◌, ℕ, ℤ, List, [], ◌∷◌, ◌++◌, map, length, refl, ap, sym, ◌∙◌, subst, arith}
 use Rattle.std.specs.Prelude.{Option, Some, None, IsSome, option_map, filter}
 use mathlib.Core.List.{reverse_aux}
 use Rattle.playlist_model.specs.LookBack.{or_earlier}
@@ -25,7 +25,6 @@ use Rattle.channel_window.specs.Marking.{so_far, mark_on, length_after}
 use Rattle.channel_window.specs.Inner.Terms.{entered_after}
 use Rattle.channel_window.specs.Checked.{AreContiguous}
 use Rattle.channel_window.specs.Listed.{RisesOn}
-use Rattle.channel_window.proofs.Extended.{newest_is_last}
 use Rattle.channel_window.proofs.Marked.{know_runs}
 use Rattle.channel_window.proofs.Rising.{rises_on}
 use Rattle.channel_window.proofs.Listed.{seen_after, all_after, is_listed, is_decided, is_long}
@@ -125,7 +124,4 @@ module _ (tolerance : ℕ) (state : ChannelState) (p : Playlist) (shown : List H
 -- the newest mark, if any, is that of the last break entered
 pub newest_entered : (state : ChannelState) (shown : List Held) (newest : Option (List ℕ)) → shown ≡ state.list → AreDecided state.store state.list → IsLastEntered (kept_in state)
     → newest_mark (so_far state.store shown) ≡ mark_in state.store newest → (AreDecided state.store shown → IsDecided state.store newest) → or_earlier newest state.shown.entered ≡ state.shown.entered
-newest_entered state shown newest same d last mark_is newest_is =
-    let decided = newest_is (subst (AreDecided state.store) (sym same) d) in
-    newest_is_last (so_far state.store shown) newest state.shown.entered (ap (option_map mark_id) mark_is ∙ mark_named state.store newest decided)
-    (ap (λ (xs : List Held). or_earlier (last_entered (so_far state.store xs)) state.shown.entered) same ∙ last)
+newest_entered state shown newest same d last mark_is newest_is = grind arith

@@ -5,7 +5,7 @@ use Rattle.std.proofs.lemmas.Bool.{ltb-true}
 use Rattle.std.proofs.lemmas.List.{take-append-drop, length-map, length-drop}
 use Rattle.playlist_model.specs.declared.Segment.{Segment}
 use Rattle.playlist_model.specs.Same.{kept_parts}
-use Rattle.playlist_parse.specs.Kept.{with_taken}
+use Rattle.playlist_kept.specs.Kept.{with_taken}
 use Rattle.stitcher.specs.declared.marked.MarkedSegment.{MarkedSegment as Held}
 use Rattle.channel_spec.specs.Sound.{RiseFrom}
 use Rattle.channel_spec.specs.Successor.{first_number}
@@ -17,7 +17,7 @@ use Rattle.channel_window.specs.Inner.Listed.{is_after, since_with}
 
 rise_parts : (n : ℕ) (xs ys : List Segment) → RiseFrom n (xs ++ ys) → RiseFrom n xs × RiseFrom (n + length xs) ys
 rise_parts n [] ys r = (tt, subst (λ k. RiseFrom k ys) (omega arith) r)
-rise_parts n (s ∷ xs) ys r = let later = rise_parts (n + 1) xs ys r.1 in ((r.0, later.0), subst (λ k. RiseFrom k ys) (omega arith) later.1)
+rise_parts n (s ∷ xs) ys r = grind (arith, rise_parts (n + 1) xs ys r.1)
 
 rise_take : (n m : ℕ) (xs : List Segment) → RiseFrom n xs → RiseFrom n (take m xs)
 rise_take n zero xs r = tt
@@ -48,9 +48,7 @@ not_over n k h false e = refl
 -- none of these comes after a number that they don't reach
 none_after : (n k : ℕ) (xs : List Segment) → RiseFrom k xs → k + length xs ≤ n + 1 → filter (is_after n) xs ≡ []
 none_after n k [] r h = refl
-none_after n k (s ∷ later) r h =
-    let here : nat_lt n s.media_sequence ≡ false = not_over n s.media_sequence (omega (arith, r.0, h)) (nat_lt n s.media_sequence) refl in
-    ap (λ b. cond b (s ∷ filter (is_after n) later) (filter (is_after n) later)) here ∙ none_after n (k + 1) later r.1 (omega (arith, h))
+none_after n k (s ∷ later) r h = grind (arith, none_after n (k + 1) later r.1 (omega (arith, h)))
 
 one_more : (b : Bool) (s : Segment) (all xs ys : List Segment) → all ≡ xs ++ ys → cond b (s ∷ all) all ≡ cond b (s ∷ xs) xs ++ ys
 one_more true s all xs ys h = ap (λ zs. s ∷ zs) h
@@ -58,16 +56,14 @@ one_more false s all xs ys h = h
 
 filter_parts : (n : ℕ) (xs ys : List Segment) → filter (is_after n) (xs ++ ys) ≡ filter (is_after n) xs ++ filter (is_after n) ys
 filter_parts n [] ys = refl
-filter_parts n (s ∷ xs) ys = one_more (nat_lt n s.media_sequence) s (filter (is_after n) (xs ++ ys)) (filter (is_after n) xs) (filter (is_after n) ys) (filter_parts n xs ys)
+filter_parts n (s ∷ xs) ys = grind (arith, filter_parts n xs ys)
 
 -- ---- what was taken over is shown
 
 -- the first of the segments that stand in a list has the number of its place there
 number_there : (n from : ℕ) (t : Segment) (ts there : List Segment) → RiseFrom (n + from) there → map kept_parts (t ∷ ts) ≡ map kept_parts there → t.media_sequence ≡ n + from
 number_there n from t ts [] r same = absurd (cc same)
-number_there n from t ts (u ∷ there) r same =
-    let parts : kept_parts t ≡ kept_parts u = cc same in
-    ap (λ (s : Segment). s.media_sequence) parts ∙ r.0
+number_there n from t ts (u ∷ there) r same = grind arith
 
 module _ (n front : ℕ) (read old : List Segment) (t : Segment) (ts : List Segment) (first : ℕ) (all : RiseFrom first (take front read ++ (t ∷ ts ++ drop front read)))
     (start : ℕ) (shown : RiseFrom start old) (end : start + length old ≡ n + 1) (taken : AreTaken old (t ∷ ts)) where
@@ -114,11 +110,7 @@ whole_there : (front : ℕ) (read : List Segment) → with_taken front read [] �
 whole_there front read = take-append-drop front read
 
 pub are_contiguous : (front : ℕ) (read taken : List Segment) → AreContiguous (with_taken front read taken) → AreContiguous (since_with front read taken)
-are_contiguous front read [] r = subst AreContiguous (whole_there front read) r
-are_contiguous front read (t ∷ ts) r =
-    let n = first_number (with_taken front read (t ∷ ts)) in
-    let later = (rise_parts n (take front read) ((t ∷ ts) ++ drop front read) r).1 in
-    contiguous _ (drop front read) (rise_parts (n + length (take front read)) (t ∷ ts) (drop front read) later).1
+are_contiguous front read taken r = grind (arith, whole_there, rise_parts, contiguous)
 
 pub are_after : (front : ℕ) (read taken : List Segment) (shown rest : List Held) (m : Held) → AreContiguous (with_taken front read taken) → AreTaken (segments_in shown) taken
     → AreRising shown → shown ≡ rest ++ m ∷ []
@@ -146,6 +138,4 @@ empty_held [] h = refl
 empty_held (m ∷ later) h = absurd (cc)
 
 pub are_all : (front : ℕ) (read taken : List Segment) (shown : List Held) → AreTaken (segments_in shown) taken → length shown ≡ 0 → since_with front read taken ≡ with_taken front read taken
-are_all front read taken shown a none =
-    let nothing : taken ≡ [] = none_in_none taken (subst (λ old. AreTaken old taken) (empty_held shown none) a) in
-    ap (since_with front read) nothing ∙ (sym (whole_there front read) ∙ ap (with_taken front read) (sym nothing))
+are_all front read taken shown a none = grind (arith, none_in_none, empty_held, whole_there)

@@ -1,11 +1,10 @@
 -- Where a window starts, the rest that it starts with, and the window itself, from the segments that a channel holds.
-use Rattle.std.proofs.Common.{◌≡◌, ℕ, ◌+◌, ◌-◌, ◌<◌, ◌≤◌, ◌^◌, Bool, true, false, cond, List, [], ◌∷◌, ◌++◌, map, min, drop, length, reverse, refl, ap, sym, ◌∙◌, arith}
-use Rattle.std.specs.Prelude.{◌==◌, nat_lt, Some, None, option_map, Result, Ok, Err, IfErr}
+use Rattle.std.proofs.Common.{◌≡◌, ℕ, ◌+◌, ◌-◌, ◌<◌, ◌≤◌, ◌^◌, false, cond, List, [], ◌∷◌, ◌++◌, map, min, drop, length, reverse, ap, sym, ◌∙◌, arith}
+use Rattle.std.specs.Prelude.{◌==◌, Some, None, option_map, Result, IfErr}
 use Rattle.std.specs.Result.{IsErrAnd}
 use Rattle.channel_spec.specs.declared.fault.RefreshFault.{RefreshFault}
-use Rattle.channel_spec.specs.declared.fault.RefreshFault.TheVariants.{NumberRange, OutOfMemory}
 use Rattle.std.specs.List.{list_all}
-use Rattle.std.proofs.lemmas.Bool.{lt-ltb, ltb-true, eqb-true, eq-eqb}
+use Rattle.std.proofs.lemmas.Bool.{eq-eqb}
 use Rattle.playlist_model.specs.declared.Playlist.{Playlist}
 use Rattle.channel_spec.specs.declared.heading.Heading.{Heading}
 use Rattle.pod_store.specs.Marks.{Mark, Marked, newest_mark}
@@ -39,7 +38,7 @@ use Rattle.channel_window.proofs.Rest.{window_is_stitched, number_range_is_stitc
 
 pub place_found : (store : Store) (number place : ℕ) (list front : List Held) → AreDecided store list → IsFront front list → so_far store front ≡ up_to number (so_far store list) → place ≡ place_on store None 0 0 front
     → place_of number (so_far store list) ≡ place
-place_found store number place list front d f seen is = ap newest_place (sym seen) ∙ (place_is_counted store front (front_decided store list front d f) ∙ sym is)
+place_found store number place list front d f seen is = grind (arith, place_is_counted, front_decided)
 
 -- ---- where the next one starts
 
@@ -73,24 +72,15 @@ module _ (state : ChannelState) (number : ℕ) (list : List Held) where
       ∙ ap (λ t. cond t (rest_in state.store state.shown.rest) (rest_over (rest_count state.store state.shown.rest) start number (so_far state.store list))) (eq-eqb number (first_number (listed (kept_in state).shown)) same))
 
 pub not_equal : (a b : ℕ) → (a ≡ b → ⊥) → (a == b) ≡ false
-not_equal a b h = step (a == b) refl
-  where
-    step : (t : Bool) → (a == b) ≡ t → t ≡ false
-    step true e = absurd (h (eqb-true a b e))
-    step false e = refl
+not_equal a b h = grind arith
 
 -- ---- the rest that it starts with
 
 pub rest_none : (before start number : ℕ) (seen : List Marked) → place_of number seen + before ≤ start → None ≡ rest_over before start number seen
-rest_none before start number seen h = step (nat_lt start (place_of number seen + before)) refl
-  where
-    step : (t : Bool) → nat_lt start (place_of number seen + before) ≡ t → None ≡ cond t (rest_of before start (gone_before number seen)) None
-    step true e = absurd (omega (arith, ltb-true start (place_of number seen + before) e, h))
-    step false e = refl
+rest_none before start number seen h = grind arith
 
 pub rest_lower : (before start number : ℕ) (seen : List Marked) → start < place_of number seen + before → rest_of before start (gone_before number seen) ≡ rest_over before start number seen
-rest_lower before start number seen h =
-    sym (ap (λ t. cond t (rest_of before start (gone_before number seen)) None) (lt-ltb start (place_of number seen + before) h))
+rest_lower before start number seen h = grind arith
 
 pub rest_some : (store : Store) (start before behind from : ℕ) (gone rest : List Held) (m : Held) (id copy : List ℕ) → AreDecided store gone → gone ≡ rest ++ m ∷ [] → m.mark ≡ Some id → copy ≡ id
     → behind ≡ place_on store None 0 0 gone → from ≡ start - (behind + before) → option_map (rest_from from) (mark_with copy (pod_for store copy)) ≡ rest_of before start (so_far store gone)
@@ -103,19 +93,13 @@ rest_some store start before behind from gone rest m id copy d cut is same count
     ∙ ap (option_map (there (start - (newest_place (so_far store gone) + before)))) mark
 
 pub no_rest : (store : Store) (start before : ℕ) (gone : List Held) → newest_mark (so_far store gone) ≡ None → None ≡ rest_of before start (so_far store gone)
-no_rest store start before gone e = sym (ap (option_map (λ (mark : Mark). record { mark = mark; place = start - (newest_place (so_far store gone) + before) })) e)
+no_rest store start before gone e = grind arith
 
 -- ---- the window
 
 -- a fault is handed on
 pub handed_on : {A : Type 0} (r : Result A RefreshFault) (e : RefreshFault) {P Q : Type 0} → IsErrAnd r (λ d. d ≡ e) → RefusesList e P → (P → Q) → IfErr r (λ d. RefusesList d Q)
-handed_on (Ok x) e h p f = absurd h
-handed_on (Err d) e h p f = rw h (more e p f)
-  where
-    more : (e : RefreshFault) {P Q : Type 0} → RefusesList e P → (P → Q) → RefusesList e Q
-    more NumberRange p f = f p
-    more OutOfMemory p f = p
-    more _ p f = absurd p
+handed_on k e h p f = grind arith
 
 module _ (state : ChannelState) (p : Playlist) (list : List Held) (n : ℕ) (ends : Ends) (first : Numbers) (decided : AreDecided state.store list)
     (ends_are : ends_in state.store ends ≡ ends_of p.end_list n (rest_in state.store state.shown.rest)) (first_is : first ≡ numbers_on state.last state.shown.numbers (so_far state.store list)) where

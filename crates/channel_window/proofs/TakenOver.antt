@@ -2,7 +2,7 @@
 use Rattle.std.proofs.Common.{◌≡◌, ℕ, ◌+◌, ◌≤◌, Bool, true, false, zero, suc, List, [], ◌∷◌, ◌++◌, map, take, drop, length, refl, ap, sym, ◌∙◌, arith, subst, append_assoc}
 use Rattle.std.specs.Prelude.{Option, Some, None, not, ◌==◌, find}
 use Rattle.std.specs.List.{AllByRecursion}
-use Rattle.std.proofs.lemmas.Bool.{eqb-true, eq-eqb}
+use Rattle.std.proofs.lemmas.Bool.{eqb-true}
 use Rattle.std.proofs.lemmas.List.{take-append-drop}
 use Rattle.playlist_model.specs.declared.Segment.{Segment}
 use Rattle.playlist_model.specs.LookBack.{or_earlier}
@@ -12,7 +12,7 @@ use Rattle.channel_spec.specs.declared.fault.RefreshFault.TheVariants.{Changed}
 use Rattle.channel_spec.specs.Sound.{RiseFrom}
 use Rattle.channel_spec.specs.Successor.{first_number, first_changed, difference, fault_if}
 use Rattle.channel_spec.proofs.WrittenPods.{all_drop}
-use Rattle.playlist_parse.specs.Kept.{with_taken}
+use Rattle.playlist_kept.specs.Kept.{with_taken}
 use Rattle.channel_window.specs.Checked.{AreContiguous, AreTaken}
 
 abbrev has_number : ℕ → Segment → Bool
@@ -26,16 +26,14 @@ other a b h false e = refl
 
 find_past : (n k : ℕ) (front rest : List Segment) → RiseFrom n (front ++ rest) → n + length front ≤ k → find (has_number k) (front ++ rest) ≡ find (has_number k) rest
 find_past n k [] rest r h = refl
-find_past n k (s ∷ front) rest r h =
-    let test : (s.media_sequence == k) ≡ false = other s.media_sequence k (λ e. omega (arith, e, r.0, h)) (s.media_sequence == k) refl in
-    rw test (find_past (n + 1) k front rest r.1 (omega (arith, h)))
+find_past n k (s ∷ front) rest r h = grind (arith, find_past (n + 1) k front rest r.1 (omega (arith, h)))
 
 number_is : (n : ℕ) (front : List Segment) (s : Segment) (later : List Segment) → RiseFrom n (front ++ s ∷ later) → s.media_sequence ≡ n + length front
 number_is n [] s later r = omega (arith, r.0)
 number_is n (t ∷ front) s later r = let at = number_is (n + 1) front s later r.1 in omega (arith, at)
 
 find_here : (s : Segment) (later : List Segment) → find (has_number s.media_sequence) (s ∷ later) ≡ Some s
-find_here s later = let test : (s.media_sequence == s.media_sequence) ≡ true = eq-eqb s.media_sequence s.media_sequence refl in rw test refl
+find_here s later = grind arith
 
 are_found : (n : ℕ) (front rest : List Segment) → RiseFrom n (front ++ rest) → AllByRecursion (λ (s : Segment). find (has_number s.media_sequence) (front ++ rest) ≡ Some s) rest
 are_found n front [] r = tt
@@ -54,25 +52,16 @@ itself s = ap (λ b. fault_if (not b) (Changed s.media_sequence)) ((same_segment
 
 unchanged : (old segments : List Segment) → AllByRecursion (λ (s : Segment). find (has_number s.media_sequence) old ≡ Some s) segments → first_changed old segments ≡ None
 unchanged old [] h = refl
-unchanged old (s ∷ later) h =
-    ap (λ o. or_earlier (difference s o) (first_changed old later)) h.0
-    ∙ (ap (λ o. or_earlier o (first_changed old later)) (itself s) ∙ unchanged old later h.1)
+unchanged old (s ∷ later) h = grind (arith, itself, unchanged old later h.1)
 
 all_take : {A : Type 0} (P : A → Type 0) (n : ℕ) (xs : List A) → AllByRecursion P xs → AllByRecursion P (take n xs)
 all_take P zero xs h = tt
 all_take P (suc n) [] h = tt
 all_take P (suc n) (x ∷ xs) h = (h.0, all_take P n xs h.1)
 
--- only what is asked of them is looked at
-difference_of : (s : Segment) (o : Option Segment) → difference (kept_parts s) o ≡ difference s o
-difference_of s None = refl
-difference_of s (Some t) = refl
-
 changed_of : (old segments : List Segment) → first_changed old (map kept_parts segments) ≡ first_changed old segments
 changed_of old [] = refl
-changed_of old (s ∷ later) =
-    ap (λ o. or_earlier o (first_changed old (map kept_parts later))) (difference_of s (find (has_number s.media_sequence) old))
-    ∙ ap (or_earlier (difference s (find (has_number s.media_sequence) old))) (changed_of old later)
+changed_of old (s ∷ later) = grind (arith, changed_of old later)
 
 -- ---- the parts of a list
 
@@ -82,9 +71,7 @@ earlier_twice None b c = refl
 
 changed_in_two : (old front back : List Segment) → first_changed old (front ++ back) ≡ or_earlier (first_changed old front) (first_changed old back)
 changed_in_two old [] back = refl
-changed_in_two old (s ∷ front) back =
-    ap (or_earlier (difference s (find (has_number s.media_sequence) old))) (changed_in_two old front back)
-    ∙ earlier_twice (difference s (find (has_number s.media_sequence) old)) (first_changed old front) (first_changed old back)
+changed_in_two old (s ∷ front) back = grind (arith, changed_in_two old front back)
 
 module _ (old taken : List Segment) (contiguous : AreContiguous old) (a : AreTaken old taken) where
   common_unchanged : first_changed old taken ≡ None

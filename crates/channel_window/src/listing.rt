@@ -8,15 +8,15 @@ ghost use Rattle.stitcher.specs.Inner.Making.{mark_after};
 ghost use Rattle.channel_spec.specs.Marking.{newest_end, is_new};
 ghost use Rattle.channel_spec.specs.Live.{gone_before};
 ghost use Rattle.channel_spec.specs.Kept.{shown_from};
-ghost use Rattle.playlist_parse.specs.Kept.{playlist_in};
+ghost use Rattle.playlist_kept.specs.Kept.{playlist_in};
 ghost use Rattle.channel_window.specs.Checked.{AreContiguous, AreTaken};
 ghost use Rattle.channel_window.specs.Marking.{so_far};
 ghost use Rattle.channel_window.specs.Listed.{AreRising, RiseByOne, segments_in};
 ghost use Rattle.channel_window.specs.Inner.Listed.{IsFront, IsTail, is_after, since};
 ghost use Rattle.channel_spec.specs.Successor.{first_number};
 
+use playlist_kept::Read;
 use playlist_model::{Items, Members, Segment, Shared};
-use playlist_parse::Read;
 use std::alloc::{AllocError, Global};
 use stitcher::{MarkedSegment, SharedMark};
 

@@ -6,7 +6,7 @@ ghost use Rattle.pod_store.specs.Store.{is_empty};
 ghost use Rattle.break_finder.specs.Entering.{entered};
 ghost use Rattle.channel_spec.specs.Marking.{limits};
 ghost use Rattle.channel_spec.specs.Successor.{has_init_sections};
-ghost use Rattle.playlist_parse.specs.Kept.{playlist_in};
+ghost use Rattle.playlist_kept.specs.Kept.{playlist_in};
 ghost use Rattle.stitcher.specs.Making.{is_same_run};
 ghost use Rattle.channel_window.specs.Marking.{next_id, mark_on, length_after};
 ghost use Rattle.channel_window.specs.Inner.Terms.{entered_after};
@@ -16,8 +16,8 @@ use crate::state::Shown;
 use crate::successor::has_init_sections;
 use break_finder::{Entrances, Knowledge, Stay, TimesWithin};
 use fixed_duration::Nanos;
+use playlist_kept::Read;
 use playlist_model::{Instant, Member, Members, Segment, Shared, Text};
-use playlist_parse::Read;
 use pod_store::PodStore;
 use std::alloc::{AllocError, Global};
 use std::marker::Model;
@@ -222,7 +222,6 @@ impl<'a> Marker<'a> {
     // The first break that is entered at an instant, after this last one.
     fn entered(
         &mut self,
-        alloc: Global,
         last: Option<&str>,
         instant: Option<Instant>,
     ) -> Result<Option<Shared<Text>>, AllocError>
@@ -236,7 +235,7 @@ impl<'a> Marker<'a> {
             return Ok(None);
         }
         match self.entrances.entered(instant, last) {
-            Some(id) => Ok(Some(Shared::copy_of(alloc, id)?)),
+            Some(id) => Ok(Some(id.clone()?)),
             None => Ok(None),
         }
     }
@@ -299,7 +298,7 @@ impl<'a> Marker<'a> {
         ensures run { OnOk result (IsRun self.old run.new) }
         ensures kept { self.new ≡ self.old }
     {
-        let id = self.entered(alloc, text_in(&run.entered), instant.get())?;
+        let id = self.entered(text_in(&run.entered), instant.get())?;
         let mark = self.mark_of(alloc, id)?;
         let goes_on = is_same_run(&mark, &run.before);
         let before = if goes_on { run.so_far } else { Nanos(0) };

@@ -1,7 +1,7 @@
 //! The breaks that are known after a refresh, and the segments that are shown then.
 ghost use Rattle.std.specs.Prelude.{None, IfOk, ◌++◌, ◌≤◌, length};
 ghost use Rattle.stitcher.specs.StitchedSegments.{AreDecided, KnowRuns};
-ghost use Rattle.playlist_parse.specs.Kept.{playlist_in};
+ghost use Rattle.playlist_kept.specs.Kept.{playlist_in};
 ghost use Rattle.channel_window.specs.Checked.{AreContiguous, AreTaken};
 ghost use Rattle.channel_window.specs.Listed.{RisesOn, segments_in};
 ghost use Rattle.channel_window.specs.Showing.{IsLastEntered, IsShown, kept_in};
@@ -11,8 +11,8 @@ use crate::marking::{Marker, text_in};
 use crate::state::ChannelState;
 use break_finder::Knowledge;
 use fixed_duration::Nanos;
+use playlist_kept::Read;
 use playlist_model::{Shared, Text};
-use playlist_parse::Read;
 use std::alloc::{AllocError, Global};
 use stitcher::MarkedSegment;
 use timeline::Beginnings;

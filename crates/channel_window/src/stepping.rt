@@ -10,7 +10,7 @@ ghost use Rattle.stitcher.specs.declared.OutSegment.{OutSegment};
 ghost use Rattle.channel_spec.specs.Kept.{items_on};
 ghost use Rattle.channel_spec.specs.LastWindow.{last_items, last_pieces};
 ghost use Rattle.channel_spec.specs.LiveLaws.{GoesOn};
-ghost use Rattle.playlist_parse.specs.Kept.{playlist_in};
+ghost use Rattle.playlist_kept.specs.Kept.{playlist_in};
 ghost use Rattle.channel_window.specs.Marking.{so_far};
 ghost use Rattle.channel_window.specs.Listed.{AreRising, IsRestDecided, head_of};
 ghost use Rattle.channel_window.specs.Showing.{kept_before, kept_in};
@@ -23,10 +23,10 @@ use crate::state::{Before, Ending};
 use crate::successor::first_number;
 use crate::writing::{Start, copied_rest, first_numbers_in, start_of};
 use fixed_duration::Nanos;
-use playlist_parse::Read;
+use playlist_kept::Read;
 use pod_store::PodStore;
 use std::alloc::{AllocError, Global};
-use stitcher::{Ends, MarkedSegment, Numbers, Rest, StitchFault, StitchedList, goes_on, stitch_at};
+use stitcher::{Ends, MarkedSegment, Numbers, Rest, StitchFault, StitchedList, goes_on, stitch};
 
 /// A stitched list after a refresh, without the items that stand between its first and its new ones.
 #[derive(Drop)]
@@ -60,7 +60,7 @@ fn listed<'a>(
         (λ some. IfSome some (λ v. (v ≡ stitched_segments store.now first ends.now list.now)
         × (list_all item_fits v ≡ true))) }
 {
-    match stitch_at(alloc, list, cut, store, first, ends) {
+    match stitch(alloc, list, cut, store, first, ends) {
         Ok(items) => Ok(Some(items)),
         Err(StitchFault::NumberRange) => Ok(None),
         Err(StitchFault::OutOfMemory) => Err(AllocError),

@@ -2,14 +2,14 @@
 ghost use Rattle.std.specs.Prelude.{◌≡◌, Bool, true, false, not, ◌&&◌, option_map, is_none};
 ghost use Rattle.channel_spec.specs.declared.fault.RefreshFault.TheVariants.{Changed};
 ghost use Rattle.channel_spec.specs.Successor.{are_different, end_number, first_changed, first_discontinuity, first_number, discontinuity_out_of_range, has_init_sections, is_same_window, kind_eq, last_discontinuity, answer_of, following_fault};
-ghost use Rattle.playlist_parse.specs.Kept.{playlist_in};
+ghost use Rattle.playlist_kept.specs.Kept.{playlist_in};
 ghost use Rattle.channel_window.specs.Checked.{AreContiguous, AreTaken};
 ghost use Rattle.channel_window.specs.Listed.{segments_in};
 ghost use Rattle.channel_window.specs.Inner.Checked.{is_as_before};
 
 use channel_spec::{Heading, RefreshFault};
+use playlist_kept::Read;
 use playlist_model::{PlaylistKind, Segment, Shared, same_segment};
-use playlist_parse::Read;
 use stitcher::MarkedSegment;
 
 /// The Media Sequence Number of the first segment of the playlist that was `read` (RFC 8216, section 4.3.3.2); 0 if it has

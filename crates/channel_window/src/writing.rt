@@ -11,7 +11,7 @@ ghost use Rattle.channel_spec.specs.Inner.Kept.{ends_of};
 ghost use Rattle.channel_spec.specs.LastWindow.{last_pieces};
 ghost use Rattle.channel_spec.specs.Live.{date_range_text, date_ranges_left, place_of, rest_over};
 ghost use Rattle.channel_spec.specs.Successor.{first_number};
-ghost use Rattle.playlist_parse.specs.Kept.{playlist_in};
+ghost use Rattle.playlist_kept.specs.Kept.{playlist_in};
 ghost use Rattle.channel_window.specs.Marking.{place_on, so_far};
 ghost use Rattle.channel_window.specs.Listed.{AreRising, IsRestDecided, RefusesList, head_of, states_time};
 ghost use Rattle.channel_window.specs.Inner.Listed.{first_alone, first_numbers_of, pod_keeps, texts_left, AreAmong};
@@ -26,14 +26,13 @@ use crate::state::Before;
 use crate::successor::{first_number, first_shown};
 use channel_spec::{Heading, RefreshFault};
 use fixed_duration::Nanos;
+use playlist_kept::Read;
 use playlist_model::{DateRange, Segment, Shared, Text};
-use playlist_parse::Read;
 use pod_store::{IdSet, PodStore};
 use std::alloc::{AllocError, Global};
 use std::hash::RandomState;
 use stitcher::{
-    Ends, MarkedSegment, Numbers, Rest, StitchFault, StitchedItems, StitchedList, TextRef,
-    stitch_at,
+    Ends, MarkedSegment, Numbers, Rest, StitchFault, StitchedItems, StitchedList, TextRef, stitch,
 };
 
 // The stitched list of these segments between these ends, whose first item has these numbers.
@@ -55,7 +54,7 @@ fn stitched<'a>(
         (λ e. RefusesList e (list_all item_fits
         (stitched_segments store.now first ends.now list.now) ≡ false)) }
 {
-    match stitch_at(alloc, list, cut, store, first, ends) {
+    match stitch(alloc, list, cut, store, first, ends) {
         Ok(items) => Ok(items),
         Err(StitchFault::NumberRange) => Err(RefreshFault::NumberRange),
         Err(StitchFault::OutOfMemory) => Err(RefreshFault::OutOfMemory),

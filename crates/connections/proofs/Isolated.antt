@@ -1,5 +1,5 @@
 -- The replies of a run, channel by channel.
-use Rattle.std.proofs.Common.{List, [], ◌∷◌, refl, sym, subst, inl, inr}
+use Rattle.std.proofs.Common.{List, [], ◌∷◌, refl, sym, subst, inl, inr, arith}
 use Rattle.http_edge.specs.Edges.{NamedChannel}
 use Rattle.http_edge.specs.Served.{IsServed}
 use Rattle.http_edge.specs.Isolation.{Exchange}
@@ -37,13 +37,4 @@ exchanged first [] last h = record { exchanges = []; asked = refl; run = h }
 exchanged first (s ∷ before) last h = with_one first h.0 last s before (exchanged first before h.0 h.1) h.2
 
 pub clients_are_isolated : ClientsAreIsolated
-clients_are_isolated first last events vacant new run =
-    let all = served first last events vacant run in
-    let it = exchanged first.edge all.services last.edge all.turns in record {
-      services = all.services;
-      pieces = all.pieces;
-      each = all.each;
-      exchanges = it.exchanges;
-      asked = it.asked;
-      isolated = λ name. isolated_runs name first.edge last.edge it.exchanges new it.run;
-    }
+clients_are_isolated first last events vacant new run = grind (arith, served, exchanged, isolated_runs)

@@ -1,5 +1,5 @@
 -- What leads from one table to another.
-use Rattle.std.proofs.Common.{◌≡◌, List, [], ◌∷◌, ◌++◌, refl, sym, subst}
+use Rattle.std.proofs.Common.{◌≡◌, List, [], ◌∷◌, ◌++◌, refl, sym, subst, arith}
 use Rattle.connections.specs.Table.{State, ClientEvent, Happens}
 use Rattle.connections.specs.Runs.{IsRun, HasRun}
 
@@ -15,5 +15,4 @@ run_goes_on first middle before b last [] h = subst (IsRun first before) (sym h)
 run_goes_on first middle before b last (e ∷ events) h = (h.0, run_goes_on first middle before b h.0 events h.1, h.2)
 
 pub and_then : (first middle last : State) → HasRun first middle → HasRun middle last → HasRun first last
-and_then first middle last b h =
-    record { events = h.events ++ b.events; run = run_goes_on first middle b.events b.run last h.events h.run }
+and_then first middle last b h = grind (arith, run_goes_on)

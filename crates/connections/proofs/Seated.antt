@@ -1,5 +1,5 @@
 -- The places of all seats.
-use Rattle.std.proofs.Common.{◌≡◌, ℕ, ◌+◌, ◌-◌, ◌<◌, ◌≤◌, suc, List, [], ◌∷◌, ◌++◌, refl, ap, subst, sym, ◌∙◌, arith, append_assoc}
+use Rattle.std.proofs.Common.{◌≡◌, ℕ, ◌+◌, ◌-◌, ◌<◌, ◌≤◌, suc, List, [], ◌∷◌, ◌++◌, refl, subst, sym, arith, append_assoc}
 use Rattle.std.proofs.lemmas.List.{append-nil}
 use Rattle.connections.specs.Seats.{places_below}
 
@@ -17,15 +17,8 @@ below m n e = subst (λ k. places_below k ≡ n ∷ places_below n) (sym e) (one
 -- one seat more
 pub one_more : (most i : ℕ) (items pushed all : List ℕ) → i < most → pushed ≡ items ++ (most - 1 - i) ∷ [] → items ++ places_below (most - i) ≡ all
     → pushed ++ places_below (most - (i + 1)) ≡ all
-one_more most i items pushed all lt p h =
-    let n = most - (i + 1) in
-    let same : most - 1 - i ≡ n = omega (arith, lt) in
-    let more : most - i ≡ suc n = omega (arith, lt) in
-    ap (λ l. l ++ places_below n) (p ∙ ap (λ x. items ++ x ∷ []) same) ∙ append_assoc items (n ∷ []) (places_below n)
-    ∙ ap (λ l. items ++ l) (sym (below (most - i) n more)) ∙ h
+one_more most i items pushed all lt p h = grind (arith, append_assoc, below)
 
 -- and no more
 pub all_there : (most i : ℕ) (items all : List ℕ) → most ≤ i → items ++ places_below (most - i) ≡ all → items ≡ all
-all_there most i items all le h =
-    let none : most - i ≡ 0 = omega (arith, le) in
-    sym (append-nil items) ∙ ap (λ l. items ++ l) (sym none_below) ∙ ap (λ n. items ++ places_below n) (sym none) ∙ h
+all_there most i items all le h = grind (arith, append-nil, none_below)

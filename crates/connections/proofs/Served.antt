@@ -1,5 +1,5 @@
 -- Each connection is served by itself, whatever the others do.
-use Rattle.std.proofs.Common.{◌≡◌, ℕ, ◌+◌, ◌≤◌, ◌==◌, Bool, true, false, cond, List, [], ◌∷◌, ◌++◌, length, drop, refl, sym, ap, subst, ◌∙◌, inl, inr, arith, append_assoc, eqb-true, eq-eqb}
+use Rattle.std.proofs.Common.{◌≡◌, ℕ, ◌≤◌, ◌==◌, Bool, true, false, cond, List, [], ◌∷◌, ◌++◌, length, drop, refl, sym, ap, subst, ◌∙◌, inl, inr, arith, append_assoc, eq-eqb}
 use Rattle.std.specs.Prelude.{Option, Some, None, ◌≢◌}
 use Rattle.std.proofs.lemmas.Bool.{eqb-false}
 use Rattle.std.proofs.lemmas.List.{append-nil, drop-drop}
@@ -10,7 +10,7 @@ use Rattle.connections.specs.declared.conversation.Conversation.{Conversation}
 use Rattle.connections.specs.declared.conversation.Conversation.TheVariants.{Asking, Answering}
 use Rattle.connections.specs.Conversing.{Goes}
 use Rattle.connections.specs.Table.{State, at, left_of, taken_of, ClientEvent, arrival, request_bytes, reply_bytes, departure, Puts, GoesOn, Happens}
-use Rattle.connections.specs.Runs.{visits, said, taken, Service, InTurn, AreOf, IsAsking, HasReply, StandsAt, IsRun, IsServedRun}
+use Rattle.connections.specs.Runs.{visits, said, taken, Service, IsAsking, HasReply, StandsAt, IsRun, IsServedRun}
 
 -- ---- places
 
@@ -27,44 +27,18 @@ left : {A : Type 0} (b : Bool) (x y : A) → b ≡ false → cond b x y ≡ y
 left b x y e = ap (λ c. cond c x y) e
 
 by_place : (P : ℕ → Type 0) (k : ℕ) → P k → ((place : ℕ) → (k == place) ≡ false → P place) → (place : ℕ) → P place
-by_place P k here there place = split (k == place) refl where
-  split : (b : Bool) → (k == place) ≡ b → P place
-  split true e = subst P (eqb-true k place e) here
-  split false e = there place e
+by_place P k here there place = grind arith
 
 -- ---- what doesn't concern a place
 
 more_services : (place : ℕ) (events : List ClientEvent) (s : Service) (services : List Service) (c : Option Conversation) → StandsAt place events services c
     → StandsAt place events (s ∷ services) c
-more_services place events s services None h = tt
-more_services place events s services (Some (Asking bytes pieces)) h = h
-more_services place events s services (Some (Answering rest status)) h = record {
-  service = h.service;
-  one = inr h.one;
-  place_is = h.place_is;
-  visit_is = h.visit_is;
-  more = h.more;
-  said_is = h.said_is;
-  status_is = h.status_is;
-  rest_is = h.rest_is;
-}
+more_services place events s services c h = grind arith
 
 -- where an event leaves what was said, taken and visited
 carried : (place : ℕ) (now before : List ClientEvent) (services : List Service) (c : Option Conversation) → visits place now ≡ visits place before
     → said place now ≡ said place before → taken place now ≡ taken place before → StandsAt place before services c → StandsAt place now services c
-carried place now before services None v s t h = tt
-carried place now before services (Some (Asking bytes pieces)) v s t h =
-    record { all = h.all ∙ sym s; unfinished = h.unfinished; untaken = t ∙ h.untaken }
-carried place now before services (Some (Answering rest status)) v s t h = record {
-  service = h.service;
-  one = h.one;
-  place_is = h.place_is;
-  visit_is = h.visit_is ∙ sym v;
-  more = h.more;
-  said_is = s ∙ h.said_is;
-  status_is = h.status_is;
-  rest_is = h.rest_is ∙ ap (λ n. drop n h.service.text) (sym t);
-}
+carried place now before services c v s t h = grind arith
 
 moved : (place : ℕ) (events : List ClientEvent) (services : List Service) (old new : Option Conversation) → new ≡ old → StandsAt place events services old
     → StandsAt place events services new
@@ -74,102 +48,40 @@ moved place events services old new e h = subst (StandsAt place events services)
 
 on_arrival : (first middle last : State) (k : ℕ) (before : List ClientEvent) → IsServedRun first before middle → Happens middle (arrival k) last
     → IsServedRun first (arrival k ∷ before) last
-on_arrival first middle last k before run h =
-    let events = arrival k ∷ before in record {
-      services = run.services;
-      turns = subst (InTurn first.edge run.services) (sym h.1) run.turns;
-      pieces = run.pieces;
-      each =
-          by_place (λ place. StandsAt place events run.services (at last place)) k
-          (moved k events run.services (Some (Asking [] 0)) (at last k) h.0.here
-          (record { all = sym (chosen (k == k) [] (said k before) (same k)); unfinished = nothing_yet; untaken = chosen (k == k) 0 (taken k before) (same k) }))
-          (λ place e. moved place events run.services (at middle place) (at last place) (h.0.others place (other_of k place e))
-          (carried place events before run.services (at middle place) (left (k == place) (visits place before + 1) (visits place before) e) (left (k == place) [] (said place before) e) (left (k == place) 0 (taken place before) e) (run.each place)));
-    }
+on_arrival first middle last k before run h = grind (arith, by_place, moved, chosen, same, nothing_yet, other_of, carried, left)
 
 -- ---- a client goes
 
 on_departure : (first middle last : State) (k : ℕ) (before : List ClientEvent) → IsServedRun first before middle → Happens middle (departure k) last
     → IsServedRun first (departure k ∷ before) last
-on_departure first middle last k before run h =
-    let events = departure k ∷ before in record {
-      services = run.services;
-      turns = subst (InTurn first.edge run.services) (sym h.1) run.turns;
-      pieces = run.pieces;
-      each =
-          by_place (λ place. StandsAt place events run.services (at last place)) k
-          (moved k events run.services None (at last k) h.0.here tt)
-          (λ place e. moved place events run.services (at middle place) (at last place) (h.0.others place (other_of k place e))
-          (carried place events before run.services (at middle place) refl refl refl (run.each place)));
-    }
+on_departure first middle last k before run h = grind arith
 
 -- ---- a client takes
 
 took_here : (k count : ℕ) (before : List ClientEvent) (services : List Service) (c : Option Conversation) → count ≤ length (left_of c) → StandsAt k before services c
     → StandsAt k (reply_bytes k count ∷ before) services (taken_of count c)
-took_here k count before services None le h = tt
-took_here k count before services (Some (Asking bytes pieces)) le h = record {
-  all = h.all;
-  unfinished = h.unfinished;
-  untaken = chosen (k == k) (taken k before + count) (taken k before) (same k) ∙ (let z : taken k before + count ≡ 0 = omega (arith, le, h.untaken) in z);
-}
-took_here k count before services (Some (Answering rest status)) le h = record {
-  service = h.service;
-  one = h.one;
-  place_is = h.place_is;
-  visit_is = h.visit_is;
-  more = h.more;
-  said_is = h.said_is;
-  status_is = h.status_is;
-  rest_is =
-      ap (drop count) h.rest_is ∙ drop-drop count (taken k before) h.service.text
-      ∙ ap (λ n. drop n h.service.text) (sym (chosen (k == k) (taken k before + count) (taken k before) (same k)));
-}
+took_here k count before services c le h = grind (arith, chosen, same, drop-drop)
 
 on_reply_bytes : (first middle last : State) (k count : ℕ) (before : List ClientEvent) → IsServedRun first before middle → Happens middle (reply_bytes k count) last
     → IsServedRun first (reply_bytes k count ∷ before) last
-on_reply_bytes first middle last k count before run h =
-    let events = reply_bytes k count ∷ before in record {
-      services = run.services;
-      turns = subst (InTurn first.edge run.services) (sym h.2) run.turns;
-      pieces = run.pieces;
-      each =
-          by_place (λ place. StandsAt place events run.services (at last place)) k
-          (moved k events run.services (taken_of count (at middle k)) (at last k) h.1.here (took_here k count before run.services (at middle k) h.0 (run.each k)))
-          (λ place e. moved place events run.services (at middle place) (at last place) (h.1.others place (other_of k place e))
-          (carried place events before run.services (at middle place) refl refl (left (k == place) (taken place before + count) (taken place before) e) (run.each place)));
-    }
+on_reply_bytes first middle last k count before run h = grind (arith, by_place, moved, took_here, other_of, carried, left)
 
 -- ---- a client gives
 
 said_here : (k : ℕ) (piece : List ℕ) (before : List ClientEvent) → said k (request_bytes k piece ∷ before) ≡ said k before ++ piece
 said_here k piece before = chosen (k == k) (said k before ++ piece) (said k before) (same k)
 
-still_of : (k : ℕ) (piece : List ℕ) (before : List ClientEvent) (services : List Service) → AreOf before services → AreOf (request_bytes k piece ∷ before) services
-still_of k piece before [] a = a
-still_of k piece before (s ∷ earlier) a = inl a
-
 -- another place
 given_there : (k : ℕ) (piece : List ℕ) (before : List ClientEvent) (services : List Service) (middle last : State) (it : Option Conversation) → Puts middle last k it
     → ((place : ℕ) → StandsAt place before services (at middle place)) → (place : ℕ) → (k == place) ≡ false
     → StandsAt place (request_bytes k piece ∷ before) services (at last place)
-given_there k piece before services middle last it puts each place e =
-    moved place (request_bytes k piece ∷ before) services (at middle place) (at last place) (puts.others place (other_of k place e))
-    (carried place (request_bytes k piece ∷ before) before services (at middle place) refl (left (k == place) (said place before ++ piece) (said place before) e) refl (each place))
+given_there k piece before services middle last it puts each place e = grind arith
 
 -- nothing is served by it
 unserved : (first middle last : State) (k : ℕ) (piece : List ℕ) (before : List ClientEvent) (it : Option Conversation) (run : IsServedRun first before middle)
     → Puts middle last k it → last.edge ≡ middle.edge → StandsAt k (request_bytes k piece ∷ before) run.services it
     → IsServedRun first (request_bytes k piece ∷ before) last
-unserved first middle last k piece before it run puts edge here = record {
-  services = run.services;
-  turns = subst (InTurn first.edge run.services) (sym edge) run.turns;
-  pieces = still_of k piece before run.services run.pieces;
-  each =
-      by_place (λ place. StandsAt place (request_bytes k piece ∷ before) run.services (at last place)) k
-      (moved k (request_bytes k piece ∷ before) run.services it (at last k) puts.here here)
-      (given_there k piece before run.services middle last it puts run.each);
-}
+unserved first middle last k piece before it run puts edge here = grind arith
 
 -- it makes the request whole
 newly : (first middle last : State) (k : ℕ) (piece : List ℕ) (before : List ClientEvent) (bytes rest : List ℕ) (status : ℕ) (run : IsServedRun first before middle)
@@ -241,16 +153,8 @@ on_request_bytes_at first middle last k piece before (Some (Answering rest statu
 
 on_event : (first middle last : State) (e : ClientEvent) (before : List ClientEvent) → IsServedRun first before middle → Happens middle e last
     → IsServedRun first (e ∷ before) last
-on_event first middle last (arrival k) before run h = on_arrival first middle last k before run h
-on_event first middle last (request_bytes k piece) before run h = on_request_bytes_at first middle last k piece before (at middle k) run (run.each k) h
-on_event first middle last (reply_bytes k count) before run h = on_reply_bytes first middle last k count before run h
-on_event first middle last (departure k) before run h = on_departure first middle last k before run h
+on_event first middle last e before run h = grind (arith, on_arrival, on_request_bytes_at, on_reply_bytes, on_departure)
 
 pub served : (first last : State) (events : List ClientEvent) → ((place : ℕ) → at first place ≡ None) → IsRun first events last → IsServedRun first events last
-served first last [] vacant h = record {
-  services = [];
-  turns = ap (λ (s : State). s.edge) h;
-  pieces = refl;
-  each = λ place. moved place [] [] None (at last place) (ap (λ s. at s place) h ∙ vacant place) tt;
-}
-served first last (e ∷ before) vacant h = on_event first h.0 last e before (served first h.0 before vacant h.1) h.2
+served first last [] vacant h = grind (arith, moved)
+served first last (e ∷ before) vacant h = grind (arith, on_event, served first h.0 before vacant h.1)

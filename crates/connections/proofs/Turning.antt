@@ -1,5 +1,5 @@
 -- One call more in a client's turn.
-use Rattle.std.proofs.Common.{◌≡◌, ℕ, ◌+◌, ◌<◌, true, false, arith, List, [], ◌∷◌, take, drop, length, zero, suc, refl, sym, ap, subst, ◌∙◌}
+use Rattle.std.proofs.Common.{◌≡◌, ℕ, ◌+◌, ◌<◌, true, false, arith, List, [], ◌∷◌, take, drop, zero, suc, refl, sym, ap, subst, ◌∙◌}
 use Rattle.std.specs.Prelude.{Option, Some, None}
 use Rattle.std.specs.Io.KnownBytes.{Appends}
 use Rattle.std.proofs.KnownBytes.{Consumes-trans, Appends-trans}
@@ -21,9 +21,7 @@ moved_none calls = refl
 
 pub moved_more : (n count : ℕ) (old middle new : Calls) → MovedEach n old middle → 0 < count → new ≡ one_call (Bytes count) middle → MovedEach (n + 1) old new
 unfolding MovedEach
-moved_more n count old middle new each some one =
-    let next : suc n ≡ n + 1 = omega arith in
-    subst (λ k. MovedEach k old new) next (middle, each, count, some, one)
+moved_more n count old middle new each some one = grind arith
 
 pub heard_more : (first before after : DeviceStand) (place : ℕ) (old middle new : State) → HasListened first before place old middle
     → is_asking (at middle place) ≡ true → HasHeard before after place middle new → HasListened first after place old new
@@ -67,18 +65,10 @@ pub sent_none : (place : ℕ) (now : State) → AreSent 0 place now now
 sent_none place now = omega arith
 
 pub sent_more : (n : ℕ) (before after : DeviceStand) (place : ℕ) (old middle new : State) → AreSent n place old middle → HasSaid before after place middle new → AreSent (n + 1) place old new
-sent_more n before after place old middle new sent said =
-    let left = ap length (ap left_of said.happens.1.here ∙ left_after said.count (at middle place)) in
-    let dropped = length-drop said.count (left_of (at middle place)) in
-    omega (arith, sent, left, dropped, said.took_it.some, said.happens.0)
+sent_more n before after place old middle new sent said = grind (arith, left_after, length-drop)
 
 -- ---- who is answered asks no more
 
-still_answered : (count : ℕ) (c : Option Conversation) → is_asking (taken_of count c) ≡ is_asking c
-still_answered count None = refl
-still_answered count (Some (Asking bytes pieces)) = refl
-still_answered count (Some (Answering rest status)) = refl
-
 pub told_more : (before after : DeviceStand) (place : ℕ) (old middle new : State) → (is_asking (at old place) ≡ false → is_asking (at middle place) ≡ false) → HasSaid before after place middle new
     → is_asking (at old place) ≡ false → is_asking (at new place) ≡ false
-told_more before after place old middle new earlier said h = ap is_asking said.happens.1.here ∙ (still_answered said.count (at middle place) ∙ earlier h)
+told_more before after place old middle new earlier said h = grind arith

@@ -1,21 +1,18 @@
 -- The calendar of the definitions is that of the `jiff` crates.
-use Rattle.std.proofs.Common.{◌≡◌, ℕ, zero, suc, ◌+◌, ◌-◌, ◌≤◌, true, false, refl, ap, sym, ◌∙◌, arith, ℤ, pos, ◌+ℤ◌}
-use Rattle.std.specs.Prelude.{◌==◌}
+use Rattle.std.proofs.Common.{◌≡◌, ℕ, zero, suc, ◌+◌, ◌≤◌, true, refl, ap, arith, ℤ, pos, ◌+ℤ◌}
 use Rattle.std.proofs.lemmas.Bool.Decides.{nat_tests}
 use Rattle.std.proofs.lemmas.Bool.{cond-false, ne_eqb}
 use Rattle.jiff_core.specs.Calendar.{days_of_months, day_count, days_from_civil, IsDate}
 use Rattle.jiff_core.proofs.SignedLemmas.{signed_arith}
 use Rattle.jiff_core.proofs.CalendarLemmas.{day_count-epoch, days_from_civil-day_count, day_count-day_of_year, day_count-next_year}
-use Rattle.date_times.specs.Instant.{is_day, days_in_month, days_before_month, days_before_year, day_number}
+use Rattle.date_times.specs.Instant.{is_day, days_before_month, days_before_year, day_number}
 use Rattle.date_times.proofs.Dates.{year_step}
 
 -- the days of the first so many months
 months : (y n : ℕ) → days_of_months (pos y) n ≡ days_before_month y (suc n)
 unfolding days_of_months
 months y zero = refl
-months y (suc n) =
-    let some : (suc n == 0) ≡ false = ne_eqb (suc n) 0 (λ e. omega arith) in
-    ap (λ k. k + days_in_month y (suc n)) (months y n) ∙ sym (ap (λ k. days_before_month y (suc n) + k) (cond-false _ _ _ some))
+months y (suc n) = grind (arith, ne_eqb, cond-false, months y n)
 
 -- the first day of a year
 first_day : (y : ℕ) → day_count (pos y) 1 1 ≡ day_count (pos 0) 1 1 + days_before_year y
@@ -29,14 +26,7 @@ first_day (suc y) =
 
 -- the number of a day
 pub civil_day : (y m d : ℕ) → 1 ≤ m → 1 ≤ d → days_from_civil (pos y) m d +ℤ pos 719528 ≡ pos (day_number y m d)
-civil_day y m d h g =
-    let count = days_from_civil-day_count (pos y) m d in
-    let place = day_count-day_of_year (pos y) m d g in
-    let month = months y (m - 1) in
-    let back : suc (m - 1) ≡ m = omega arith in
-    let same : days_before_month y (suc (m - 1)) ≡ days_before_month y m = ap (days_before_month y) back in
-    let epoch = first_day 1970 in
-    omega (arith, signed_arith, count, place, month, same, epoch, day_count-epoch, first_day y)
+civil_day y m d h g = grind (arith, days_from_civil-day_count, day_count-day_of_year, months, first_day, signed_arith, day_count-epoch)
 
 pub date_is_day : (y m d : ℕ) → IsDate (pos y) (pos m) (pos d) → is_day y m d ≡ true
 date_is_day y m d e = grind (arith, signed_arith, nat_tests)
@@ -44,9 +34,4 @@ date_is_day y m d e = grind (arith, signed_arith, nat_tests)
 -- what `jiff` finds
 pub day_found : (y m d : ℕ) (zy zm zd dy z : ℤ) (dm dd : ℕ) → zy ≡ pos y → zm ≡ pos m → zd ≡ pos d → y ≤ 9999 → IsDate zy zm zd → (dy ≡ zy) × (pos dm ≡ zm) × (pos dd ≡ zd)
     → z ≡ days_from_civil dy dm dd → (is_day y m d ≡ true) × (z +ℤ pos 719528 ≡ pos (day_number y m d))
-day_found y m d zy zm zd dy z dm dd ey em ed h is at e =
-    let month : dm ≡ m = omega (arith, signed_arith, at.1, em) in
-    let day : dd ≡ d = omega (arith, signed_arith, at.2, ed) in
-    let date : IsDate (pos y) (pos m) (pos d) = rw (ey, em, ed) at is in
-    let civil : z ≡ days_from_civil (pos y) m d = e ∙ rw (at.0, ey, month, day) refl in
-    (date_is_day y m d date, ap (λ x. x +ℤ pos 719528) civil ∙ civil_day y m d (omega (arith, signed_arith, date.1)) (omega (arith, signed_arith, date.2)))
+day_found y m d zy zm zd dy z dm dd ey em ed h is at e = grind (arith, signed_arith, date_is_day, civil_day)

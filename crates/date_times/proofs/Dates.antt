@@ -1,60 +1,15 @@
 -- Days, months and years.
-use Rattle.std.proofs.Common.{◌≡◌, ℕ, zero, suc, ◌+◌, ◌-◌, ◌*◌, ◌/◌, ◌%◌, ◌<◌, ◌≤◌, Bool, true, false, not, cond, refl, ap, ◌∙◌, arith, subst}
-use Rattle.std.specs.Prelude.{◌&&◌, ◌||◌, ◌==◌, nat_lt}
-use Rattle.std.proofs.lemmas.Bool.{ltb-true, ltb-false, eqb-true, eqb-false, ne_eqb, cond-false}
+use Rattle.std.proofs.Common.{◌≡◌, ℕ, zero, suc, ◌+◌, ◌-◌, ◌<◌, ◌≤◌, Bool, true, false, cond, refl, ap, ◌∙◌, arith, subst}
+use Rattle.std.specs.Prelude.{◌==◌, nat_lt}
+use Rattle.std.proofs.lemmas.Bool.{ltb-true, ltb-false, ne_eqb, cond-false}
 use Rattle.date_times.specs.Instant.{is_leap, days_in_month, days_before_month, days_before_year}
 use Rattle.date_times.specs.Times.{days_in_year, year_after, month_after}
-
-four_yes : (y : ℕ) → y % 4 ≡ 0 → (y + 4) / 4 ≡ (y + 3) / 4 + 1
-four_yes y h = omega arith
-
-four_no : (y : ℕ) → (y % 4 ≡ 0 → ⊥) → (y + 4) / 4 ≡ (y + 3) / 4
-four_no y h = omega arith
-
-century_yes : (y : ℕ) → y % 100 ≡ 0 → (y + 100) / 100 ≡ (y + 99) / 100 + 1
-century_yes y h = omega arith
-
-century_no : (y : ℕ) → (y % 100 ≡ 0 → ⊥) → (y + 100) / 100 ≡ (y + 99) / 100
-century_no y h = omega arith
-
-era_yes : (y : ℕ) → y % 400 ≡ 0 → (y + 400) / 400 ≡ (y + 399) / 400 + 1
-era_yes y h = omega arith
-
-era_no : (y : ℕ) → (y % 400 ≡ 0 → ⊥) → (y + 400) / 400 ≡ (y + 399) / 400
-era_no y h = omega arith
-
-century_small : (y : ℕ) → (y + 99) / 100 ≤ y
-century_small y = omega arith
-
-leap_sum : (b4 b100 b400 : Bool) (y q c e q' c' e' : ℕ) → (y % 4 == 0) ≡ b4 → (y % 100 == 0) ≡ b100 → (y % 400 == 0) ≡ b400
-    → q ≡ (y + 3) / 4 → c ≡ (y + 99) / 100 → e ≡ (y + 399) / 400 → q' ≡ (y + 4) / 4 → c' ≡ (y + 100) / 100 → e' ≡ (y + 400) / 400 → c ≤ y
-    → 365 * (y + 1) + q' + e' - c' ≡ 365 * y + q + e - c + cond (b4 && (not b100 || b400)) 366 365
-leap_sum true true true y q c e q' c' e' h4 h1 h400 qe ce ee qe' ce' ee' s = let a = four_yes y (eqb-true _ _ h4) in let b = century_yes y (eqb-true _ _ h1) in let d = era_yes y (eqb-true _ _ h400) in omega arith
-leap_sum true true false y q c e q' c' e' h4 h1 h400 qe ce ee qe' ce' ee' s = let a = four_yes y (eqb-true _ _ h4) in let b = century_yes y (eqb-true _ _ h1) in let d = era_no y (eqb-false _ _ h400) in omega arith
-leap_sum true false true y q c e q' c' e' h4 h1 h400 qe ce ee qe' ce' ee' s = absurd (apart y (eqb-true _ _ h400) (eqb-false _ _ h1))
-  where
-    apart : (y : ℕ) → y % 400 ≡ 0 → (y % 100 ≡ 0 → ⊥) → ⊥
-    apart y a b = omega arith
-leap_sum true false false y q c e q' c' e' h4 h1 h400 qe ce ee qe' ce' ee' s = let a = four_yes y (eqb-true _ _ h4) in let b = century_no y (eqb-false _ _ h1) in let d = era_no y (eqb-false _ _ h400) in omega arith
-leap_sum false true b400 y q c e q' c' e' h4 h1 h400 qe ce ee qe' ce' ee' s = absurd (apart y (eqb-true _ _ h1) (eqb-false _ _ h4))
-  where
-    apart : (y : ℕ) → y % 100 ≡ 0 → (y % 4 ≡ 0 → ⊥) → ⊥
-    apart y a b = omega arith
-leap_sum false false true y q c e q' c' e' h4 h1 h400 qe ce ee qe' ce' ee' s = absurd (apart y (eqb-true _ _ h400) (eqb-false _ _ h4))
-  where
-    apart : (y : ℕ) → y % 400 ≡ 0 → (y % 4 ≡ 0 → ⊥) → ⊥
-    apart y a b = omega arith
-leap_sum false false false y q c e q' c' e' h4 h1 h400 qe ce ee qe' ce' ee' s = let a = four_no y (eqb-false _ _ h4) in let b = century_no y (eqb-false _ _ h1) in let d = era_no y (eqb-false _ _ h400) in omega arith
 
 regroup : (y a b : ℕ) → (y + 1) + a ≡ y + (1 + a)
 regroup y a b = omega arith
 
 pub year_step : (y : ℕ) → days_before_year (y + 1) ≡ days_before_year y + days_in_year y
-year_step y =
-    let a : (y + 1 + 3) / 4 ≡ (y + 4) / 4 = ap (λ x. x / 4) (omega arith) in
-    let b : (y + 1 + 99) / 100 ≡ (y + 100) / 100 = ap (λ x. x / 100) (omega arith) in
-    let d : (y + 1 + 399) / 400 ≡ (y + 400) / 400 = ap (λ x. x / 400) (omega arith) in
-    leap_sum (y % 4 == 0) (y % 100 == 0) (y % 400 == 0) y _ _ _ _ _ _ refl refl refl refl refl refl a b d (century_small y)
+year_step y = grind arith
 
 -- a year, and a day of it
 pub record InYear (from turns days : ℕ) (found : ℕ × ℕ) : Type 0 where
@@ -65,10 +20,7 @@ pub record InYear (from turns days : ℕ) (found : ℕ × ℕ) : Type 0 where
 
 year_turn : (b : Bool) (turns y days : ℕ) → nat_lt days (days_in_year y) ≡ b → (days_in_year y ≤ days → InYear (y + 1) turns (days - days_in_year y) (year_after turns (y + 1) (days - days_in_year y)))
     → InYear y (suc turns) days (cond b (y, days) (year_after turns (y + 1) (days - days_in_year y)))
-year_turn true turns y days e next = record { day = ltb-true _ _ e; low = omega arith; high = omega arith; same = refl }
-year_turn false turns y days e next =
-    let l : days_in_year y ≤ days = ltb-false _ _ e in let n = next l in let s = year_step y in
-    record { day = n.day; low = omega (arith, n.low); high = omega (arith, n.high); same = n.same ∙ omega (arith, s, l) }
+year_turn b turns y days e next = grind arith
 
 pub in_year : (turns y days : ℕ) → days_before_year y + days < days_before_year (y + turns) → InYear y turns days (year_after turns y days)
 unfolding year_after

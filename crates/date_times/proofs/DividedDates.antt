@@ -1,8 +1,7 @@
 -- The year and the month of a day, found by division.
-use Rattle.std.proofs.Common.{◌≡◌, ℕ, zero, suc, ◌+◌, ◌-◌, ◌*◌, ◌/◌, ◌%◌, ◌<◌, ◌≤◌, Bool, true, false, cond, refl, ap, sym, ◌∙◌, arith, inl, inr, subst}
+use Rattle.std.proofs.Common.{◌≡◌, ℕ, zero, suc, ◌+◌, ◌-◌, ◌*◌, ◌/◌, ◌<◌, ◌≤◌, Bool, true, false, cond, refl, ap, sym, ◌∙◌, arith, inl, inr, subst}
 use Rattle.std.proofs.lemmas.Bool.{cases_lt, and_parts, eqb-true, lt-ltb, le-ltb, cond-true, cond-false}
-use Rattle.std.specs.Prelude.{◌==◌, ◌||◌, ◌&&◌, nat_lt}
-use Rattle.std.proofs.lemmas.Bool.Decides.{nat_tests}
+use Rattle.std.specs.Prelude.{◌==◌, ◌&&◌, nat_lt}
 use Rattle.date_times.specs.Instant.{is_leap, days_in_month, days_before_year}
 use Rattle.date_times.specs.Times.{days_in_year, year_after, month_after}
 use Rattle.date_times.proofs.Dates.{in_year}
@@ -13,22 +12,8 @@ both p a b e f = ap (λ x. (x, b)) e ∙ ap (λ x. (p.0, x)) f
 
 -- ---- years
 
--- only a fourth year has a day 365
-leap_fourth : (y r : ℕ) → r < days_in_year y → 365 ≤ r → y % 4 ≡ 0
-leap_fourth y r h l = grind (arith, nat_tests)
-
-day_short : (y r : ℕ) → r < days_in_year y → r < 366
-day_short y r h = grind (arith, nat_tests)
-
 after_1900 : (y r days : ℕ) → 1900 ≤ y → r < days_in_year y → 365 ≤ days → days_before_year y + r ≡ days_before_year 1900 + days → 1901 ≤ y
-after_1900 y r days l h a e =
-    elim (cases_lt 1900 y) [
-      | inl more ↦ omega (arith, more)
-      | inr none ↦
-          let is : y ≡ 1900 = omega (arith, l, none) in
-          let short : r < days_in_year 1900 = subst (λ y. r < days_in_year y) is h in
-          let same : days_before_year 1900 + r ≡ days_before_year 1900 + days = subst (λ y. days_before_year y + r ≡ days_before_year 1900 + days) is e in absurd (omega (arith, short, same, a))
-    ]
+after_1900 y r days l h a e = grind arith
 
 before_2100 : (y r days : ℕ) → y < 2200 → days < 73049 → days_before_year y + r ≡ days_before_year 1900 + days → y < 2100
 before_2100 y r days l h e = omega arith
@@ -36,20 +21,8 @@ before_2100 y r days l h e = omega arith
 plain_count : (y : ℕ) → 1901 ≤ y → y < 2100 → days_before_year y + 15 ≡ 365 * y + (y + 3) / 4
 plain_count y l h = omega arith
 
-last_day : (j r since : ℕ) → r ≡ 365 → (1901 + j) % 4 ≡ 0 → since ≡ 365 * j + j / 4 + r → ((4 * since + 3) / 1461 ≡ j) × (since - 1461 * j / 4 ≡ r)
-last_day j r since s q e = (omega arith, omega arith)
-
-other_day : (j r since : ℕ) → r < 365 → since ≡ 365 * j + j / 4 + r → ((4 * since + 3) / 1461 ≡ j) × (since - 1461 * j / 4 ≡ r)
-other_day j r since s e = (omega arith, omega arith)
-
 found_year : (y j r since : ℕ) → y ≡ 1901 + j → r < days_in_year y → since ≡ 365 * j + j / 4 + r → ((4 * since + 3) / 1461 ≡ j) × (since - 1461 * j / 4 ≡ r)
-found_year y j r since is h e =
-    elim (cases_lt r 365) [
-      | inl less ↦ other_day j r since less e
-      | inr last ↦
-          let short = day_short y r h in let fourth = leap_fourth y r h last in
-          last_day j r since (omega (arith, short, last)) (subst (λ y. y % 4 ≡ 0) is fourth) e
-    ]
+found_year y j r since is h e = grind arith
 
 since_1901 : (y r days : ℕ) → 1901 ≤ y → y < 2100 → 365 ≤ days → days_before_year y + r ≡ days_before_year 1900 + days → days - 365 ≡ 365 * (y - 1901) + (y - 1901) / 4 + r
 since_1901 y r days l h a e = let p = plain_count y l h in omega (arith, p, e)
@@ -57,14 +30,7 @@ since_1901 y r days l h a e = let p = plain_count y l h in omega (arith, p, e)
 -- the year of a day from 1901 to 2099
 pub divided_year : (days : ℕ) → 365 ≤ days → days < 73049
     → (1901 + (4 * (days - 365) + 3) / 1461, days - 365 - 1461 * ((4 * (days - 365) + 3) / 1461) / 4) ≡ year_after 300 1900 days
-divided_year days a h =
-    let found = in_year 300 1900 days (omega arith) in
-    let y = (year_after 300 1900 days).0 in
-    let r = (year_after 300 1900 days).1 in
-    let low = after_1900 y r days found.low found.day a found.same in
-    let high = before_2100 y r days found.high h found.same in
-    let f = found_year y (y - 1901) r (days - 365) (omega (arith, low)) found.day (since_1901 y r days low high a found.same) in
-    both (year_after 300 1900 days) _ _ (omega (arith, low, f.0)) (ap (λ k. days - 365 - 1461 * k / 4) f.0 ∙ f.1)
+divided_year days a h = grind (arith, in_year, after_1900, before_2100, found_year, since_1901, both)
 
 -- ---- months
 
@@ -72,10 +38,7 @@ divided_year days a h =
 same_months : (turns y z m days : ℕ) → is_leap y ≡ is_leap z → month_after turns y m days ≡ month_after turns z m days
 unfolding month_after
 same_months zero y z m days e = refl
-same_months (suc turns) y z m days e =
-    let d : days_in_month y m ≡ days_in_month z m = ap (λ b. cond (m == 2) (cond b 29 28) (cond (m == 4 || m == 6 || m == 9 || m == 11) 30 31)) e in
-    ap (λ n. cond (nat_lt days n) (m, days) (month_after turns y (m + 1) (days - n))) d
-    ∙ ap (λ p. cond (nat_lt days (days_in_month z m)) (m, days) p) (same_months turns y z (m + 1) (days - days_in_month z m) e)
+same_months (suc turns) y z m days e = grind (arith, same_months turns y z (m + 1) (days - days_in_month z m) e)
 
 -- the month of a day in a year whose February has 30 days, and which day of it
 abbrev pub month_at : ℕ → ℕ

@@ -14,13 +14,11 @@ use Rattle.date_times.specs.Digits.{fixed_digits}
 
 pub last_two : (base k n : ℕ) → fixed_digits base (suc (suc k)) n ≡ fixed_digits base k (n / base / base) ++ fixed_digits base 2 n
 unfolding fixed_digits
-last_two base k n = append_assoc (fixed_digits base k (n / base / base)) (digit_glyph true (n / base % base) ∷ []) (digit_glyph true (n % base) ∷ [])
+last_two base k n = grind (arith, append_assoc)
 
 pub last_three : (n : ℕ) → fixed_digits 10 3 n ≡ (digit_glyph true (n / 100 % 10) ∷ []) ++ fixed_digits 10 2 n
 unfolding fixed_digits
-last_three n =
-    let hundreds : n / 10 / 10 ≡ n / 100 = omega arith in
-    last_two 10 1 n ∙ ap (λ m. (digit_glyph true (m % 10) ∷ []) ++ fixed_digits 10 2 n) hundreds
+last_three n = grind arith
 
 pub last_four : (n : ℕ) → fixed_digits 10 4 n ≡ fixed_digits 10 2 (n / 100) ++ fixed_digits 10 2 n
 last_four n =

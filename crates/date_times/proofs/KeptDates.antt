@@ -1,5 +1,5 @@
 -- A date is told by its ten bytes, whatever stands after them.
-use Rattle.std.proofs.Common.{◌≡◌, ℕ, ◌≤◌, ◌<◌, Bool, true, false, List, [], ◌∷◌, take, length, refl, sym, ◌∙◌, arith, ℤ, to_z, of_z, w64}
+use Rattle.std.proofs.Common.{◌≡◌, ℕ, ◌≤◌, ◌<◌, Bool, true, false, List, [], ◌∷◌, take, length, refl, arith, ℤ, to_z, of_z, w64}
 use Rattle.std.specs.Prelude.{nat_le}
 use Rattle.std.proofs.lemmas.Bool.{leb-true, le-leb, and_parts}
 use Rattle.std.proofs.lemmas.Int.{to_z-of_z}
@@ -9,12 +9,7 @@ use Rattle.date_times.specs.Instant.{IsDayOf}
 use Rattle.date_times.proofs.TimeForms.{date_parts}
 
 of_ten : (a b c d e f g h i j : ℕ) (rest : List ℕ) → is_date (a ∷ (b ∷ (c ∷ (d ∷ (e ∷ (f ∷ (g ∷ (h ∷ (i ∷ (j ∷ rest)))))))))) ≡ is_date (a ∷ (b ∷ (c ∷ (d ∷ (e ∷ (f ∷ (g ∷ (h ∷ (i ∷ (j ∷ []))))))))))
-of_ten a b c d e f g h i j rest =
-    let text : List ℕ = a ∷ (b ∷ (c ∷ (d ∷ (e ∷ (f ∷ (g ∷ (h ∷ (i ∷ (j ∷ rest))))))))) in
-    let year : nat_le 4 (length text) ≡ true = le-leb 4 (length text) (omega arith) in
-    let month : nat_le 7 (length text) ≡ true = le-leb 7 (length text) (omega arith) in
-    let day : nat_le 10 (length text) ≡ true = le-leb 10 (length text) (omega arith) in
-    rw (year, month, day) refl
+of_ten a b c d e f g h i j rest = grind (arith, le-leb)
 
 -- the first ten bytes of a text are a date just if a date stands at its front, of the same day
 pub of_first_ten : (text : List ℕ) → 10 ≤ length text → (is_date (take 10 text) ≡ is_date text) × ((day : ℤ) → IsDayOf (take 10 text) day → IsDayOf text day)
@@ -28,8 +23,7 @@ of_first_ten (a ∷ (b ∷ (c ∷ (d ∷ (e ∷ (f ∷ [])))))) n = absurd (omeg
 of_first_ten (a ∷ (b ∷ (c ∷ (d ∷ (e ∷ (f ∷ (g ∷ []))))))) n = absurd (omega (arith, n))
 of_first_ten (a ∷ (b ∷ (c ∷ (d ∷ (e ∷ (f ∷ (g ∷ (h ∷ [])))))))) n = absurd (omega (arith, n))
 of_first_ten (a ∷ (b ∷ (c ∷ (d ∷ (e ∷ (f ∷ (g ∷ (h ∷ (i ∷ []))))))))) n = absurd (omega (arith, n))
-of_first_ten (a ∷ (b ∷ (c ∷ (d ∷ (e ∷ (f ∷ (g ∷ (h ∷ (i ∷ (j ∷ rest)))))))))) n =
-    let same = of_ten a b c d e f g h i j rest in (sym same, λ day known. (same ∙ known.0, known.1, known.2))
+of_first_ten (a ∷ (b ∷ (c ∷ (d ∷ (e ∷ (f ∷ (g ∷ (h ∷ (i ∷ (j ∷ rest)))))))))) n = grind (arith, of_ten)
 
 not_so : (b : Bool) → (b ≡ true → ⊥) → b ≡ false
 not_so true f = absurd (f refl)

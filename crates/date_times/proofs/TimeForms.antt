@@ -1,9 +1,9 @@
 -- The parts of a date and time.
 use Rattle.std.proofs.Common.{◌≡◌, ℕ, ◌+◌, ◌≤◌, Bool, true, false, List, [], ◌∷◌, take, drop, length, refl, ap, ◌∙◌, arith, ℤ, pos, ◌+ℤ◌, ◌-ℤ◌, ◌*ℤ◌, ◌*◌, suc, length-drop, Some, None, cond}
-use Rattle.std.specs.Prelude.{◌&&◌, ◌==◌, nat_le, slice_index, slice_range, Option}
+use Rattle.std.specs.Prelude.{◌&&◌, ◌==◌, slice_index, slice_range, Option}
 use Rattle.std.specs.List.{list_all, prefix_len}
 use Rattle.std.specs.Char.{is_ascii_digit}
-use Rattle.std.proofs.lemmas.Bool.{and_parts, and_from, cond-true, leb-true}
+use Rattle.std.proofs.lemmas.Bool.{and_from, cond-true}
 use Rattle.std.proofs.lemmas.List.{take_all}
 use Rattle.jiff_core.proofs.SignedLemmas.{signed_arith}
 use Rattle.date_times.specs.Instant.{are_digits, has_date_form, is_date, has_clock_form, is_clock, fraction_len, is_fraction, fraction_nanos, zone_offset, instant_at, instant_of, seconds_at, if_in_range, nanos_from_1970, day_number, field}
@@ -18,10 +18,10 @@ form_parts true false c d e h = absurd (cc h)
 form_parts false b c d e h = absurd (cc h)
 
 pub date_parts : (text : List ℕ) → has_date_form text ≡ true → (are_digits text 0 4 ≡ true) × (are_digits text 5 7 ≡ true) × (are_digits text 8 10 ≡ true)
-date_parts text h = form_parts (are_digits text 0 4) (slice_index text 4 == 45) (are_digits text 5 7) (slice_index text 7 == 45) (are_digits text 8 10) h
+date_parts text h = grind (arith, form_parts)
 
 pub clock_parts : (text : List ℕ) → has_clock_form text ≡ true → (are_digits text 11 13 ≡ true) × (are_digits text 14 16 ≡ true) × (are_digits text 17 19 ≡ true)
-clock_parts text h = form_parts (are_digits text 11 13) (slice_index text 13 == 58) (are_digits text 14 16) (slice_index text 16 == 58) (are_digits text 17 19) h
+clock_parts text h = grind (arith, form_parts)
 
 -- ---- the fraction
 
@@ -34,9 +34,7 @@ front_passes p [] = refl
 front_passes p (x ∷ xs) = front_step (p x) p x xs (prefix_len p xs) refl (front_passes p xs)
 
 after_point : (b : Bool) (x : ℕ) (xs : List ℕ) → list_all is_ascii_digit (drop 1 (take (cond b (prefix_len is_ascii_digit xs + 1) 0) (x ∷ xs))) ≡ true
-after_point true x xs =
-    let more : prefix_len is_ascii_digit xs + 1 ≡ suc (prefix_len is_ascii_digit xs) = omega arith in
-    rw more (front_passes is_ascii_digit xs)
+after_point true x xs = grind (arith, front_passes)
 after_point false x xs = refl
 
 -- after the point of a fraction there are digits
@@ -51,13 +49,11 @@ last_false true w s h = rw h refl
 last_false false w s h = refl
 
 pub no_fraction : (text : List ℕ) → is_fraction (fraction_len (drop 19 text)) ≡ false → instant_of text ≡ None
-no_fraction text h = last_false (is_date text && slice_index text 10 == 84 && is_clock text) (is_fraction (fraction_len (drop 19 text))) _ h
+no_fraction text h = grind (arith, last_false)
 
 -- a time of day is 19 bytes long
 pub clock_length : (text : List ℕ) → is_clock text ≡ true → 19 ≤ length text
-clock_length text h =
-    let form : has_clock_form text ≡ true = (and_parts _ _ h).0 in
-    leb-true _ _ (and_parts (nat_le 19 (length text)) _ (clock_parts text form).2).0
+clock_length text h = grind arith
 
 -- what a text says from 19 bytes on
 pub zoned : List ℕ → ℕ → Option ℤ
@@ -70,7 +66,7 @@ read_parts text d t c f = cond-true _ _ _ (and_from _ _ (and_from _ _ (and_from 
 
 pub no_zone : (rest : List ℕ) (seconds : ℕ) → None ≡ zone_offset (drop (fraction_len rest) rest) → None ≡ zoned rest seconds
 unfolding zoned
-no_zone rest seconds h = ap (instant_at seconds (fraction_nanos (drop 1 (take (fraction_len rest) rest)))) h
+no_zone rest seconds h = grind arith
 
 nanos_same : (number clock nanos : ℕ) (day offset seconds : ℤ) → day +ℤ pos 719528 ≡ pos number → seconds ≡ (day *ℤ pos 86400 +ℤ pos clock) -ℤ offset
     → seconds *ℤ pos 1000000000 +ℤ pos nanos ≡ nanos_from_1970 (number * 86400 + clock) nanos offset

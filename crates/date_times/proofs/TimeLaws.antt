@@ -1,17 +1,15 @@
 -- An instant that is written is read.
 use Rattle.std.proofs.Common.{◌≡◌, ℕ, suc, ◌+◌, ◌-◌, ◌*◌, ◌/◌, ◌%◌, ◌^◌, ◌<◌, ◌≤◌, Bool, true, false, cond, List, [], ◌∷◌, ◌++◌, take, drop, length, replicate, refl, ap, sym, ◌∙◌, arith, subst, Some, None}
-use Rattle.std.specs.Prelude.{◌==◌, nat_lt, nat_le, ℤ, pos, negsuc, Option, slice_index}
+use Rattle.std.specs.Prelude.{◌==◌, nat_lt, nat_le, ℤ, pos, Option, slice_index}
 use Rattle.std.specs.List.{list_all, prefix_len}
 use Rattle.std.specs.Char.{is_ascii_digit}
 use Rattle.std.specs.Str.Parse.{digits_value, digits_value_after}
 use Rattle.std.proofs.lemmas.Bool.{and_parts, and_from, cond-true, lt-ltb, le-leb, eqb-true}
-use Rattle.std.proofs.lemmas.Int.{ints}
 use Rattle.std.proofs.lemmas.Bool.Decides.{nat_tests}
 use Rattle.std.proofs.lemmas.List.{take_at, drop_at}
-use Rattle.date_times.specs.Instant.{field, are_digits, is_date, has_date_form, is_clock, has_clock_form, seconds_at, day_number, days_in_month, days_before_month, days_before_year, fraction_len, is_fraction, fraction_nanos, zone_offset, instant_at, instant_of, nanos_from_1970, in_range, first_instant, end_of_instants}
+use Rattle.date_times.specs.Instant.{field, are_digits, is_date, has_date_form, is_clock, has_clock_form, seconds_at, day_number, days_in_month, days_before_month, days_before_year, fraction_len, is_fraction, fraction_nanos, zone_offset, instant_at, instant_of, nanos_from_1970, in_range}
 use Rattle.date_times.specs.Digits.{fixed_digits}
 use Rattle.date_times.specs.Times.{from_1900, year_after, month_after, date_text, decimals, text_at, time_text}
-use Rattle.std.specs.Prelude.{int_le, int_lt}
 use Rattle.date_times.proofs.FixedDigits.{fixed, are_own}
 use Rattle.date_times.proofs.Dates.{in_year, InYear, in_month, InMonth, year_months}
 
@@ -110,11 +108,7 @@ fraction_is ds h = ap (λ n. n + 1) (prefix_at is_ascii_digit ds 90 [] h refl) �
 
 after_fraction : (ds : List ℕ) (n seconds len : ℕ) → fraction_len (46 ∷ (ds ++ 90 ∷ [])) ≡ len → len ≡ suc (length ds) → fraction_nanos ds ≡ n → after_stamp (46 ∷ (ds ++ 90 ∷ [])) seconds ≡ instant_at seconds n (Some (pos 0))
 unfolding after_stamp
-after_fraction ds n seconds len e g v =
-    ap (λ l. instant_at seconds (fraction_nanos (drop 1 (take l (46 ∷ (ds ++ 90 ∷ []))))) (zone_offset (drop l (46 ∷ (ds ++ 90 ∷ []))))) (e ∙ g)
-    ∙ ap (λ xs. instant_at seconds (fraction_nanos xs) (zone_offset (drop (length ds) (ds ++ 90 ∷ [])))) (take_at ds (90 ∷ []) (length ds) refl)
-    ∙ ap (λ xs. instant_at seconds (fraction_nanos ds) (zone_offset xs)) (drop_at ds (90 ∷ []) (length ds) refl)
-    ∙ ap (λ x. instant_at seconds x (Some (pos 0))) v
+after_fraction ds n seconds len e g v = grind (arith, take_at, drop_at)
 
 three_nanos : (n : ℕ) → n < 1000 → fraction_nanos (fixed_digits 10 3 n) ≡ n * 1000000
 unfolding fixed_digits
@@ -190,21 +184,10 @@ text_reads n h =
 -- ---- instants
 
 back : (t : ℤ) (n : ℕ) → from_1900 t ≡ n → in_range t ≡ true → nanos_from_1970 (seconds_from_0 n) (n % 1000000000) (pos 0) ≡ t
-back (pos k) n e h = omega (arith, ints)
-back (negsuc k) n e h = let l : k + 1 ≤ 2208988800000000000 = low k h in omega (arith, ints)
-  where
-    low : (k : ℕ) → in_range (negsuc k) ≡ true → k + 1 ≤ 2208988800000000000
-    low k h = let a : (int_le first_instant (negsuc k) ≡ true) × (int_lt (negsuc k) end_of_instants ≡ true) = and_parts _ _ h in above k a.0
-      where
-        above : (k : ℕ) → int_le first_instant (negsuc k) ≡ true → k + 1 ≤ 2208988800000000000
-        above k h = grind (arith, ints, nat_tests)
+back t n e h = grind arith
 
 below_end : (t : ℤ) → in_range t ≡ true → from_1900 t < 9467107200000000000
-below_end (pos k) h = let a : (int_le first_instant (pos k) ≡ true) × (int_lt (pos k) end_of_instants ≡ true) = and_parts _ _ h in let b : k < 7258118400000000000 = below k a.1 in omega arith
-  where
-    below : (k : ℕ) → int_lt (pos k) end_of_instants ≡ true → k < 7258118400000000000
-    below k h = grind (arith, ints, nat_tests)
-below_end (negsuc k) h = omega arith
+below_end t h = grind arith
 
 in_range_step : (s n : ℕ) (t : ℤ) → nanos_from_1970 s n (pos 0) ≡ t → in_range t ≡ true → instant_at s n (Some (pos 0)) ≡ Some t
 in_range_step s n t e h = ap (λ x. cond (in_range x) (Some x) None) e ∙ cond-true _ _ _ h

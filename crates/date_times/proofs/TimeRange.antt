@@ -1,22 +1,14 @@
 -- The instant that a text says is in range.
-use Rattle.std.proofs.Common.{◌≡◌, ℕ, Bool, true, false, cond, List, refl, ap, sym, ◌∙◌, ℤ, Some, None}
-use Rattle.std.specs.Prelude.{◌&&◌, ◌==◌, Option, slice_index, drop, take}
-use Rattle.date_times.specs.Instant.{in_range, is_date, is_clock, is_fraction, fraction_len, fraction_nanos, zone_offset, seconds_at, instant_at, instant_of, nanos_from_1970}
-
-ranged : (b : Bool) (z t : ℤ) → in_range z ≡ b → cond b (Some z) None ≡ Some t → in_range t ≡ true
-ranged true z t e h = let same : z ≡ t = cc h in ap in_range (sym same) ∙ e
-ranged false z t e h = absurd (cc h)
+use Rattle.std.proofs.Common.{◌≡◌, ℕ, Bool, true, false, cond, List, ℤ, Some, None, arith}
+use Rattle.std.specs.Prelude.{Option}
+use Rattle.date_times.specs.Instant.{in_range, instant_at, instant_of}
 
 zone_range : (seconds nanos : ℕ) (zone : Option ℤ) (t : ℤ) → instant_at seconds nanos zone ≡ Some t → in_range t ≡ true
-zone_range seconds nanos None t h = absurd (cc h)
-zone_range seconds nanos (Some offset) t h = let z = nanos_from_1970 seconds nanos offset in ranged (in_range z) z t refl h
+zone_range seconds nanos zone t h = grind arith
 
 text_range : (b : Bool) (seconds nanos : ℕ) (zone : Option ℤ) (t : ℤ) → cond b (instant_at seconds nanos zone) None ≡ Some t → in_range t ≡ true
 text_range true seconds nanos z t h = zone_range seconds nanos z t h
 text_range false seconds nanos z t h = absurd (cc h)
 
 pub said_in_range : (text : List ℕ) (t : ℤ) → instant_of text ≡ Some t → in_range t ≡ true
-said_in_range text t h =
-    let rest = drop 19 text in
-    let len = fraction_len rest in
-    text_range (is_date text && slice_index text 10 == 84 && is_clock text && is_fraction len) (seconds_at text) (fraction_nanos (drop 1 (take len rest))) (zone_offset (drop len rest)) t h
+said_in_range text t h = grind (arith, text_range)

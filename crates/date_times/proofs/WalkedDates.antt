@@ -1,9 +1,9 @@
 -- One step of the walk over years and months, and the date that they find.
-use Rattle.std.proofs.Common.{◌≡◌, ℕ, zero, suc, ◌+◌, ◌-◌, ◌%◌, ◌<◌, ◌≤◌, [], ◌∷◌, ◌++◌, refl, ap, sym, ◌∙◌, arith, append-nil}
-use Rattle.std.proofs.lemmas.Bool.{lt-ltb, le-ltb, cond-true, cond-false}
+use Rattle.std.proofs.Common.{◌≡◌, ℕ, zero, suc, ◌+◌, ◌-◌, ◌%◌, ◌<◌, ◌≤◌, [], ◌∷◌, ◌++◌, refl, arith, append-nil}
+use Rattle.std.proofs.lemmas.Bool.{lt-ltb, cond-true}
 use Rattle.date_times.specs.Instant.{days_in_month}
 use Rattle.date_times.proofs.WrittenDigits.{two_left}
-use Rattle.date_times.specs.Times.{days_in_year, year_after, month_after, date_text, date_at}
+use Rattle.date_times.specs.Times.{days_in_year, year_after, month_after, date_at}
 use Rattle.date_times.specs.Digits.{fixed_digits}
 
 pub year_none : (turns year days : ℕ) → turns ≡ 0 → year_after turns year days ≡ (year, days)
@@ -18,8 +18,7 @@ year_stop (suc turns) year days h = cond-true _ _ _ (lt-ltb _ _ h)
 pub year_more : (turns year days : ℕ) → (turns ≡ 0 → ⊥) → days_in_year year ≤ days → year_after turns year days ≡ year_after (turns - 1) (year + 1) (days - days_in_year year)
 unfolding year_after
 year_more zero year days n h = absurd (n refl)
-year_more (suc turns) year days n h =
-    let e : turns ≡ suc turns - 1 = omega arith in cond-false _ _ _ (le-ltb _ _ h) ∙ ap (λ t. year_after t (year + 1) (days - days_in_year year)) e
+year_more (suc turns) year days n h = grind arith
 
 pub month_none : (turns year month days : ℕ) → turns ≡ 0 → month_after turns year month days ≡ (month, days)
 unfolding month_after
@@ -33,14 +32,9 @@ month_stop (suc turns) year month days h = cond-true _ _ _ (lt-ltb _ _ h)
 pub month_more : (turns year month days : ℕ) → (turns ≡ 0 → ⊥) → days_in_month year month ≤ days → month_after turns year month days ≡ month_after (turns - 1) year (month + 1) (days - days_in_month year month)
 unfolding month_after
 month_more zero year month days n h = absurd (n refl)
-month_more (suc turns) year month days n h =
-    let e : turns ≡ suc turns - 1 = omega arith in cond-false _ _ _ (le-ltb _ _ h) ∙ ap (λ t. month_after t year (month + 1) (days - days_in_month year month)) e
+month_more (suc turns) year month days n h = grind arith
 
 -- a date in the parts in which it is written
 pub date_parts : (days : ℕ) (year month : ℕ × ℕ) → year ≡ year_after 300 1900 days → month ≡ month_after 12 year.0 1 year.1
     → fixed_digits 10 4 year.0 ++ (45 ∷ [] ++ (fixed_digits 10 2 month.0 ++ (45 ∷ [] ++ fixed_digits 10 2 ((month.1 + 1) % 100)))) ≡ date_at days
-date_parts days year month y m =
-    let day = two_left (month.1 + 1) ∙ sym (append-nil (fixed_digits 10 2 (month.1 + 1))) in
-    ap (λ x. fixed_digits 10 4 year.0 ++ 45 ∷ (fixed_digits 10 2 month.0 ++ 45 ∷ x)) day
-    ∙ ap (λ (found : ℕ × ℕ). date_text year.0 found.0 (found.1 + 1) []) m
-    ∙ ap (λ (found : ℕ × ℕ). let in_year = month_after 12 found.0 1 found.1 in date_text found.0 in_year.0 (in_year.1 + 1) []) y
+date_parts days year month y m = grind (arith, two_left, append-nil)

@@ -1,6 +1,6 @@
 -- What a decision file says keeps the rules of pods.
 use Rattle.std.proofs.Common.{ap, suc, ◌≡◌, ◌≤◌, ℕ, ◌+◌, ◌^◌, Bool, true, false, not, List, [], ◌∷◌, ◌++◌, length, map, sum, codes, refl, sym, ◌∙◌, subst, Some, None, arith, length-append}
-use Rattle.std.specs.Prelude.{Option, Result, Ok, Err, ◌==◌, nat_lt, nat_le, unwrap_or}
+use Rattle.std.specs.Prelude.{Option, Ok, Err, ◌==◌, nat_lt, nat_le, unwrap_or}
 use Rattle.std.specs.Str.{is_utf8, chars}
 use Rattle.std.specs.List.{list_all}
 use Rattle.std.proofs.lemmas.Bool.{and_from, le-leb}
@@ -19,10 +19,9 @@ use Rattle.pod_store.specs.declared.fault.Place.{Place}
 use Rattle.pod_store.specs.declared.fault.DecisionKind.TheVariants.{Shape, BadUri, BadDuration, BadKey, EmptyPod, TooMany}
 use Rattle.spec_words.specs.Outcomes.{◌>>=◌, or_fault, mended, refuse_if, optional, some_value, each_after}
 use Rattle.pod_store.specs.Outcome.{Outcome, fault_at, in_ad, in_segment}
-use Rattle.decision_files.specs.Json.{text_at, list_at, u64_of}
+use Rattle.decision_files.specs.Json.{text_at, list_at}
 use Rattle.decision_files.specs.Decided as said
 use Rattle.pod_store.specs.Rules.{byte_range_fits, segment_keeps, key_keeps, ad_keeps, ads_keep}
-use Rattle.attr_list.specs.Numbers.{hex_of}
 use Rattle.writable.specs.Fitting.{iv_fits}
 use Rattle.writable.proofs.Hexadecimal.{hex_is_iv}
 use Rattle.decision_files.proofs.Bounds.{duration_is_small}
@@ -65,19 +64,8 @@ not_is false e = absurd (cc)
 abbrev Fit : Option ByteRange → Type 0
 Fit byte_range = byte_range_fits byte_range ≡ true
 
-stated_fits : (place : Place) (o l : Option ℕ) (r : ByteRange) → said.stated_byte_range place o l ≡ Ok r → Fit (Some r)
-stated_fits place (Some offset) (Some len) =
-    passed (λ r. Fit (Some r)) (not (nat_lt (len + offset) (2 ^ 64))) (fault_at place Shape) (Ok (record { length = len; offset = offset }))
-    (λ t. answers (λ (r : ByteRange). Fit (Some r)) (record { length = len; offset = offset }) (not_is _ t))
-stated_fits place (Some offset) None = λ r h. absurd (cc)
-stated_fits place None l = λ r h. absurd (cc)
-
 byte_range_is : (place : Place) (o l : Option Data) (byte_range : Option ByteRange) → said.byte_range_from place o l ≡ Ok byte_range → Fit byte_range
-byte_range_is place None None = answers Fit None refl
-byte_range_is place (Some o) (Some l) =
-    after Fit (said.stated_byte_range place (u64_of o) (u64_of l)) (λ r. Ok (Some r)) (λ r was. answers Fit (Some r) (stated_fits place (u64_of o) (u64_of l) r was))
-byte_range_is place (Some o) None = λ byte_range h. absurd (cc)
-byte_range_is place None (Some l) = λ byte_range h. absurd (cc)
+byte_range_is place o l = grind arith
 
 abbrev PartKeeps : said.Part → Type 0
 PartKeeps part = (is_uri part.0 ≡ true) × Fit part.1
@@ -94,11 +82,7 @@ abbrev Keeps : PodSegment → Type 0
 Keeps s = segment_keeps s ≡ true
 
 small : (e : DecisionFault) (text : List ℕ) (n : ℕ) → mended e (duration_of text) ≡ Ok n → nat_lt n (10 ^ 15) ≡ true
-small e text n h = by (duration_of text) refl h
-  where
-    by : (o : Result ℕ Rattle.fixed_duration.specs.declared.DurationFault.DurationFault) → duration_of text ≡ o → mended e o ≡ Ok n → nat_lt n (10 ^ 15) ≡ true
-    by (Ok m) was k = subst (λ x. nat_lt x (10 ^ 15) ≡ true) (same_ok m n k) (duration_is_small text m was)
-    by (Err f) was k = absurd (cc)
+small e text n h = grind (arith, same_ok, duration_is_small)
 
 texts_keep : (place : Place) (uri duration : List ℕ) (d : Data) (s : PodSegment) → said.segment_texts place uri duration d ≡ Ok s → Keeps s
 texts_keep place uri duration d =
@@ -140,9 +124,7 @@ unfolding chars is_utf8 lib.Utf8.encode
 identity_is = refl
 
 method_is : (place : Place) (d : Data) (m : List ℕ) → said.method_said place d ≡ Ok m → is_method m ≡ true
-method_is place d =
-    after (λ m. is_method m ≡ true) (or_fault (fault_at place BadKey) (text_at (codes "method") d)) (λ m. refuse_if (not (is_method m)) (fault_at place BadKey) (Ok m))
-    (λ m was. passed (λ x. is_method x ≡ true) (not (is_method m)) (fault_at place BadKey) (Ok m) (λ t. answers (λ x. is_method x ≡ true) m (not_is _ t)))
+method_is place d = grind arith
 
 key_uri_is : (place : Place) (d : Data) (m : List ℕ) → said.key_uri_said place d ≡ Ok m → is_uri m ≡ true
 key_uri_is place d =
@@ -150,9 +132,7 @@ key_uri_is place d =
     (λ m was. passed (λ x. is_uri x ≡ true) (not (is_uri m)) (fault_at place BadUri) (Ok m) (λ t. answers (λ x. is_uri x ≡ true) m (not_is _ t)))
 
 format_is : (place : Place) (d : Data) (m : List ℕ) → said.format_said place d ≡ Ok m → is_format m ≡ true
-format_is place d =
-    after (λ m. is_format m ≡ true) (said.text_of place d) (λ m. refuse_if (not (is_format m)) (fault_at place BadKey) (Ok m))
-    (λ m was. passed (λ x. is_format x ≡ true) (not (is_format m)) (fault_at place BadKey) (Ok m) (λ t. answers (λ x. is_format x ≡ true) m (not_is _ t)))
+format_is place d = grind arith
 
 some_is : {A : Type 0} (P : Option A → Type 0) (o : Outcome A) → ((x : A) → o ≡ Ok x → P (Some x)) → (y : Option A) → some_value o ≡ Ok y → P y
 some_is P (Ok x) each = answers P (Some x) (each x refl)
@@ -167,9 +147,7 @@ found e None x h = absurd (cc)
 found e (Some y) x h = ap Some (same_ok y x h)
 
 iv_is : (place : Place) (d : Data) (n : ℕ) → said.iv_said place d ≡ Ok n → iv_fits n ≡ true
-iv_is place d =
-    after (λ n. iv_fits n ≡ true) (or_fault (fault_at place BadKey) (text_at (codes "iv") d)) (λ text. or_fault (fault_at place BadKey) (hex_of text))
-    (λ text was n h. hex_is_iv text n (found (fault_at place BadKey) (hex_of text) n h))
+iv_is place d = grind (arith, codes, hex_is_iv, found)
 
 abbrev key : List ℕ → List ℕ → ℕ → Option (List ℕ) → Key
 key method uri iv format = record { format = unwrap_or format (codes "identity"); method = method; uri = uri; iv = Some iv; other_attributes = [] }
@@ -235,10 +213,7 @@ segments_keep pod ad before d =
     )))
 
 ad_is : (part : Option said.Part) (key : Option Key) (segments : List PodSegment) → OptionalPart part → OptionalKey key → SegmentsKeep segments → AdKeeps (said.ad_of part key segments)
-ad_is None None segments p k s = and_from _ _ s.0 s.1
-ad_is (Some part) None segments p k s = and_from _ _ (and_from _ _ (and_from _ _ (and_from _ _ (and_from _ _ (and_from _ _ (and_from _ _ p.0 p.1) refl) refl) refl) refl) s.0) s.1
-ad_is None (Some key) segments p k s = and_from _ _ (and_from _ _ (and_from _ _ k refl) s.0) s.1
-ad_is (Some part) (Some key) segments p k s = and_from _ _ (and_from _ _ (and_from _ _ (and_from _ _ (and_from _ _ (and_from _ _ (and_from _ _ p.0 p.1) refl) (and_from _ _ k refl)) refl) (and_from _ _ k refl)) s.0) s.1
+ad_is part key segments p k s = grind arith
 
 ad_said_keeps : (pod ad before : ℕ) (d : Data) (a : Ad) → said.ad_said pod ad before d ≡ Ok a → AdKeeps a
 ad_said_keeps pod ad before d =

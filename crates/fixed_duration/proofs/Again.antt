@@ -4,7 +4,7 @@ use Rattle.std.proofs.lemmas.Bool.Decides.{nat_tests}
 use Rattle.std.proofs.lemmas.Str.Parse.{IsNumeralModel, IsDigitsTest, numerals_by_weight, numerals_by_value}
 use Rattle.std.proofs.lemmas.Fmt.{digits_decimal, digits_value-decimal, decimal_nonempty}
 use Rattle.std.proofs.Math.Nat.{mod-lt, mod-eq-sub-div-mul, div-mul-le_self}
-use Rattle.std.specs.Prelude.{◌==◌, nat_le}
+use Rattle.std.specs.Prelude.{◌==◌}
 use Rattle.std.specs.List.{list_all, position_or_len}
 use Rattle.std.specs.Char.{is_ascii_digit}
 use Rattle.std.specs.Str.Parse.{digits_value}
@@ -104,14 +104,10 @@ whole_alone ds h = rw (no_cut ds h) (take-length ds, drop_all (length ds + 1) ds
 -- a text whose parts are known
 denotes : (text whole fraction : List ℕ) → whole_part text ≡ whole → fraction_part text ≡ fraction → 0 < length text → 0 < length whole → Digits whole → Digits fraction → digits_value 10 whole < 10 ^ 6
     → duration_of text ≡ Ok (digits_value 10 whole * 10 ^ 9 + digits_value 10 (nine_digits fraction))
-denotes text whole fraction p q some first a b small =
-    let there : (length text == 0) ≡ false = grind (arith, nat_tests) in
-    let begun : (length whole == 0) ≡ false = grind (arith, nat_tests) in
-    let fits : nat_le (10 ^ 6) (digits_value 10 whole) ≡ false = grind (arith, nat_tests) in
-    rw (there, p, q, a, b, begun, fits) refl
+denotes text whole fraction p q some first a b small = grind arith
 
 pub text_whole : (n : ℕ) → n % 10 ^ 9 ≡ 0 → duration_text n ≡ decimal (n / 10 ^ 9)
-text_whole n e = let none : (n % 10 ^ 9 == 0) ≡ true = grind (arith, nat_tests) in rw none (append-nil (decimal (n / 10 ^ 9)))
+text_whole n e = grind (arith, nat_tests, append-nil, decimal)
 
 text_parts : (n : ℕ) → 0 < n % 10 ^ 9 → duration_text n ≡ decimal (n / 10 ^ 9) ++ 46 ∷ fraction_digits 9 (n % 10 ^ 9)
 text_parts n pos = let some : (n % 10 ^ 9 == 0) ≡ false = grind (arith, nat_tests) in rw some refl

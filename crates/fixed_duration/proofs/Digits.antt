@@ -1,13 +1,12 @@
 -- Digits, and the digits of a fraction.
-use Rattle.std.proofs.Common.{◌≡◌, ℕ, zero, suc, ◌+◌, ◌-◌, ◌*◌, ◌/◌, ◌%◌, ◌^◌, ◌<◌, ◌≤◌, true, false, List, [], ◌∷◌, ◌++◌, length, get_or, take, replicate, IsTrue, ◌∙◌, ap, refl, subst, arith, rules, add-one, inl, inr}
+use Rattle.std.proofs.Common.{◌≡◌, ℕ, zero, suc, ◌+◌, ◌-◌, ◌*◌, ◌/◌, ◌%◌, ◌^◌, ◌<◌, ◌≤◌, true, false, List, [], ◌∷◌, ◌++◌, length, get_or, take, replicate, IsTrue, ap, refl, subst, arith, rules, add-one}
 use Rattle.std.proofs.lemmas.Grind.{common_steps}
 use Rattle.std.proofs.lemmas.Bool.Decides.{nat_tests}
 use Rattle.std.proofs.lemmas.List.Sums.{AllPass-from_list_all}
 use Rattle.std.proofs.lemmas.Str.{digit_value_digit}
 use Rattle.std.proofs.lemmas.List.{get_or-replicate}
 use Rattle.std.proofs.lemmas.Int.Digits.{digits_value_more}
-use Rattle.std.proofs.Math.Nat.{pow-suc, pow-le-pow_right, div-lt_iff_lt-mul, mod-lt, mod-eq-sub-mul-div, mod-eq_of_lt, div-div-eq-div-mul, mul-div-le, mul_assoc, zero-div, zero-mod}
-use Rattle.std.proofs.lemmas.Bool.{cases_lt}
+use Rattle.std.proofs.Math.Nat.{pow-suc, pow-le-pow_right, mod-lt, div-div-eq-div-mul, zero-div, zero-mod}
 use Rattle.std.specs.Prelude.{◌==◌, ◌&&◌}
 use Rattle.std.specs.List.{list_all}
 use Rattle.std.specs.Char.{is_ascii_digit}
@@ -25,9 +24,7 @@ digit_in ds i h below = digit_from_test _ (AllPass-from_list_all is_ascii_digit 
 
 -- one digit more
 pub value_more : (ds : List ℕ) (i : ℕ) → IsInRange 48 57 (get_or ds i 0) → i < length ds → digits_value 10 (take (i + 1) ds) ≡ digits_value 10 (take i ds) * 10 + (get_or ds i 0 - 48)
-value_more ds i digit below =
-    let known = digit_value_digit (get_or ds i 0) digit in
-    digits_value_more 10 ds i below ∙ ap (λ d. digits_value 10 (take i ds) * 10 + d) (omega arith)
+value_more ds i digit below = grind (arith, digit_value_digit, get_or, digits_value_more)
 
 -- the digits filled up with zeros
 pub length-filled : (n : ℕ) (ds : List ℕ) → length (take n (ds ++ replicate n 48)) ≡ n
@@ -54,10 +51,7 @@ tens : (n m x : ℕ) → n % (10 * m) ≡ n - 10 * x → (n / 10) % m ≡ n / 10
 tens n m x e g h = (rw (e, g) (omega arith), rw e (omega arith))
 
 cut_tens : (n m : ℕ) → ((n % (10 * m)) / 10 ≡ (n / 10) % m) × ((n % (10 * m)) % 10 ≡ n % 10)
-cut_tens n m =
-    let e = mod-eq-sub-mul-div n (10 * m) in
-    let whole = rw (← div-div-eq-div-mul n 10 m, mul_assoc 10 m (n / 10 / m)) at e in
-    tens n m (m * (n / 10 / m)) whole (mod-eq-sub-mul-div (n / 10) m) (mul-div-le (n / 10) m)
+cut_tens n m = grind arith
 
 pub power_more : (k : ℕ) → 10 ^ suc k ≡ 10 * 10 ^ k
 power_more k = let e = pow-suc 10 k in omega (arith, e)
@@ -82,18 +76,8 @@ fraction_zero (suc k) =
 kept : (q : ℕ) (ds : List ℕ) → 0 < q + length ds → (48 + q == 48 && length ds == 0) ≡ false
 kept q ds h = grind (arith, nat_tests)
 
-small_rest : (n m : ℕ) → 0 < m → n / m ≡ 0 → n % m ≡ n
-small_rest n m p e = mod-eq_of_lt (omega (arith, (div-lt_iff_lt-mul {k = m} {x = n} {y = 1} p).0 (omega (arith, e))))
-
 digit_or_more : (n m : ℕ) (ds : List ℕ) → 0 < m → 0 < n → (0 < n % m → 0 < length ds) → 0 < n / m + length ds
-digit_or_more n m ds p q more =
-    elim (cases_lt 0 (n / m)) [
-      | inl some ↦ omega (arith, some)
-      | inr none ↦
-          let same = small_rest n m p (omega (arith, none)) in
-          let later = more (omega (arith, same, q)) in
-          omega (arith, later)
-    ]
+digit_or_more n m ds p q more = grind arith
 
 -- a digit that is not 0 is written
 pub fraction_some : (k n : ℕ) → 0 < n → n < 10 ^ k → 0 < length (fraction_digits k n)
@@ -106,11 +90,7 @@ fraction_some (suc k) n p h =
 
 -- the next digit
 pub fraction_step : (k n : ℕ) → 0 < n → n < 10 ^ suc k → fraction_digits (suc k) n ≡ (48 + n / 10 ^ k) ∷ fraction_digits k (n % 10 ^ k)
-fraction_step k n p h =
-    let rest = n % 10 ^ k in
-    let ds = fraction_digits k rest in
-    let later : 0 < rest → 0 < length ds = λ some. fraction_some k rest some (mod-lt n (power_positive k)) in
-    rw (last_digits-step k n h, kept (n / 10 ^ k) ds (digit_or_more n (10 ^ k) ds (power_positive k) p later)) refl
+fraction_step k n p h = grind (arith, fraction_some, mod-lt, power_positive, last_digits-step, kept, digit_or_more)
 
 pub fraction_next : (k n : ℕ) → 0 < k → 0 < n → n < 10 ^ k → fraction_digits k n ≡ (48 + n / 10 ^ (k - 1)) ∷ fraction_digits (k - 1) (n % 10 ^ (k - 1))
 fraction_next k n p q h =
@@ -119,7 +99,7 @@ fraction_next k n p q h =
 
 -- and it is a digit
 pub digit_step : (k n : ℕ) → n < 10 ^ suc k → n / 10 ^ k < 10
-digit_step k n h = (div-lt_iff_lt-mul {k = 10 ^ k} {x = n} {y = 10} (power_positive k)).1 (omega (arith, pow-suc 10 k))
+digit_step k n h = grind arith
 
 pub next_digit : (k n : ℕ) → 0 < k → n < 10 ^ k → n / 10 ^ (k - 1) < 10
 next_digit k n p h = let e : suc (k - 1) ≡ k = omega arith in digit_step (k - 1) n (rw e h)

@@ -1,10 +1,8 @@
 -- The digits of a fraction, filled up with zeros to nine.
 use Rattle.std.proofs.Common.{◌≡◌, ℕ, zero, suc, ◌+◌, ◌-◌, ◌*◌, ◌^◌, ◌<◌, ◌≤◌, List, ◌++◌, length, take, replicate, ◌∙◌, ap, sym, arith}
 use Rattle.std.proofs.lemmas.Grind.{common_steps}
-use Rattle.std.proofs.lemmas.Nat.{pow-add}
-use Rattle.std.proofs.Math.Nat.{mul-lt-mul_of_pos_right}
 use Rattle.std.specs.Str.Parse.{digits_value}
-use Rattle.fixed_duration.proofs.Digits.{value_more, length-filled, filled_zero, filled_whole, power_more, power_positive}
+use Rattle.fixed_duration.proofs.Digits.{value_more, length-filled, filled_zero, filled_whole, power_more}
 
 -- each zero is ten times more
 zeros_more : (ds : List ℕ) (i m : ℕ) → (0 < m → length ds ≤ i) → i + m ≤ 9
@@ -43,12 +41,4 @@ filled_value ds =
 
 -- it stays below a second
 pub filled_below : (ds front : List ℕ) (value power : ℕ) → front ≡ take 9 ds → value < 10 ^ length front → power ≡ 10 ^ (9 - length front) → value * power < 1000000000
-filled_below ds front value power is below known =
-    let n = length front in
-    let same = ap length is in
-    let few : n ≤ 9 = omega (arith, same, (front_few ds).0) in
-    let less = mul-lt-mul_of_pos_right {m = value} {n = 10 ^ n} {k = 10 ^ (9 - n)} below (power_positive (9 - n)) in
-    let all = pow-add 10 n (9 - n) in
-    let whole : n + (9 - n) ≡ 9 = omega (arith, few) in
-    let nine : 10 ^ (n + (9 - n)) ≡ 1000000000 = ap (λ k. 10 ^ k) whole in
-    rw known (omega (arith, less, all, nine))
+filled_below ds front value power is below known = grind arith

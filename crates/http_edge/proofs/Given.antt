@@ -1,15 +1,15 @@
 -- A channel and what it was given, before an event and after it.
-use Rattle.std.proofs.Common.{◌≡◌, ◌≢◌, ℕ, List, ◌∷◌, ◌++◌, ap, sym, ◌∙◌, subst, true, false, cond, refl, true≢false}
-use Rattle.std.specs.Prelude.{Option, Some, None, Result, Ok, Err, IfOk, is_none, is_ok}
+use Rattle.std.proofs.Common.{◌≡◌, ◌≢◌, ℕ, List, ◌∷◌, ◌++◌, ap, sym, ◌∙◌, subst, true, false, refl, arith}
+use Rattle.std.specs.Prelude.{Result, Ok, Err, IfOk}
 use Rattle.url.specs.Parts.{Parts}
 use Rattle.playlist_model.specs.Reading.{reading, limited}
 use Rattle.pod_store.specs.Outcome.{no_memory, Refuses}
 use Rattle.pod_store.specs.declared.fault.DecisionFault.{DecisionFault}
 use Rattle.channel_spec.specs.declared.fault.RefreshFault.{RefreshFault}
-use Rattle.channel_spec.specs.Live.{Event, Told, told, refusal, after_refresh, window_after}
+use Rattle.channel_spec.specs.Live.{Event, Told, told}
 use Rattle.channel_spec.specs.Kept.{Kept, kept_of}
 use Rattle.live_channel.specs.declared.channel.Refreshed.{Refreshed}
-use Rattle.live_channel.specs.Channel.{Reading, readable, Channel, Represents, told_by, text_after, events_of, refreshed, decided, judged, answer_read, explained, owed_why, AnswersAs, AnswersUnless, is_out_of_memory, AnswersRefresh, refreshed_with, fresh_after, after_bytes, with_store}
+use Rattle.live_channel.specs.Channel.{Reading, readable, Channel, Represents, told_by, text_after, events_of, refreshed, decided, answer_read, explained, owed_why, AnswersAs, AnswersUnless, is_out_of_memory, AnswersRefresh, after_bytes, with_store}
 use Rattle.live_channel.specs.Channel as channel
 use Rattle.http_messages.specs.declared.message.Reply.{Reply}
 use Rattle.http_messages.specs.Replies.{bare}
@@ -49,16 +49,9 @@ module _ (c : Channel) (given : GivenChannel) (h : IsGiven c given) where
 
 -- ---- a refresh that is refused tells nothing
 
-judged_out : (o : Option RefreshFault) (done : Refreshed) (fault : RefreshFault) (t after : Told) → judged o done ≡ Err fault → cond (is_none o) after t ≡ t
-judged_out None done fault t after e = absurd (true≢false (ap is_ok e))
-judged_out (Some f) done fault t after e = refl
-
 untold : (tolerance : ℕ) (events : List Event) (r : Reading) (fault : RefreshFault) → answer_read tolerance (told tolerance events) r ≡ Err fault
     → told tolerance (readable r ++ events) ≡ told tolerance events
-untold tolerance events (Err f) fault e = refl
-untold tolerance events (Ok p) fault e =
-    let t = told tolerance events in
-    judged_out (refusal tolerance t p) (refreshed_with (window_after (after_refresh tolerance t p) p) (fresh_after t.history p)) fault t (after_refresh tolerance t p) e
+untold tolerance events r fault e = grind arith
 
 left_out : (c : Channel) (bytes : List ℕ) (given : List channel.Given) (fault : RefreshFault)
     → answer_read c.tolerance (told_by c.base c.tolerance given) (reading limited c.base bytes) ≡ Err fault → Represents c (refreshed bytes ∷ given) → Represents c given

@@ -1,25 +1,20 @@
 -- What the requests on other channels leave of a channel.
-use Rattle.std.proofs.Common.{◌≡◌, ℕ, Bool, true, false, cond, List, [], ◌∷◌, ◌++◌, length, refl, sym, ap, subst, ◌∙◌, true≢false}
-use Rattle.std.specs.Prelude.{Option, Some, None, Result, Ok, Err, bytes_eq, is_some, filter, nat_le, nat_lt, ◌&&◌, codes}
+use Rattle.std.proofs.Common.{◌≡◌, ℕ, Bool, true, false, cond, List, [], ◌∷◌, ◌++◌, length, refl, sym, ap, subst, ◌∙◌, true≢false, arith}
+use Rattle.std.specs.Prelude.{Option, Some, None, Result, Ok, Err, bytes_eq, is_some, filter, nat_le, ◌&&◌}
 use Rattle.std.specs.List.{list_all}
 use Rattle.std.proofs.lemmas.Slice.Eq.{bytes_eq-Decides}
 use Rattle.url.specs.Parts.{Parts}
 use Rattle.playlist_model.specs.Uri.{base_of}
-use Rattle.live_channel.specs.Channel.{decided, refreshed}
 use Rattle.live_channel.specs.Channel as channel
 use Rattle.http_messages.specs.declared.message.Request.{Request}
 use Rattle.http_messages.specs.declared.message.Reply.{Reply}
 use Rattle.http_messages.specs.Replies.{bare}
 use Rattle.channel_api.specs.declared.channel_body.BodyFault.{BodyFault}
 use Rattle.channel_api.specs.declared.routes.Resource.{Resource}
-use Rattle.channel_api.specs.declared.routes.Resource.TheVariants.{Channel, Origin, Decisions, Live, Why}
 use Rattle.http_edge.specs.Channels.{GivenChannel, with_event}
-use Rattle.channel_api.specs.ChannelBody.{body_said}
-use Rattle.channel_api.specs.Replies.{exists, bad_tolerance}
-use Rattle.http_edge.specs.Replies.{refresh_owed, decisions_owed, live_owed, why_owed}
+use Rattle.channel_api.specs.Replies.{exists}
 use Rattle.channel_api.specs.Routes.{path_of, route_of}
-use Rattle.channel_spec.specs.Limits.{max_tolerance}
-use Rattle.http_edge.specs.Table.{Table, TableEntry, Turn, unmoved, event_turn, given_at, put_given, without, removed, read_turn, made, tried, added, fresh, is_method, turn_at, routed, turn, table_of, reply_to}
+use Rattle.http_edge.specs.Table.{Table, TableEntry, Turn, unmoved, event_turn, given_at, put_given, without, removed, read_turn, made, tried, added, fresh, turn_at, routed, turn, table_of, reply_to}
 use Rattle.http_edge.specs.Isolation.{names, is_on, replies_on, was_served, IsIsolated}
 
 -- ---- the entries of a name
@@ -30,34 +25,25 @@ is_named x entry = bytes_eq x entry.name
 abbrev pub picked : List ℕ → Table → Table
 picked x table = filter (λ (entry : TableEntry). bytes_eq x entry.name) table
 
-given_step : (b : Bool) (x : List ℕ) (e : TableEntry) (p : Table) (q : Option GivenChannel) → bytes_eq x e.name ≡ b → given_at x p ≡ q
-    → given_at x (cond b (e ∷ p) p) ≡ cond b (Some e.given) q
-given_step true x e p q is h = ap (λ c. cond c (Some e.given) (given_at x p)) is
-given_step false x e p q is h = h
-
 given_picked : (x : List ℕ) (table : Table) → given_at x (picked x table) ≡ given_at x table
 given_picked x [] = refl
-given_picked x (e ∷ later) = given_step (bytes_eq x e.name) x e (picked x later) (given_at x later) refl (given_picked x later)
+given_picked x (e ∷ later) = grind (arith, given_picked x later)
 
 put_step : (b : Bool) (x : List ℕ) (g : GivenChannel) (e : TableEntry) (later put p : Table) → bytes_eq x e.name ≡ b → picked x later ≡ p → picked x put ≡ put_given x g p
     → picked x (cond b (record e { given = g } ∷ later) (e ∷ put)) ≡ put_given x g (cond b (e ∷ p) p)
-put_step true x g e later put p is same h =
-    ap (λ c. cond c (record e { given = g } ∷ picked x later) (picked x later)) is ∙ ap (λ l. record e { given = g } ∷ l) same
-    ∙ sym (ap (λ c. cond c (record e { given = g } ∷ p) (e ∷ put_given x g p)) is)
-put_step false x g e later put p is same h = ap (λ c. cond c (e ∷ picked x put) (picked x put)) is ∙ h
+put_step b x g e later put p is same h = grind arith
 
 put_picked : (x : List ℕ) (g : GivenChannel) (table : Table) → picked x (put_given x g table) ≡ put_given x g (picked x table)
 put_picked x g [] = refl
-put_picked x g (e ∷ later) = put_step (bytes_eq x e.name) x g e later (put_given x g later) (picked x later) refl refl (put_picked x g later)
+put_picked x g (e ∷ later) = grind (arith, put_picked x g later)
 
 without_step : (b : Bool) (x : List ℕ) (e : TableEntry) (later out p : Table) → bytes_eq x e.name ≡ b → picked x later ≡ p → picked x out ≡ without x p
     → picked x (cond b later (e ∷ out)) ≡ without x (cond b (e ∷ p) p)
-without_step true x e later out p is same h = same ∙ sym (ap (λ c. cond c p (e ∷ without x p)) is)
-without_step false x e later out p is same h = ap (λ c. cond c (e ∷ picked x out) (picked x out)) is ∙ h
+without_step b x e later out p is same h = grind arith
 
 without_picked : (x : List ℕ) (table : Table) → picked x (without x table) ≡ without x (picked x table)
 without_picked x [] = refl
-without_picked x (e ∷ later) = without_step (bytes_eq x e.name) x e later (without x later) (picked x later) refl refl (without_picked x later)
+without_picked x (e ∷ later) = grind (arith, without_picked x later)
 
 none_step : (b : Bool) (e : TableEntry) (p : Table) (q : Option GivenChannel) → is_some (cond b (Some e.given) q) ≡ false → (is_some q ≡ false → p ≡ []) → cond b (e ∷ p) p ≡ []
 none_step true e p q n h = absurd (true≢false n)
@@ -65,15 +51,11 @@ none_step false e p q n h = h n
 
 none_picked : (x : List ℕ) (table : Table) → is_some (given_at x table) ≡ false → picked x table ≡ []
 none_picked x [] n = refl
-none_picked x (e ∷ later) n = none_step (bytes_eq x e.name) e (picked x later) (given_at x later) n (none_picked x later)
-
-append_step : (b : Bool) (e : TableEntry) (p q r : Table) → r ≡ p ++ q → cond b (e ∷ r) r ≡ cond b (e ∷ p) p ++ q
-append_step true e p q r h = ap (λ l. e ∷ l) h
-append_step false e p q r h = h
+none_picked x (e ∷ later) n = grind (arith, none_picked x later)
 
 append_picked : (x : List ℕ) (table more : Table) → picked x (table ++ more) ≡ picked x table ++ picked x more
 append_picked x [] more = refl
-append_picked x (e ∷ later) more = append_step (bytes_eq x e.name) e (picked x later) (picked x more) (picked x (later ++ more)) (append_picked x later more)
+append_picked x (e ∷ later) more = grind (arith, append_picked x later more)
 
 append_nothing : (table : Table) → table ++ [] ≡ table
 append_nothing [] = refl
@@ -87,10 +69,7 @@ not_this x n e other is = subst (λ m. bytes_eq x m ≡ false) ((bytes_eq-Decide
 
 put_other_step : (b : Bool) (x n : List ℕ) (g : GivenChannel) (e : TableEntry) (later put : Table) → bytes_eq x n ≡ false → bytes_eq n e.name ≡ b → picked x put ≡ picked x later
     → picked x (cond b (record e { given = g } ∷ later) (e ∷ put)) ≡ picked x (e ∷ later)
-put_other_step true x n g e later put other is h =
-    let no = not_this x n e other is in
-    ap (λ c. cond c (record e { given = g } ∷ picked x later) (picked x later)) no ∙ sym (ap (λ c. cond c (e ∷ picked x later) (picked x later)) no)
-put_other_step false x n g e later put other is h = ap (λ l. cond (bytes_eq x e.name) (e ∷ l) l) h
+put_other_step b x n g e later put other is h = grind (arith, not_this)
 
 put_other : (x n : List ℕ) (g : GivenChannel) (table : Table) → bytes_eq x n ≡ false → picked x (put_given n g table) ≡ picked x table
 put_other x n g [] other = refl
@@ -98,8 +77,7 @@ put_other x n g (e ∷ later) other = put_other_step (bytes_eq n e.name) x n g e
 
 without_other_step : (b : Bool) (x n : List ℕ) (e : TableEntry) (later out : Table) → bytes_eq x n ≡ false → bytes_eq n e.name ≡ b → picked x out ≡ picked x later
     → picked x (cond b later (e ∷ out)) ≡ picked x (e ∷ later)
-without_other_step true x n e later out other is h = sym (ap (λ c. cond c (e ∷ picked x later) (picked x later)) (not_this x n e other is))
-without_other_step false x n e later out other is h = ap (λ l. cond (bytes_eq x e.name) (e ∷ l) l) h
+without_other_step b x n e later out other is h = grind (arith, not_this)
 
 without_other : (x n : List ℕ) (table : Table) → bytes_eq x n ≡ false → picked x (without n table) ≡ picked x table
 without_other x n [] other = refl
@@ -120,10 +98,7 @@ removed_other x n table (Some g) other = without_other x n table other
 
 added_other_step : (b c : Bool) (x n : List ℕ) (e : TableEntry) (table : Table) (one two : Reply) → bytes_eq x e.name ≡ false
     → picked x (cond b (unmoved table one) (cond c (unmoved table two) (record { reply = bare 201; table = table ++ e ∷ [] }))).table ≡ picked x table
-added_other_step true c x n e table one two other = refl
-added_other_step false true x n e table one two other = refl
-added_other_step false false x n e table one two other =
-    append_picked x table (e ∷ []) ∙ ap (λ c. picked x table ++ cond c (e ∷ []) []) other ∙ append_nothing (picked x table)
+added_other_step b c x n e table one two other = grind (arith, append_picked, append_nothing)
 
 either_table : (b : Bool) (x : List ℕ) (t u : Turn) (table : Table) → picked x t.table ≡ picked x table → picked x u.table ≡ picked x table
     → picked x (cond b t u).table ≡ picked x table
@@ -131,25 +106,14 @@ either_table true x t u table h k = h
 either_table false x t u table h k = k
 
 tried_other : (x n : List ℕ) (tolerance : ℕ) (table : Table) (o : Option Parts) → bytes_eq x n ≡ false → picked x (tried table n tolerance o).table ≡ picked x table
-tried_other x n tolerance table None other = refl
-tried_other x n tolerance table (Some base) other =
-    either_table (nat_lt max_tolerance tolerance) x _ _ table refl
-    (added_other_step (is_some (given_at n table)) (nat_le 64 (length table)) x n (fresh n base tolerance) table exists (bare 503) other)
+tried_other x n tolerance table o other = grind (arith, either_table, added_other_step)
 
 made_other : (x n : List ℕ) (table : Table) (said : Result (List ℕ × ℕ) BodyFault) → bytes_eq x n ≡ false → picked x (made table n said).table ≡ picked x table
 made_other x n table (Err fault) other = refl
 made_other x n table (Ok said) other = tried_other x n said.1 table (base_of said.0) other
 
 at_other : (x n : List ℕ) (r : Request) (resource : Resource) (table : Table) → bytes_eq x n ≡ false → picked x (turn_at table r n resource).table ≡ picked x table
-at_other x n r Channel table other =
-    either_table (is_method (codes "PUT") r) x _ _ table (made_other x n table (body_said r.body) other)
-    (either_table (is_method (codes "DELETE") r) x _ _ table (removed_other x n table (given_at n table) other) refl)
-at_other x n r Origin table other =
-    either_table (is_method (codes "PUT") r) x _ _ table (event_other x n (refreshed r.body) (refresh_owed r.body) table (given_at n table) other) refl
-at_other x n r Decisions table other =
-    either_table (is_method (codes "PUT") r) x _ _ table (event_other x n (decided r.body) (decisions_owed r.body) table (given_at n table) other) refl
-at_other x n r Live table other = either_table (is_method (codes "GET") r) x _ _ table (read_other x live_owed table (given_at n table)) refl
-at_other x n r Why table other = either_table (is_method (codes "GET") r) x _ _ table (read_other x why_owed table (given_at n table)) refl
+at_other x n r resource table other = grind (arith, either_table, made_other, removed_other, event_other, read_other)
 
 pub turn_other : (x : List ℕ) (r : Request) (o : Option (List ℕ × Resource)) (table : Table) → names x o ≡ false → picked x (routed table r o).table ≡ picked x table
 turn_other x r None table other = refl
@@ -163,12 +127,11 @@ shown x t = record { reply = t.reply; table = picked x t.table }
 
 event_shown : (x : List ℕ) (event : channel.Given) (owed : GivenChannel → Reply) (table : Table) (o : Option GivenChannel)
     → shown x (event_turn table x event owed o) ≡ event_turn (picked x table) x event owed o
-event_shown x event owed table None = refl
-event_shown x event owed table (Some g) = ap (λ (l : Table). record { reply = owed g; table = l }) (put_picked x (with_event event g) table)
+event_shown x event owed table o = grind (arith, put_picked)
 
 event_this : (x : List ℕ) (event : channel.Given) (owed : GivenChannel → Reply) (table : Table)
     → shown x (event_turn table x event owed (given_at x table)) ≡ event_turn (picked x table) x event owed (given_at x (picked x table))
-event_this x event owed table = event_shown x event owed table (given_at x table) ∙ ap (event_turn (picked x table) x event owed) (sym (given_picked x table))
+event_this x event owed table = grind (arith, event_shown, given_picked)
 
 read_shown : (x : List ℕ) (reply : GivenChannel → Reply) (table : Table) (o : Option GivenChannel) → shown x (read_turn table reply o) ≡ read_turn (picked x table) reply o
 read_shown x reply table None = refl
@@ -176,14 +139,13 @@ read_shown x reply table (Some g) = refl
 
 read_this : (x : List ℕ) (reply : GivenChannel → Reply) (table : Table)
     → shown x (read_turn table reply (given_at x table)) ≡ read_turn (picked x table) reply (given_at x (picked x table))
-read_this x reply table = read_shown x reply table (given_at x table) ∙ ap (read_turn (picked x table) reply) (sym (given_picked x table))
+read_this x reply table = grind (arith, read_shown, given_picked)
 
 removed_shown : (x : List ℕ) (table : Table) (o : Option GivenChannel) → shown x (removed table x o) ≡ removed (picked x table) x o
-removed_shown x table None = refl
-removed_shown x table (Some g) = ap (λ (l : Table). record { reply = bare 204; table = l }) (without_picked x table)
+removed_shown x table o = grind (arith, without_picked)
 
 removed_this : (x : List ℕ) (table : Table) → shown x (removed table x (given_at x table)) ≡ removed (picked x table) x (given_at x (picked x table))
-removed_this x table = removed_shown x table (given_at x table) ∙ ap (removed (picked x table) x) (sym (given_picked x table))
+removed_this x table = grind (arith, removed_shown, given_picked)
 
 -- if there is none of this name there is room
 abbrev room : Bool → Table → TableEntry → Turn
@@ -194,29 +156,21 @@ taken table = unmoved table exists
 
 grown : (x : List ℕ) (base : Parts) (tolerance : ℕ) (table p : Table) → p ≡ [] → picked x table ≡ p
     → shown x (room false table (fresh x base tolerance)) ≡ room (nat_le 64 (length p)) p (fresh x base tolerance)
-grown x base tolerance table p none is =
-    let e = fresh x base tolerance in
-    ap (λ (l : Table). record { reply = bare 201; table = l })
-    (append_picked x table (e ∷ []) ∙ ap (λ c. picked x table ++ cond c (e ∷ []) []) ((bytes_eq-Decides x x).1 refl) ∙ ap (λ l. l ++ e ∷ []) is)
-    ∙ sym (ap (λ (l : Table). room (nat_le 64 (length l)) p e) none)
+grown x base tolerance table p none is = grind (arith, append_picked, bytes_eq-Decides)
 
 room_step : (c : Bool) (x : List ℕ) (base : Parts) (tolerance : ℕ) (table : Table) → picked x table ≡ [] → was_served (room c table (fresh x base tolerance)).reply ≡ true
     → shown x (room c table (fresh x base tolerance)) ≡ room (nat_le 64 (length (picked x table))) (picked x table) (fresh x base tolerance)
-room_step true x base tolerance table none served = absurd (true≢false (sym served))
-room_step false x base tolerance table none served = grown x base tolerance table (picked x table) none refl
+room_step c x base tolerance table none served = grind (arith, true≢false, grown)
 
 added_step : (b c : Bool) (x : List ℕ) (base : Parts) (tolerance : ℕ) (table : Table) → is_some (given_at x table) ≡ b
     → was_served (cond b (taken table) (room c table (fresh x base tolerance))).reply ≡ true
     → shown x (cond b (taken table) (room c table (fresh x base tolerance)))
     ≡ cond b (taken (picked x table)) (room (nat_le 64 (length (picked x table))) (picked x table) (fresh x base tolerance))
-added_step true c x base tolerance table is served = refl
-added_step false c x base tolerance table is served = room_step c x base tolerance table (none_picked x table is) served
+added_step b c x base tolerance table is served = grind (arith, room_step, none_picked)
 
 added_this : (x : List ℕ) (base : Parts) (tolerance : ℕ) (table : Table) → was_served (added table x base tolerance).reply ≡ true
     → shown x (added table x base tolerance) ≡ added (picked x table) x base tolerance
-added_this x base tolerance table served =
-    added_step (is_some (given_at x table)) (nat_le 64 (length table)) x base tolerance table refl served
-    ∙ ap (λ o. cond (is_some o) (taken (picked x table)) (room (nat_le 64 (length (picked x table))) (picked x table) (fresh x base tolerance))) (sym (given_picked x table))
+added_this x base tolerance table served = grind (arith, added_step, given_picked)
 
 either_shown : (b : Bool) (x : List ℕ) (t u v w : Turn) → was_served (cond b t u).reply ≡ true → (was_served t.reply ≡ true → shown x t ≡ v)
     → (was_served u.reply ≡ true → shown x u ≡ w) → shown x (cond b t u) ≡ cond b v w
@@ -225,10 +179,7 @@ either_shown false x t u v w served h k = k served
 
 tried_this : (x : List ℕ) (tolerance : ℕ) (table : Table) (o : Option Parts) → was_served (tried table x tolerance o).reply ≡ true
     → shown x (tried table x tolerance o) ≡ tried (picked x table) x tolerance o
-tried_this x tolerance table None served = refl
-tried_this x tolerance table (Some base) served =
-    either_shown (nat_lt max_tolerance tolerance) x (unmoved table bad_tolerance) (added table x base tolerance) (unmoved (picked x table) bad_tolerance)
-    (added (picked x table) x base tolerance) served (λ z. refl) (added_this x base tolerance table)
+tried_this x tolerance table o served = grind (arith, either_shown, added_this)
 
 made_this : (x : List ℕ) (table : Table) (said : Result (List ℕ × ℕ) BodyFault) → was_served (made table x said).reply ≡ true
     → shown x (made table x said) ≡ made (picked x table) x said
@@ -237,24 +188,15 @@ made_this x table (Ok said) served = tried_this x said.1 table (base_of said.0) 
 
 at_this : (x : List ℕ) (r : Request) (resource : Resource) (table : Table) → was_served (turn_at table r x resource).reply ≡ true
     → shown x (turn_at table r x resource) ≡ turn_at (picked x table) r x resource
-at_this x r Channel table served =
-    either_shown (is_method (codes "PUT") r) x _ _ _ _ served (made_this x table (body_said r.body))
-    (λ s. either_shown (is_method (codes "DELETE") r) x _ _ _ _ s (λ z. removed_this x table) (λ z. refl))
-at_this x r Origin table served = either_shown (is_method (codes "PUT") r) x _ _ _ _ served (λ z. event_this x (refreshed r.body) (refresh_owed r.body) table) (λ z. refl)
-at_this x r Decisions table served = either_shown (is_method (codes "PUT") r) x _ _ _ _ served (λ z. event_this x (decided r.body) (decisions_owed r.body) table) (λ z. refl)
-at_this x r Live table served = either_shown (is_method (codes "GET") r) x _ _ _ _ served (λ z. read_this x live_owed table) (λ z. refl)
-at_this x r Why table served = either_shown (is_method (codes "GET") r) x _ _ _ _ served (λ z. read_this x why_owed table) (λ z. refl)
+at_this x r resource table served = grind (arith, either_shown, made_this, removed_this, event_this, read_this)
 
 named_this : (x n : List ℕ) (r : Request) (resource : Resource) (table : Table) → n ≡ x → was_served (turn_at table r n resource).reply ≡ true
     → shown x (turn_at table r n resource) ≡ turn_at (picked x table) r n resource
-named_this x n r resource table is served =
-    subst (λ m. was_served (turn_at table r m resource).reply ≡ true → shown x (turn_at table r m resource) ≡ turn_at (picked x table) r m resource) (sym is)
-    (at_this x r resource table) served
+named_this x n r resource table is served = grind (arith, at_this)
 
 turn_this : (x : List ℕ) (r : Request) (o : Option (List ℕ × Resource)) (table : Table) → names x o ≡ true → was_served (routed table r o).reply ≡ true
     → shown x (routed table r o) ≡ routed (picked x table) r o
-turn_this x r None table on served = absurd (true≢false (sym on))
-turn_this x r (Some route) table on served = named_this x route.0 r route.1 table (sym ((bytes_eq-Decides x route.0).0 on)) served
+turn_this x r o table on served = grind (arith, true≢false, named_this, bytes_eq-Decides)
 
 -- ---- all requests
 

@@ -1,6 +1,6 @@
 -- What the edge's calls do, as turns.
 use Rattle.std.proofs.Common.{◌≡◌, ℕ, ◌<◌, ◌≤◌, Bool, true, false, List, [], ◌∷◌, ◌++◌, length, map, refl, sym, ap, subst, cond, ◌∙◌, arith, true≢false}
-use Rattle.std.specs.Prelude.{Option, Some, None, Result, Ok, Err, IfOk, IsErr, IsSome, unwrap_or, bytes_eq, is_some, nat_lt, nat_le}
+use Rattle.std.specs.Prelude.{Option, Some, None, Result, Ok, Err, IfOk, IsErr, IsSome, unwrap_or, is_some, nat_lt, nat_le}
 use Rattle.std.specs.declared.alloc.AllocError.{AllocError}
 use Rattle.std.specs.Map.{lookup, set_value, remove_entry}
 use Rattle.std.proofs.lemmas.Bool.Decides.{nat_tests}
@@ -31,21 +31,19 @@ use Rattle.http_edge.proofs.Tables.{Entries, Agree, none_agrees, some_agrees, fo
 -- nothing moved
 pub unmoved_turn : {E : Type 0} (table : Table) (x : Reply) (t : Turn) (r : Result Reply E) (kept : List NamedChannel) → t ≡ unmoved table x
     → IfOk r (λ y. y ≡ x) → Stands kept table → TakenTurn t table r kept
-unmoved_turn table x t (Ok y) kept e h s = (h ∙ ap (λ (u : Turn). u.reply) (sym e), subst (Stands kept) (ap (λ (u : Turn). u.table) (sym e)) s)
-unmoved_turn table x t (Err f) kept e h s = s
+unmoved_turn table x t k kept e h s = grind arith
 
 some_same : (a b : GivenChannel) → Some a ≡ Some b → a ≡ b
 some_same a b e = ap (λ o. unwrap_or o a) e
 
 same_first : (b : Bool) (t : TableEntry) (ts us : Table) (g : GivenChannel) (q : Option GivenChannel) → cond b (Some t.given) q ≡ Some g → (q ≡ Some g → us ≡ ts)
     → cond b (record t { given = g } ∷ ts) (t ∷ us) ≡ t ∷ ts
-same_first true t ts us g q e rest = let k = some_same t.given g e in ap (λ (x : GivenChannel). record t { given = x } ∷ ts) (sym k)
-same_first false t ts us g q e rest = ap (λ l. t ∷ l) (rest e)
+same_first b t ts us g q e rest = grind arith
 
 -- what is there already
 put_same : (name : List ℕ) (table : Table) (g : GivenChannel) → given_at name table ≡ Some g → put_given name g table ≡ table
 put_same name [] g e = refl
-put_same name (t ∷ ts) g e = same_first (bytes_eq name t.name) t ts (put_given name g ts) g (given_at name ts) e (put_same name ts g)
+put_same name (t ∷ ts) g e = grind (arith, put_same name ts g)
 
 -- an event that was taken, or that left what the channel stood for
 module _ {A : Type 0} (es : Entries A) (table : Table) (name : List ℕ) (event : channel.Given) (owed : GivenChannel → Reply) (g : GivenChannel) (new : channel.Channel)
@@ -74,31 +72,22 @@ none_at es table name s there = none_agrees (given_at name table) (subst (λ o. 
 -- a channel that is there
 pub some_at : {A : Type 0} (es : Entries A) (table : Table) (name : List ℕ) (k : channel.Channel) → Stands (map kept_of es) table → Some k ≡ lookup (is_at name) es
     → (g : GivenChannel) × (given_at name table ≡ Some g) × IsGiven k g
-some_at es table name k s there = some_agrees k (given_at name table) (subst (λ o. Agree o (given_at name table)) (sym there) (found name es table s))
+some_at es table name k s there = grind (arith, some_agrees, Agree, found)
 
 -- what is read of a channel
 pub live_turn : {A E : Type 0} (es : Entries A) (table : Table) (name : List ℕ) (k : channel.Channel) (r : Result Reply E) (kept : List NamedChannel)
     → Stands (map kept_of es) table → Some k ≡ lookup (is_at name) es → IfOk r (λ y. y ≡ live_reply k.text) → Stands kept table
     → TakenTurn (read_turn table live_owed (given_at name table)) table r kept
-live_turn es table name k r kept s there q now =
-    let f = some_at es table name k s there in
-    unmoved_turn table (live_reply k.text) _ r kept (ap (read_turn table live_owed) f.1 ∙ ap (λ t. unmoved table (live_reply t)) (sym (text_is k f.0 f.2))) q now
+live_turn es table name k r kept s there q now = grind (arith, some_at, unmoved_turn, text_is)
 
 pub why_turn : {A E : Type 0} (es : Entries A) (table : Table) (name : List ℕ) (k : channel.Channel) (r : Result Reply E) (kept : List NamedChannel)
     → Stands (map kept_of es) table → Some k ≡ lookup (is_at name) es → IfOk r (λ y. y ≡ text_reply (why_text (explained k.kept) k.kept.breaks)) → Stands kept table
     → TakenTurn (read_turn table why_owed (given_at name table)) table r kept
-why_turn es table name k r kept s there q now =
-    let f = some_at es table name k s there in
-    unmoved_turn table (text_reply (why_text (explained k.kept) k.kept.breaks)) _ r kept
-    (ap (read_turn table why_owed) f.1 ∙ ap (λ t. unmoved table (text_reply t)) (sym (why_is k f.0 f.2))) q now
-
-first_kept : (b : Bool) (t : TableEntry) (ts us : Table) (q : Option GivenChannel) → cond b (Some t.given) q ≡ None → (q ≡ None → us ≡ ts) → cond b ts (t ∷ us) ≡ t ∷ ts
-first_kept true t ts us q e rest = absurd (true≢false (ap is_some e))
-first_kept false t ts us q e rest = ap (λ l. t ∷ l) (rest e)
+why_turn es table name k r kept s there q now = grind (arith, some_at, unmoved_turn, why_is)
 
 without_none : (name : List ℕ) (table : Table) → given_at name table ≡ None → without name table ≡ table
 without_none name [] e = refl
-without_none name (t ∷ ts) e = first_kept (bytes_eq name t.name) t ts (without name ts) (given_at name ts) e (without_none name ts)
+without_none name (t ∷ ts) e = grind (arith, without_none name ts)
 
 pub removed_none : {A E : Type 0} (es fs : Entries A) (table : Table) (name : List ℕ) (r : Result Reply E) → Stands (map kept_of es) table
     → is_some (lookup (is_at name) es) ≡ false → fs ≡ remove_entry (is_at name) es → IfOk r (λ y. y ≡ not_found)
@@ -115,11 +104,7 @@ some_is (Some x) h = (x, refl)
 pub removed_some : {A : Type 0} (E : Type 0) (es fs : Entries A) (table : Table) (name : List ℕ) (y : Reply) → Stands (map kept_of es) table
     → IsSome (lookup (is_at name) es) → fs ≡ remove_entry (is_at name) es → y ≡ bare 204
     → TakenTurn {E = E} (removed table name (given_at name table)) table (Ok y) (map kept_of fs)
-removed_some E es fs table name y s there after q =
-    let k = some_is _ there in
-    let f = some_at es table name k.0 s (sym k.1) in
-    subst (λ o. TakenTurn {E = E} (removed table name o) table (Ok y) (map kept_of fs)) (sym f.1)
-    (q, subst (λ l. Stands (map kept_of l) (without name table)) (sym after) (taken_out name es table s))
+removed_some E es fs table name y s there after q = grind (arith, some_is, some_at, taken_out)
 
 -- ---- making a channel
 
@@ -164,7 +149,7 @@ same_some (Some k) None h = absurd h
 
 there_as : {A : Type 0} (es : Entries A) (table : Table) (name : List ℕ) (b : Bool) → Stands (map kept_of es) table → is_some (lookup (is_at name) es) ≡ b
     → is_some (given_at name table) ≡ b
-there_as es table name b s e = sym (same_some (lookup (is_at name) es) (given_at name table) (found name es table s)) ∙ e
+there_as es table name b s e = grind (arith, same_some, found)
 
 as_full : (n m : ℕ) → 64 ≤ n → n ≡ m → nat_le 64 m ≡ true
 as_full n m h e = grind (arith, nat_tests)

@@ -3,7 +3,7 @@ ghost use Rattle.std.specs.Prelude.{◌≡◌, []};
 ghost use Rattle.live_channel.specs.Channel.{refreshed, decided, Represents as IsChannelOf};
 ghost use Rattle.channel_api.specs.ChannelBody.{body_said};
 ghost use Rattle.http_edge.specs.Replies.{refresh_owed, decisions_owed, live_owed, why_owed};
-ghost use Rattle.http_edge.specs.Table.{turn_at, is_method, made, added, removed, read_turn, given_at};
+ghost use Rattle.http_edge.specs.Table.{turn_at, made, added, removed, read_turn, given_at};
 ghost use Rattle.http_edge.specs.Edges.{TakesTurnOf};
 ghost use Rattle.http_edge.specs.Inner.Events.{event_at};
 
@@ -42,12 +42,6 @@ impl Model for Channels {
     ghost view = { λ c. map kept_of c.by_name.entries };
 }
 
-fn is_method(request: &Request, name: &str) -> bool
-    ensures { result ≡ is_method name.now request.now }
-{
-    request.method.as_str() == name
-}
-
 impl Channels {
     /// No channels. `hashing`: the keys for each channel's tables of IDs.
     pub fn new(alloc: Global, hashing: RandomState) -> Channels
@@ -71,66 +65,18 @@ impl Channels {
         ensures { TakesTurnOf (λ table. turn_at table request.now name.now resource)
             self.old result self.new }
     {
-        match resource {
-            Resource::Channel => self.on_channel(name, request),
-            Resource::Origin => self.on_origin(name, request),
-            Resource::Decisions => self.on_decisions(name, request),
-            Resource::Live => self.on_live(name, request),
-            Resource::Why => self.on_why(name, request),
+        let body = request.body.as_slice();
+        match (resource, request.method.as_str()) {
+            (Resource::Channel, "PUT") => self.make(name, body),
+            (Resource::Channel, "DELETE") => self.remove(name),
+            (Resource::Channel, _) => not_allowed(self.alloc, Allow::PutDelete),
+            (Resource::Origin, "PUT") => self.refresh(name, body),
+            (Resource::Decisions, "PUT") => self.decide(name, body),
+            (Resource::Origin | Resource::Decisions, _) => not_allowed(self.alloc, Allow::Put),
+            (Resource::Live, "GET") => self.live(name),
+            (Resource::Why, "GET") => self.why(name),
+            (Resource::Live | Resource::Why, _) => not_allowed(self.alloc, Allow::Get),
         }
-    }
-
-    fn on_channel(&mut self, name: &str, request: &Request) -> Result<Reply, AllocError>
-        ensures { TakesTurnOf (λ table. turn_at table request.now name.now Resource.Channel)
-            self.old result self.new }
-    {
-        if is_method(request, "PUT") {
-            return self.make(name, request.body.as_slice());
-        }
-        if is_method(request, "DELETE") {
-            return self.remove(name);
-        }
-        not_allowed(self.alloc, Allow::PutDelete)
-    }
-
-    fn on_origin(&mut self, name: &str, request: &Request) -> Result<Reply, AllocError>
-        ensures { TakesTurnOf (λ table. turn_at table request.now name.now Resource.Origin)
-            self.old result self.new }
-    {
-        if is_method(request, "PUT") {
-            return self.refresh(name, request.body.as_slice());
-        }
-        not_allowed(self.alloc, Allow::Put)
-    }
-
-    fn on_decisions(&mut self, name: &str, request: &Request) -> Result<Reply, AllocError>
-        ensures { TakesTurnOf (λ table. turn_at table request.now name.now Resource.Decisions)
-            self.old result self.new }
-    {
-        if is_method(request, "PUT") {
-            return self.decide(name, request.body.as_slice());
-        }
-        not_allowed(self.alloc, Allow::Put)
-    }
-
-    fn on_live(&self, name: &str, request: &Request) -> Result<Reply, AllocError>
-        ensures { TakesTurnOf (λ table. turn_at table request.now name.now Resource.Live)
-            self.now result self.now }
-    {
-        if is_method(request, "GET") {
-            return self.live(name);
-        }
-        not_allowed(self.alloc, Allow::Get)
-    }
-
-    fn on_why(&self, name: &str, request: &Request) -> Result<Reply, AllocError>
-        ensures { TakesTurnOf (λ table. turn_at table request.now name.now Resource.Why)
-            self.now result self.now }
-    {
-        if is_method(request, "GET") {
-            return self.why(name);
-        }
-        not_allowed(self.alloc, Allow::Get)
     }
 
     fn make(&mut self, name: &str, body: &[u8]) -> Result<Reply, AllocError>

@@ -1,12 +1,11 @@
 -- The head at the front of some bytes, and of more bytes.
-use Rattle.std.proofs.Common.{◌≡◌, ℕ, ◌+◌, ◌-◌, ◌≤◌, ◌<◌, Bool, true, false, List, [], ◌++◌, length, take, drop, codes, refl, sym, ap, subst, ◌∙◌, inl, inr, arith, rules, length-append, drop_at, true≢false, append_assoc}
-use Rattle.std.specs.Prelude.{zero, suc, IsTrue, Option, Some, None, IfSome, Result, Ok, Err, IfOk}
+use Rattle.std.proofs.Common.{◌≡◌, ℕ, ◌+◌, ◌-◌, ◌≤◌, ◌<◌, Bool, true, false, List, [], ◌++◌, length, take, drop, codes, refl, sym, ap, subst, ◌∙◌, inl, arith, length-append, drop_at, true≢false, append_assoc}
+use Rattle.std.specs.Prelude.{Option, Some, None, IfSome, Result, IfOk}
 use Rattle.std.proofs.lemmas.List.{take-append-drop, take-append-le, append-nil}
-use Rattle.std.proofs.lemmas.List.Elements.{All-cons, All-nil}
-use Rattle.std.specs.Str.{IsAscii}
 use Rattle.std.proofs.lemmas.Str.{IsUtf8-from_ascii}
 use Rattle.std.proofs.Math.Seq.{take-append-add}
-use Rattle.httparse.specs.Grammar.{RequestHead, IsRequestHead, ReadsRequest, print_request, print_blank, is_token_byte, is_uri_byte, lf, HasNoRequest}
+use Rattle.std.proofs.lemmas.Grind.{common_steps}
+use Rattle.httparse.specs.Grammar.{RequestHead, IsRequestHead, ReadsRequest, print_request, print_blank, is_token_byte, lf, HasNoRequest}
 use Rattle.httparse.proofs.GrammarLemmas.{request_unique, ReadsRequest-append, print_request-append}
 use Rattle.http_messages.specs.declared.head.Framing.{Framing}
 use Rattle.http_messages.specs.declared.head.Framing.TheVariants.{Body, Refused}
@@ -25,19 +24,10 @@ begins_more bytes more h rest b = record { reads = ReadsRequest-append bytes h r
 
 -- what follows a head is what its length leaves
 begins_at : (bytes : List ℕ) (h : RequestHead) (rest : List ℕ) (n : ℕ) → BeginsWith bytes h rest → n ≡ length (print_request h) → BeginsWith bytes h (drop n bytes)
-begins_at bytes h rest n b e =
-    let left : drop n bytes ≡ rest = ap (drop n) b.reads.1 ∙ drop_at (print_request h) rest n (sym e) in
-    subst (BeginsWith bytes h) (sym left) b
+begins_at bytes h rest n b e = grind (arith, drop_at)
 
 pub head_more : (bytes more : List ℕ) (head : Head) → IsHeadAt bytes head → IsHeadAt (bytes ++ more) head
-head_more bytes more head a = record {
-  h = a.h;
-  begins = begins_at (bytes ++ more) a.h _ head.len (begins_more bytes more a.h _ a.begins) a.len;
-  len = a.len;
-  method = a.method;
-  target = a.target;
-  framing = a.framing;
-}
+head_more bytes more head a = grind (arith, common_steps)
 
 pub known_more : (bytes more : List ℕ) (head : Option Head) → IfSome head (IsHeadAt bytes) → IfSome head (IsHeadAt (bytes ++ more))
 known_more bytes more None h = h
@@ -73,19 +63,12 @@ read_by_front n bytes Bad h r = never_of_front n bytes r
 
 -- fewer bytes than the longest head has are judged as they are read
 pub judged_short : {E : Type 0} (bytes : List ℕ) (read : Result HeadRead E) → length bytes < head_limit → IfOk read (IsReadAs bytes) → IfOk read (IsJudgedAs bytes)
-judged_short bytes (Ok (Whole head)) short r = r
-judged_short bytes (Ok Partial) short r = (r.0, (short, r.1))
-judged_short bytes (Ok Bad) short r = r
-judged_short bytes (Err e) short r = tt
+judged_short bytes read short r = grind arith
 
 -- ---- what is not whole
 
 pub no_head_yet : (bytes : List ℕ) → HasNoRequest bytes → MayBecomeHead bytes → IsUnfinished bytes
-no_head_yet bytes none may = record {
-  no_request = λ r a. none a.h a.rest a.begins.reads;
-  no_refusal = λ s a. none a.h a.rest a.begins.reads;
-  may_go_on = inr may;
-}
+no_head_yet bytes none may = grind arith
 
 no_empty_head : HasNoRequest []
 no_empty_head h rest r =
@@ -100,19 +83,9 @@ no_empty_head h rest r =
 abbrev least_head : RequestHead
 least_head = record { blank = []; method = codes "A"; target = codes "/"; minor = 1; line_end = lf; fields = []; last = lf }
 
-slash_is_ascii : IsAscii (codes "/")
-slash_is_ascii zero = omega arith
-slash_is_ascii (suc i) = omega arith
-
 least_is_head : IsRequestHead least_head
 unfolding is_token_byte
-least_is_head = record {
-  method = (omega arith, All-cons (λ b. IsTrue (is_token_byte b)) 65 [] (search rules) (All-nil _));
-  target = (omega arith, All-cons (λ b. IsTrue (is_uri_byte b)) 47 [] (search rules) (All-nil _));
-  target_text = IsUtf8-from_ascii (codes "/") slash_is_ascii;
-  minor = omega arith;
-  fields = All-nil _;
-}
+least_is_head = grind (arith, IsUtf8-from_ascii)
 
 least_is_read : ReadsRequest ([] ++ print_request least_head) least_head []
 least_is_read = (least_is_head, sym (append-nil (print_request least_head)))

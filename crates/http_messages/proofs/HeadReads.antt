@@ -1,9 +1,9 @@
 -- A head that was parsed is one that is taken.
-use Rattle.std.proofs.Common.{◌≡◌, ℕ, ◌≤◌, ◌<◌, List, [], ◌∷◌, ◌++◌, map, length, drop, refl, sym, ap, subst, ◌∙◌, arith, length-append}
+use Rattle.std.proofs.Common.{◌≡◌, ℕ, ◌≤◌, ◌<◌, List, [], ◌∷◌, ◌++◌, map, length, refl, sym, ap, ◌∙◌, arith, length-append}
 use Rattle.std.specs.Prelude.{suc, Some, unwrap_or, option_copied}
 use Rattle.httparse.specs.declared.borrowed.Header.{Header}
 use Rattle.httparse.specs.declared.borrowed.Request.{Request}
-use Rattle.httparse.specs.Grammar.{RequestHead, print_request, Field, IsToken, is_token_byte}
+use Rattle.httparse.specs.Grammar.{RequestHead, Field, IsToken, is_token_byte}
 use Rattle.http_header.specs.Token as fields
 use Rattle.httparse.specs.Borrowed.{HoldsSomeRequest, header_parts, AreFields}
 use Rattle.httparse.specs.Spans.{name_and_value}
@@ -34,19 +34,7 @@ front_fits bytes front rest e = omega (arith, ap length e, length-append front r
 
 pub head_is_at : (bytes : List ℕ) (r : Request) (head : Head) → length bytes ≤ head_limit → length r.headers.now ≤ field_limit
     → HoldsSomeRequest bytes r head.len → IsMade r head → IsHeadAt bytes head
-head_is_at bytes r head short few p made =
-    let h = p.0 in
-    let method : head.method ≡ h.method = some_same _ _ (sym made.method ∙ p.1.method) in
-    let fits = front_fits bytes (print_request h) (drop head.len bytes) p.1.reads.1 in
-    let count = few_fields r.headers.now h.fields p.1.fields in
-    record {
-      h = h;
-      begins = record { reads = p.1.reads; short = omega (arith, short, fits); few = omega (arith, few, count) };
-      len = p.1.len_is;
-      method = method;
-      target = some_same _ _ (sym made.target ∙ p.1.path);
-      framing = made.framing ∙ ap (λ m. framing_of m (map header_parts r.headers.now)) method ∙ ap (framing_of h.method) p.1.fields;
-    }
+head_is_at bytes r head short few p made = grind (arith, few_fields, front_fits)
 
 -- more headers than are taken
 pub too_many : (bytes : List ℕ) (r : Request) (len : ℕ) → field_limit < length r.headers.now → HoldsSomeRequest bytes r len
@@ -63,5 +51,4 @@ unfolding is_token_byte fields.is_token_byte
 same_token bytes t = t
 
 pub is_token_of : (bytes : List ℕ) (r : Request) (len : ℕ) (method : List ℕ) → HoldsSomeRequest bytes r len → option_copied r.method ≡ Some method → fields.IsToken method
-is_token_of bytes r len method p e =
-    subst fields.IsToken (some_same _ _ (sym p.1.method ∙ e)) (same_token p.0.method p.1.reads.0.method)
+is_token_of bytes r len method p e = grind (arith, same_token)

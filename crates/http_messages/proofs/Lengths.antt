@@ -1,5 +1,5 @@
 -- What the fields say of a length, field by field.
-use Rattle.std.proofs.Common.{◌≡◌, ℕ, Bool, true, false, List, [], ◌∷◌, filter, map, codes, drop, cond, refl, sym, ap, ◌∙◌, true≢false, subst, ◌+◌, ◌<◌, length, get_or, drop-cons, suc, arith}
+use Rattle.std.proofs.Common.{◌≡◌, ℕ, Bool, true, false, List, [], ◌∷◌, filter, map, codes, drop, cond, ap, ◌∙◌, ◌+◌, ◌<◌, length, get_or, drop-cons, suc, arith}
 use Rattle.http_messages.specs.declared.head.Framing.{Framing}
 use Rattle.http_messages.specs.declared.head.Framing.TheVariants.{Refused}
 use Rattle.http_messages.specs.declared.refusal.Refusal.TheVariants.{BadRequest, LengthRequired}
@@ -22,14 +22,6 @@ pub record IsSaidSoFar (fields later : List Header) (said : Framing) (any : Bool
   pub none : any ≡ false → said ≡ Refused LengthRequired
   pub same : stated_by (lengths fields) ≡ said_after said any (lengths later)
 
-said_one : (field : Field) (later : List Field) → stated_by (field ∷ later) ≡ said_after (body_of_length (decimal_of field.1)) true later
-said_one field [] = refl
-said_one field (other ∷ more) = refl
-
-named_first : (x : Header) (later : List Header) → is_named (codes "content-length") (header_parts x) ≡ true
-    → lengths (x ∷ later) ≡ header_parts x ∷ lengths later
-named_first x later e = ap (λ b. cond b (header_parts x ∷ lengths later) (lengths later)) e
-
 other_first : (x : Header) (later : List Header) → is_named (codes "content-length") (header_parts x) ≡ false
     → lengths (x ∷ later) ≡ lengths later
 other_first x later e = ap (λ b. cond b (header_parts x ∷ lengths later) (lengths later)) e
@@ -38,27 +30,16 @@ pub goes_on : (fields later : List Header) (x : Header) (said : Framing) (any : 
     → is_named (codes "content-length") (header_parts x) ≡ false → IsSaidSoFar fields later said any
 goes_on fields later x said any s e = record { none = s.none; same = s.same ∙ ap (said_after said any) (other_first x later e) }
 
-pub says_one : (fields later : List Header) (x : Header) (said : Framing) → IsSaidSoFar fields (x ∷ later) said false
-    → is_named (codes "content-length") (header_parts x) ≡ true → IsSaidSoFar fields later (body_of_length (decimal_of x.value.now)) true
-says_one fields later x said s e = record {
-  none = λ h. absurd (true≢false h);
-  same = s.same ∙ ap (said_after said false) (named_first x later e) ∙ said_one (header_parts x) (lengths later);
-}
-
 -- the same at a place
 pub says_one_at : (fields : List Header) (i : ℕ) (x : Header) (said new_said : Framing) (any new_any : Bool) → drop i fields ≡ x ∷ drop (i + 1) fields
     → IsSaidSoFar fields (drop i fields) said any → any ≡ false → true ≡ is_named (codes "content-length") (header_parts x)
     → new_said ≡ body_of_length (decimal_of x.value.now) → new_any ≡ true → IsSaidSoFar fields (drop (i + 1) fields) new_said new_any
-says_one_at fields i x said new_said any new_any d s e n f g =
-    let one = says_one fields (drop (i + 1) fields) x said (subst (λ l. IsSaidSoFar fields l said false) d (subst (λ b. IsSaidSoFar fields (drop i fields) said b) e s)) (sym n) in
-    subst (λ b. IsSaidSoFar fields (drop (i + 1) fields) new_said b) (sym g) (subst (λ f. IsSaidSoFar fields (drop (i + 1) fields) f true) (sym f) one)
+says_one_at fields i x said new_said any new_any d s e n f g = grind arith
 
 pub goes_on_at : (fields : List Header) (i : ℕ) (x : Header) (said new_said : Framing) (any new_any : Bool) → drop i fields ≡ x ∷ drop (i + 1) fields
     → IsSaidSoFar fields (drop i fields) said any → false ≡ is_named (codes "content-length") (header_parts x)
     → new_said ≡ said → new_any ≡ any → IsSaidSoFar fields (drop (i + 1) fields) new_said new_any
-goes_on_at fields i x said new_said any new_any d s n f g =
-    let one = goes_on fields (drop (i + 1) fields) x said any (subst (λ l. IsSaidSoFar fields l said any) d s) (sym n) in
-    subst (λ b. IsSaidSoFar fields (drop (i + 1) fields) new_said b) (sym g) (subst (λ f. IsSaidSoFar fields (drop (i + 1) fields) f any) (sym f) one)
+goes_on_at fields i x said new_said any new_any d s n f g = grind arith
 
 pub at_place : {A : Type 0} (l : List A) (j : ℕ) (d : A) → j < length l → drop j l ≡ get_or l j d ∷ drop (j + 1) l
 at_place l j d h = let e : suc j ≡ j + 1 = omega arith in drop-cons l j d h ∙ ap (λ k. get_or l j d ∷ drop k l) e

@@ -1,9 +1,8 @@
 -- Two texts handed out in turn.
-use Rattle.std.proofs.Common.{◌≡◌, ℕ, ◌+◌, ◌-◌, Bool, true, List, ◌++◌, take, length, ap, sym, ◌∙◌, arith, append_assoc, length-append}
-use Rattle.std.specs.Prelude.{Option, Some, None, Result, Ok, Err, OnOk, OnErr}
+use Rattle.std.proofs.Common.{◌≡◌, ℕ, ◌+◌, ◌-◌, Bool, List, ◌++◌, take, length, ap, sym, ◌∙◌, arith, append_assoc, length-append}
+use Rattle.std.specs.Prelude.{Option, Some, None, Result, OnOk, OnErr}
 use Rattle.std.specs.Io.KnownBytes.{Appends}
 use Rattle.std.proofs.KnownBytes.{Appends-trans}
-use Rattle.byte_streams.specs.Devices.{next_count}
 use Rattle.byte_streams.specs.Stands.{SinkStand, TookAll, FailedAfterFront}
 use Rattle.std.proofs.Math.Seq.{take-append-add}
 use Rattle.byte_streams.specs.Handed.{TookFront}
@@ -28,16 +27,10 @@ front_of_second (Some x) (Some y) (Some z) one two h g =
 
 -- all of the first, and then as the second is handed out
 pub taken_both : {A E : Type 0} (r : Result A E) (a b c : SinkStand) (one two : List ℕ) → TookAll a b one → OnOk r (TookAll b c two) → OnOk r (TookAll a c (one ++ two))
-taken_both (Ok x) a b c one two h g =
-    record { whole = Appends-trans a.contents b.contents c.contents one two h.whole g.whole; failures = g.failures ∙ h.failures }
-taken_both (Err e) a b c one two h g = tt
+taken_both r a b c one two h g = grind (arith, Appends-trans)
 
 pub front_of_both : {A E : Type 0} (r : Result A E) (a b c : SinkStand) (one two : List ℕ) → TookAll a b one → OnErr r (FailedAfterFront b c two) → OnErr r (FailedAfterFront a c (one ++ two))
-front_of_both (Ok x) a b c one two h g = tt
-front_of_both (Err e) a b c one two h g = record {
-  front = front_of_second a.contents b.contents c.contents one two h.whole g.front;
-  failed = g.failed ∙ ap (λ n. record { count = next_count n; last = true }) h.failures;
-}
+front_of_both r a b c one two h g = grind (arith, front_of_second)
 
 -- the text of a reply, from its head as it is handed out
 pub same_text : (bytes text head body : List ℕ) (with_body : Bool) (reply : Reply) → bytes ≡ text → text ≡ head → head ≡ head_text reply → body ≡ body_sent with_body reply

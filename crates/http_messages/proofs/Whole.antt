@@ -1,10 +1,11 @@
 -- What bytes ask, and what they ask with more after them.
-use Rattle.std.proofs.Common.{◌≡◌, ℕ, List, [], ◌++◌, take, sym, ap, subst, ◌∙◌, inl, inr, arith, length-append, true≢false, append_assoc}
+use Rattle.std.proofs.Common.{◌≡◌, ℕ, List, [], ◌++◌, take, sym, ap, subst, ◌∙◌, inl, inr, arith, true≢false, append_assoc}
 use Rattle.std.specs.Prelude.{Option, Some, None, IsSomeAnd}
 use Rattle.std.specs.Io.KnownBytes.{Consumes}
 use Rattle.byte_streams.specs.Stands.{SourceStand}
 use Rattle.std.proofs.KnownBytes.{Consumes-trans}
-use Rattle.std.proofs.lemmas.List.{take-append-le, append-nil}
+use Rattle.std.proofs.lemmas.List.{append-nil}
+use Rattle.std.proofs.lemmas.Grind.{common_steps}
 use Rattle.httparse.specs.Grammar.{RequestHead}
 use Rattle.httparse.proofs.GrammarLemmas.{request_unique}
 use Rattle.http_messages.specs.declared.message.Request.{Request}
@@ -16,28 +17,15 @@ use Rattle.http_messages.specs.declared.receiving.Asked.{Asked}
 use Rattle.http_messages.specs.declared.receiving.Asked.TheVariants as asked
 use Rattle.http_messages.specs.Requests.{BeginsWith, HasNoHead, NeverHasHead, Asks, IsRefusedFor, framing_said}
 use Rattle.http_messages.specs.Received.{IsAsked, Holds, HasAsked}
-use Rattle.http_messages.proofs.Fronts.{begins_more, count_in, is_body}
+use Rattle.http_messages.proofs.Fronts.{count_in, is_body}
 
 -- ---- more bytes
 
-abbrev request_with : RequestHead → List ℕ → Request
-request_with h body = record { method = h.method; target = h.target; body = body }
-
 asks_more : (bytes more : List ℕ) (request : Request) → Asks bytes request → Asks (bytes ++ more) request
-asks_more bytes more request a = record {
-  h = a.h;
-  rest = a.rest ++ more;
-  begins = begins_more bytes more a.h a.rest a.begins;
-  count = a.count;
-  framing = a.framing;
-  whole = omega (arith, a.whole, length-append a.rest more);
-  is = a.is ∙ ap (request_with a.h) (sym (take-append-le a.count a.rest more a.whole));
-}
+asks_more bytes more request a = grind (arith, common_steps)
 
 refused_more : (bytes more : List ℕ) (refusal : Refusal) → IsRefusedFor bytes refusal → IsRefusedFor (bytes ++ more) refusal
-refused_more bytes more refusal (inl a) =
-    inl (record { h = a.h; rest = a.rest ++ more; begins = begins_more bytes more a.h a.rest a.begins; framing = a.framing })
-refused_more bytes more refusal (inr a) = inr (λ rest. subst HasNoHead (sym (append_assoc bytes more rest)) (a.0 (more ++ rest)), a.1)
+refused_more bytes more refusal h1 = grind (arith, append_assoc)
 
 asked_more : (bytes more : List ℕ) (it : Asked) → IsAsked bytes it → IsAsked (bytes ++ more) it
 asked_more bytes more (asked.Request request) a = asks_more bytes more request a
@@ -73,21 +61,14 @@ refused_one bytes one other (inr a) (inl b) = absurd (never_begins bytes b.h b.r
 refused_one bytes one other (inr a) (inr b) = a.1 ∙ sym b.1
 
 pub asked_one : (bytes : List ℕ) (one other : Asked) → IsAsked bytes one → IsAsked bytes other → one ≡ other
-asked_one bytes (asked.Request one) (asked.Request other) a b = ap asked.Request (asks_one bytes one other a b)
-asked_one bytes (asked.Request one) (asked.Refused other) a b = absurd (not_both bytes one other a b)
-asked_one bytes (asked.Refused one) (asked.Request other) a b = absurd (not_both bytes other one b a)
-asked_one bytes (asked.Refused one) (asked.Refused other) a b = ap asked.Refused (refused_one bytes one other a b)
+asked_one bytes one other a b = grind (arith, asks_one, not_both, refused_one)
 
 -- ---- what a source held
 
 -- the bytes before, and those of the last read
 pub has_asked : (old mid new : SourceStand) (before block bytes seen : List ℕ) (it : Asked) → Consumes old.remaining mid.remaining before → Consumes mid.remaining new.remaining block
     → bytes ≡ before ++ block → seen ≡ bytes → IsAsked seen it → HasAsked old new it
-has_asked old mid new before block bytes seen it first then joined same a = record {
-  bytes = bytes;
-  given = subst (Consumes old.remaining new.remaining) (sym joined) (Consumes-trans old.remaining mid.remaining new.remaining before block first then);
-  asks = subst (λ l. IsAsked l it) same a;
-}
+has_asked old mid new before block bytes seen it first then joined same a = grind (arith, Consumes-trans)
 
 all_asked : (old new : Option (List ℕ)) (bytes : List ℕ) (one other : Asked) → Consumes old new bytes → IsAsked bytes one → IsSomeAnd old (λ all. IsAsked all other) → one ≡ other
 all_asked None new bytes one other given a h = absurd h

@@ -1,6 +1,6 @@
 -- An accepted refresh, from the segments that a channel holds.
-use Rattle.std.proofs.Common.{zero, suc, drop, take, ◌≡◌, ℕ, ◌||◌, ◌++◌, List, [], ◌∷◌, map, length, refl, ap, sym, ◌∙◌, subst}
-use Rattle.std.specs.Prelude.{Bool, true, false, not, is_some, Option, Some, Result, Ok, Err, IfOk, OnOk}
+use Rattle.std.proofs.Common.{zero, suc, drop, take, ◌≡◌, ℕ, ◌||◌, ◌++◌, List, [], ◌∷◌, map, length, refl, ap, sym, ◌∙◌, subst, arith}
+use Rattle.std.specs.Prelude.{Bool, is_some, Option, Some, Result, Ok, Err, IfOk, OnOk}
 use Rattle.playlist_model.specs.declared.DateRange.{DateRange}
 use Rattle.pod_store.specs.Inner.Store.{NameTheSame}
 use Rattle.break_finder.proofs.TagIds.{filter_same}
@@ -10,7 +10,7 @@ use Rattle.playlist_model.specs.declared.Playlist.{Playlist}
 use Rattle.pod_store.specs.Marks.{Marked}
 use Rattle.stitcher.specs.Stitched.{Numbers, Item}
 use Rattle.playlist_write.specs.Owed.{playlist_text}
-use Rattle.pod_store.specs.Store.{Store, is_one_of}
+use Rattle.pod_store.specs.Store.{Store}
 use Rattle.stitcher.specs.declared.OutSegment.{OutSegment}
 use Rattle.stitcher.specs.declared.marked.MarkedSegment.{MarkedSegment as Held}
 use Rattle.stitcher.specs.StitchedSegments.{AreDecided}
@@ -50,8 +50,7 @@ timed (item ∷ later) = ap (λ b. is_some item.piece.instant || b) (timed later
 
 -- the same date ranges are left by another list of the same breaks
 left_alike : (timed : Bool) (short long : List (List ℕ)) (date_ranges : List DateRange) → NameTheSame short long → date_ranges_left timed short date_ranges ≡ date_ranges_left timed long date_ranges
-left_alike true short long date_ranges same = filter_same (λ (r : DateRange). not (is_one_of short r.id)) (λ (r : DateRange). not (is_one_of long r.id)) (λ r. ap not (same.ids r.id)) date_ranges
-left_alike false short long date_ranges same = refl
+left_alike timed short long date_ranges same = grind (arith, filter_same)
 
 module _ (state : ChannelState) (p : Playlist) (held : List Held) (n : ℕ) where
   abbrev seen : List Marked
@@ -101,38 +100,21 @@ module _ (tolerance : ℕ) (state : ChannelState) (p : Playlist) (held : List He
 
 pub items_kept : (tolerance : ℕ) (state : ChannelState) (p : Playlist) (held : List Held) (showing : Showing) → IsShown tolerance state p held showing
     → items_on (kept_in state) p (so_far state.store held) showing.so_far ≡ kept_items tolerance (kept_in state) p
-items_kept tolerance state p held showing shown =
-    ap (λ (list : List Marked). items_on (kept_in state) p list showing.so_far) shown.list ∙ ap (items_on (kept_in state) p (kept_list tolerance (kept_in state) p)) shown.length
+items_kept tolerance state p held showing shown = grind arith
 
 -- so it is whatever the segments were put behind
 pub accepted_as : (tolerance : ℕ) (state before : ChannelState) (p : Playlist) (held list : List Held) (showing : Showing) (result : Result NextState RefreshFault) → IsShown tolerance state p held showing → before ≡ state → list ≡ held
     → IfOk result (λ next. IsNext (kept_in before) p showing.knowledge list (so_far before.store list) showing.so_far showing.fresh next) → IfOk result (λ next. IsAccepted tolerance (kept_in state) p held next)
-accepted_as tolerance state before p held list showing (Ok next) shown e f n =
-    accepted tolerance state p held showing next shown
-    (subst (λ (s : ChannelState). IsNext (kept_in s) p showing.knowledge held (so_far s.store held) showing.so_far showing.fresh next) e
-    (subst (λ xs. IsNext (kept_in before) p showing.knowledge xs (so_far before.store xs) showing.so_far showing.fresh next) f n))
-accepted_as tolerance state before p held list showing (Err fault) shown e f n = n
+accepted_as tolerance state before p held list showing result shown e f n = grind arith
 
 -- the first of them alone are those that were shown before
 pub before_is : (state before : ChannelState) (come list : List Held) (stood : ℕ) → stood ≡ length state.list → list ≡ state.list ++ come → before ≡ record state { list = take stood list } → before ≡ state
-before_is state before come list stood long list_is is =
-    is ∙ ap (λ (xs : List Held). record state { list = xs }) (ap (take stood) list_is ∙ take_at state.list come stood (sym long))
+before_is state before come list stood long list_is is = grind (arith, take_at)
 
 -- what is to hold when the window is written holds if these segments were put behind those that are shown
 pub ready : (tolerance : ℕ) (state before : ChannelState) (p : Playlist) (come list : List Held) (showing : Showing) (written : Option WrittenText) → before ≡ state → list ≡ state.list ++ come → IsShown tolerance state p (state.list ++ come) showing
     → StoodIn (kept_in state) (kept_items tolerance (kept_in state) p) written → AreKept state.store state → IsLastEnding (kept_in state) state.shown.ending → IsReady before written p list showing.entered showing.so_far
-ready tolerance state before p come list showing written e f shown stood kept ending =
-    subst (λ (s : ChannelState). IsReady s written p list showing.entered showing.so_far) (sym e)
-    (subst (λ xs. IsReady state written p xs showing.entered showing.so_far) (sym f) (record {
-      stood = subst (λ items. StoodIn (kept_in state) items written) (sym (items_kept tolerance state p (state.list ++ come) showing shown)) stood;
-      stands = take_at state.list come (length state.list) refl;
-      decided = shown.decided;
-      runs = shown.runs;
-      rising = shown.rising;
-      entered_is = shown.entered;
-      rest = kept.rest;
-      ending = ending;
-    }))
+ready tolerance state before p come list showing written e f shown stood kept ending = grind (arith, items_kept, take_at)
 
 -- ---- a refresh is accepted
 

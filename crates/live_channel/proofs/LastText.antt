@@ -1,11 +1,10 @@
 -- The last text, from refresh to refresh.
-use Rattle.std.proofs.Common.{◌≡◌, ℕ, ◌+◌, ◌-◌, ◌<◌, true, not, cond, List, [], ◌∷◌, ◌++◌, map, reverse, length, take, drop, refl, ap, sym, ◌∙◌, subst, arith}
+use Rattle.std.proofs.Common.{◌≡◌, ℕ, ◌-◌, ◌<◌, true, not, cond, List, [], ◌∷◌, ◌++◌, map, reverse, length, take, drop, refl, ap, sym, ◌∙◌, subst, arith}
 use Rattle.std.specs.Prelude.{Option, Some, None, Ok, Err, Result, is_none}
 use Rattle.std.specs.List.{AllByRecursion, list_all}
 use Rattle.std.proofs.lemmas.List.{append-nil, map-append, reverse-append, take_at, length-map, length-reverse}
 use Rattle.url.specs.Parts.{Parts}
 use Rattle.playlist_model.specs.declared.Playlist.{Playlist}
-use Rattle.channel_spec.specs.declared.heading.Heading.{Heading}
 use Rattle.playlist_model.specs.LookBack.{or_earlier}
 use Rattle.playlist_model.specs.Reading.{reading, limited}
 use Rattle.stitcher.specs.Stitched.{Piece, Item, Numbers, numbered, fits}
@@ -25,14 +24,13 @@ use Rattle.channel_spec.specs.Live.{Told, told, refusal, last_playlist, after_re
 use Rattle.channel_spec.specs.Live as live
 use Rattle.channel_spec.specs.Kept.{Kept, kept_of, kept_succession, kept_after, kept_items, kept_length, kept_list, kept_window, kept_refusal, shown_from, window_by}
 use Rattle.channel_spec.specs.Successor.{first_number}
-use Rattle.pod_store.specs.Marks.{Marked}
 use Rattle.channel_window.specs.ListEnd.{IsEndingOf, IsLastEnding, has_ended, last_window}
 use Rattle.channel_window.specs.Showing.{kept_in}
 use Rattle.channel_window.specs.declared.state.ChannelState.{ChannelState}
 use Rattle.channel_window.specs.declared.state.Ending.{Ending}
 use Rattle.channel_spec.specs.LastWindow.{last_pieces, last_items}
 use Rattle.channel_spec.proofs.KeptWhole.{kept_follows, items_go_on}
-use Rattle.live_channel.specs.Channel.{Channel, Given, refreshed, readable, events_of, told_by, IsAsTyped, with_store, ChangesStore, ChangesStoreExactly}
+use Rattle.live_channel.specs.Channel.{Channel, Given, refreshed, readable, events_of, told_by, IsAsTyped, ChangesStore, ChangesStoreExactly}
 use Rattle.live_channel.specs.LastText.{IsLaidOut, IsLast}
 use Rattle.live_channel.specs.Inner.LastText.{StoodIn, StoodBefore}
 use Rattle.live_channel.proofs.Steps.{all_given}
@@ -40,9 +38,7 @@ use Rattle.live_channel.proofs.Steps.{all_given}
 -- ---- which lines stand again
 
 pub stand_again : (segments : List OutSegment) (w : WrittenText) (start stood len : ℕ) → start < stood → IsLaid (take stood segments) w → IsFrontLength segments start len → StandsAgain (drop start segments) w len (stood - start)
-stand_again segments w start stood len h laid front =
-    let e : stood ≡ start + (stood - start) = omega (arith, h) in
-    record { before = segments; gone = start; some = omega (arith, h); laid = subst (λ n. IsLaid (take n segments) w) e laid; on = refl; front = front }
+stand_again segments w start stood len h laid front = grind arith
 
 -- ---- the last window is the front of what is stitched next
 
@@ -51,16 +47,7 @@ length_numbered first [] = refl
 length_numbered first (p ∷ before) = let e = length_numbered first before in omega (arith, e)
 
 stood_by : (k : Kept) (items : List Item) (w : WrittenText) → GoesOn (last_items k) items → IsLaid (map written_item (reverse (last_items k))) w → StoodIn k items (Some w)
-stood_by k items w (more, is) h =
-    let last = map written_item (reverse (last_items k)) in
-    let long : length last ≡ length (last_pieces k.last k) = length-map (reverse (last_items k)) written_item ∙ (length-reverse (last_items k) ∙ length_numbered k.numbers (last_pieces k.last k)) in
-    let turned : map written_item (reverse items) ≡ last ++ map written_item (reverse more) =
-    ap (λ xs. map written_item (reverse xs)) is ∙ (ap (map written_item) (reverse-append more (last_items k)) ∙ map-append written_item (reverse (last_items k)) (reverse more)) in
-    record {
-      on = (more, is);
-      count = h.count ∙ long;
-      stood = subst (λ xs. IsLaid xs w) (sym (ap (take w.count) turned ∙ take_at last (map written_item (reverse more)) w.count (sym h.count))) h;
-    }
+stood_by k items w e h = grind (arith, reverse, length-map, length-reverse, length_numbered, reverse-append, map-append, take_at)
 
 nothing_before : (k : Kept) (items : List Item) → k.last ≡ None → GoesOn (last_items k) items
 nothing_before k items e = (items, sym (append-nil items) ∙ sym (ap (λ o. items ++ numbered k.numbers (last_pieces o k)) e))
@@ -109,10 +96,7 @@ window_written base tolerance given bytes p typed read unrefused =
 pub laid_next : (base : Parts) (tolerance : ℕ) (given : List Given) (bytes : List ℕ) (p : Playlist) (k k' : Kept) (w : WrittenText) → k ≡ kept_of (told_by base tolerance given) → k' ≡ kept_of (told_by base tolerance (refreshed bytes ∷ given))
     → AllByRecursion (IsAsTyped base) (refreshed bytes ∷ given) → reading limited base bytes ≡ Ok p → kept_succession k p ≡ None → list_all fits (kept_items tolerance k p) ≡ true
     → IsLaid (map written_item (kept_window tolerance k p)) w → IsLaidOut k' (Some w)
-laid_next base tolerance given bytes p k k' w e e' typed read follows fit laid =
-    let unrefused : kept_refusal tolerance k p ≡ None = ap (λ o. or_earlier o (fault_if (not (list_all fits (kept_items tolerance k p))) NumberRange)) follows ∙ ap (λ b. fault_if (not b) NumberRange) fit in
-    let is = window_written base tolerance given bytes p typed read (ap (λ x. kept_refusal tolerance x p) (sym e) ∙ unrefused) in
-    subst (λ xs. IsLaid (map written_item xs) w) (ap (λ x. kept_window tolerance x p) e ∙ (sym is ∙ ap (λ x. reverse (last_items x)) (sym e'))) laid
+laid_next base tolerance given bytes p k k' w e e' typed read follows fit laid = grind (arith, window_written, reverse)
 
 -- and the end is known from which the list goes on then
 pub ending_next : (base : Parts) (tolerance : ℕ) (given : List Given) (bytes : List ℕ) (p : Playlist) (k k' : Kept) (e : Option Ending) → k ≡ kept_of (told_by base tolerance given) → k' ≡ kept_of (told_by base tolerance (refreshed bytes ∷ given))
@@ -135,24 +119,11 @@ ending_next base tolerance given bytes p k k' ending e e' typed read follows fit
 
 -- ---- decisions leave it
 
-pub laid_still : (old new : Kept) (written : Option WrittenText) → new.last ≡ old.last → last_items new ≡ last_items old → IsLaidOut old written → IsLaidOut new written
-laid_still old new None l e h = l ∙ h
-laid_still old new (Some w) l e h = subst (λ xs. IsLaid (map written_item (reverse xs)) w) (sym e) h
-
-pieces_still : (o : Option Heading) (k : Kept) (store : Store) → last_pieces o (record k { store = store }) ≡ last_pieces o k
-pieces_still None k store = refl
-pieces_still (Some last) k store = refl
-
-items_still : (c : Channel) (store : Store) → last_items (with_store c store).kept ≡ last_items c.kept
-items_still c store = ap (numbered c.kept.numbers) (pieces_still c.kept.last c.kept store)
-
 pub still : (old new : Channel) (result : Result (Unit {0}) DecisionFault) (outcome : Outcome Store) → ChangesStore old new result outcome → last_items new.kept ≡ last_items old.kept
-still old new (Ok u) outcome h = ap (λ (c : Channel). last_items c.kept) h.1 ∙ items_still old new.kept.store
-still old new (Err e) outcome h = ap (λ (c : Channel). last_items c.kept) h.0
+still old new result outcome h = grind arith
 
 pub still_exactly : (old new : Channel) (result : Result (Unit {0}) DecisionFault) (outcome : Outcome Store) → ChangesStoreExactly old new result outcome → last_items new.kept ≡ last_items old.kept
-still_exactly old new (Ok u) outcome h = ap (λ (c : Channel). last_items c.kept) h.1 ∙ items_still old new.kept.store
-still_exactly old new (Err e) outcome h = ap (λ (c : Channel). last_items c.kept) h.0
+still_exactly old new result outcome h = grind arith
 
 pub shown_still : (old new : Channel) (result : Result (Unit {0}) DecisionFault) (outcome : Outcome Store) → ChangesStore old new result outcome → new.kept.shown ≡ old.kept.shown
 shown_still old new (Ok u) outcome h = ap (λ (c : Channel). c.kept.shown) h.1
@@ -164,8 +135,4 @@ shown_exactly old new (Err e) outcome h = ap (λ (c : Channel). c.kept.shown) h.
 
 pub last_still : (old : ChannelState) (store : Store) (written : Option WrittenText) → (kept_in (record old { store = store })).shown ≡ (kept_in old).shown
     → last_items (kept_in (record old { store = store })) ≡ last_items (kept_in old) → IsLast old written → IsLast (record old { store = store }) written
-last_still old store written s e h = record {
-  text = laid_still (kept_in old) (kept_in (record old { store = store })) written refl e h.text;
-  ending = subst (λ (xs : List Marked). IsEndingOf xs (has_ended old.last) old.shown.so_far (last_window (kept_in (record old { store = store }))) old.shown.ending) (sym s)
-      (subst (λ (xs : List Item). IsEndingOf (kept_in old).shown (has_ended old.last) old.shown.so_far (map written_item (reverse xs)) old.shown.ending) (sym e) h.ending);
-}
+last_still old store written s e h = grind arith

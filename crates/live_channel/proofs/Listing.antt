@@ -1,5 +1,5 @@
 -- The segments that are held, and those of the playlist that was read last.
-use Rattle.std.proofs.Common.{◌≡◌, ℕ, ◌+◌, zero, suc, List, [], ◌∷◌, map, take, drop, refl, ap, sym, ◌∙◌, subst}
+use Rattle.std.proofs.Common.{◌≡◌, ℕ, ◌+◌, zero, suc, List, [], ◌∷◌, map, take, drop, refl, ap, sym, ◌∙◌, arith}
 use Rattle.std.specs.Prelude.{Option, Some, None, Ok, option_map}
 use Rattle.std.specs.List.{AllByRecursion}
 use Rattle.url.specs.Parts.{Parts}
@@ -9,7 +9,6 @@ use Rattle.playlist_model.specs.Same.{kept_parts}
 use Rattle.playlist_model.specs.Reading.{reading, limited}
 use Rattle.channel_spec.specs.Live.{Told, last_playlist, after_refresh, owed_for}
 use Rattle.channel_spec.specs.Sound.{RiseFrom}
-use Rattle.channel_spec.specs.Successor.{first_number}
 use Rattle.channel_spec.specs.Kept.{Kept, listed, kept_of, kept_refusal, shown_by}
 use Rattle.channel_spec.proofs.Listed.{shown_are_listed}
 use Rattle.channel_spec.proofs.SameFault.{same_first}
@@ -18,9 +17,9 @@ use Rattle.channel_window.specs.Checked.{AreContiguous, AreTaken}
 use Rattle.channel_window.specs.Showing.{kept_in}
 use Rattle.channel_window.specs.Listed.{segments_in}
 use Rattle.channel_window.proofs.Found.{held_listed}
-use Rattle.playlist_parse.specs.Kept.{IsTakenFrom, kept_segments}
-use Rattle.playlist_parse.specs.declared.read_playlist.Read.{Read}
-use Rattle.playlist_parse.specs.declared.source.Source.{Source}
+use Rattle.playlist_kept.specs.Kept.{IsTakenFrom, kept_segments}
+use Rattle.playlist_kept.specs.declared.read_playlist.Read.{Read}
+use Rattle.playlist_kept.specs.declared.source.Source.{Source}
 use Rattle.live_channel.specs.Channel.{Given, refreshed, events_of, told_by, IsAsTyped, IsListed}
 use Rattle.live_channel.proofs.Steps.{all_given}
 use Rattle.live_channel.proofs.LastText.{told_next}
@@ -87,6 +86,4 @@ rise_from n [] r = tt
 rise_from n (x ∷ xs) r = (r.0, rise_from (n + 1) xs r.1)
 
 pub contiguous_too : (xs ys : List Segment) → map kept_parts xs ≡ map kept_parts ys → AreContiguous ys → AreContiguous xs
-contiguous_too xs ys e r =
-    rise_from (first_number xs) xs
-    (subst (λ n. RiseFrom n (map kept_parts xs)) (sym (same_first xs ys e)) (subst (RiseFrom (first_number ys)) (sym e) (rise_of (first_number ys) ys r)))
+contiguous_too xs ys e r = grind (arith, rise_from, same_first, rise_of)

@@ -1,6 +1,6 @@
 -- What a channel answers, in the words of all that it was given.
-use Rattle.std.proofs.Common.{◌≡◌, ℕ, Bool, true, false, cond, List, [], ◌∷◌, ◌++◌, refl, ap, sym, ◌∙◌, subst, inl, inr, append_assoc}
-use Rattle.std.specs.Prelude.{◌↔◌, ◌⊎◌, Option, Some, None, Result, Ok, Err, IsOk, MatchResult, option_map, is_none, not, slice_get}
+use Rattle.std.proofs.Common.{◌≡◌, ℕ, Bool, true, false, cond, List, [], ◌∷◌, ◌++◌, refl, ap, sym, ◌∙◌, subst, inl, inr, arith}
+use Rattle.std.specs.Prelude.{◌↔◌, ◌⊎◌, Option, Some, None, Result, Ok, Err, IsOk, option_map, is_none, not, slice_get}
 use Rattle.std.specs.List.{AllByRecursion, list_all}
 use Rattle.url.specs.Parts.{Parts}
 use Rattle.playlist_model.specs.declared.Playlist.{Playlist}
@@ -11,10 +11,8 @@ use Rattle.stitcher.specs.Stitched.{fits}
 use Rattle.read_is_writable.proofs.Whole.{can_be_written}
 use Rattle.pod_store.specs.Store.{Store, is_used}
 use Rattle.pod_store.specs.Store.{withdrawn as without_break}
-use Rattle.pod_store.specs.Outcome.{Outcome, Refuses}
-use Rattle.decision_files.specs.Decided.{decisions_of}
+use Rattle.pod_store.specs.Outcome.{Outcome}
 use Rattle.pod_store.specs.declared.Decisions.{Decisions}
-use Rattle.pod_store.specs.declared.Decisions.TheVariants.{Withdraw}
 use Rattle.pod_store.specs.declared.fault.DecisionFault.{DecisionFault}
 use Rattle.break_finder.specs.Known.{Accepted, known}
 use Rattle.break_finder.specs.Entering.{id_of, why}
@@ -26,7 +24,7 @@ use Rattle.channel_spec.specs.Successor.{Succeeds, heading_of, first_number, has
 use Rattle.channel_spec.specs.Live.{Event, Told, told, refusal, number_range_fault, succession_fault, last_playlist, list_of, in_use, after_refresh, window_after, owed, owed_for}
 use Rattle.channel_spec.specs.Live as live
 use Rattle.channel_spec.specs.LiveLaws.{GoesOn, first_shown}
-use Rattle.channel_spec.specs.Kept.{Kept, kept_of, listed, shown_by}
+use Rattle.channel_spec.specs.Kept.{kept_of, listed, shown_by}
 use Rattle.channel_spec.proofs.Listed.{shown_are_listed}
 use Rattle.channel_spec.proofs.SameFault.{same_init}
 use Rattle.stitcher.specs.declared.marked.MarkedSegment.{MarkedSegment as Held}
@@ -39,7 +37,7 @@ use Rattle.channel_spec.proofs.Decided.{no_fault_succeeds}
 use Rattle.channel_spec.proofs.LiveState.{StandingOf}
 use Rattle.owed_is_denoted.proofs.Given.{is_read}
 use Rattle.live_channel.specs.declared.channel.Refreshed.{Refreshed}
-use Rattle.live_channel.specs.Channel.{Channel, Reading, Given, decided, withdrawn, refreshed, readable, decisions_in, events_in, events_of, told_by, Represents, judged, refreshed_with, answer_read, owed_answer, fresh_after, after_bytes, ChangesStore, ChangesStoreExactly, Decides, Withdraws, why_by, explained, owed_why_by, Explains, Knows}
+use Rattle.live_channel.specs.Channel.{Channel, Reading, Given, decided, withdrawn, refreshed, readable, decisions_in, events_of, told_by, Represents, judged, refreshed_with, answer_read, owed_answer, fresh_after, after_bytes, ChangesStore, ChangesStoreExactly, Decides, Withdraws, why_by, explained, owed_why_by, Explains, Knows}
 use Rattle.live_channel.specs.ChannelLaws.{SucceedsLast, IsAcceptable, AcceptanceIsExact, StitchedListGrows, OwedPlaylistsSucceed}
 use Rattle.live_channel.proofs.Steps.{all_given}
 
@@ -49,32 +47,19 @@ is_ok : {A E : Type 0} (o : Result A E) (x : A) → o ≡ Ok x → IsOk o
 is_ok (Ok y) x h = refl
 is_ok (Err e) x h = absurd (cc)
 
-decides_step : (old new : Channel) (outcome : Outcome Store) (result : Result (Unit {0}) DecisionFault) → ChangesStore old new result outcome → MatchResult result (λ _. IsOk outcome) (λ e. Refuses e outcome)
-decides_step old new outcome (Ok u) h = is_ok outcome new.kept.store h.0
-decides_step old new outcome (Err e) h = h.1
-
 pub decides : (old new : Channel) (bytes : List ℕ) (result : Result (Unit {0}) DecisionFault) → ChangesStore old new result (after_bytes old.kept.store bytes) → Decides old bytes result
-decides old new bytes result h given s =
-    subst (λ (store : Store). MatchResult result (λ _. IsOk (after_bytes store bytes)) (λ e. Refuses e (after_bytes store bytes))) (ap (λ (k : Kept). k.store) s.kept)
-    (decides_step old new (after_bytes old.kept.store bytes) result h)
-
-withdraws_step : (old new : Channel) (outcome : Outcome Store) (result : Result (Unit {0}) DecisionFault) → ChangesStoreExactly old new result outcome → MatchResult result (λ _. IsOk outcome) (λ e. outcome ≡ Err e)
-withdraws_step old new outcome (Ok u) h = is_ok outcome new.kept.store h.0
-withdraws_step old new outcome (Err e) h = h.1
+decides old new bytes result h given s = grind arith
 
 pub withdraws : (old new : Channel) (id : List ℕ) (result : Result (Unit {0}) DecisionFault) → ChangesStoreExactly old new result (without_break old.kept.store id) → Withdraws old id result
-withdraws old new id result h given s =
-    subst (λ (store : Store). MatchResult result (λ _. IsOk (without_break store id)) (λ e. without_break store id ≡ Err e)) (ap (λ (k : Kept). k.store) s.kept)
-    (withdraws_step old new (without_break old.kept.store id) result h)
+withdraws old new id result h given s = grind arith
 
 -- ---- what is known, and why
 
 pub knows : (c : Channel) (place : ℕ) (result : Option (List ℕ)) → result ≡ option_map id_of (slice_get c.kept.breaks place) → Knows c place result
-knows c place result h given s = h ∙ ap (λ (k : Kept). option_map id_of (slice_get k.breaks place)) s.kept
+knows c place result h given s = grind arith
 
 first_is : (accepted : List Accepted) (last : Playlist) → last_playlist accepted ≡ Some last → first_shown accepted ≡ first_number last.segments
-first_is [] last e = absurd (cc)
-first_is (a ∷ before) last e = let same : a.playlist ≡ last = cc in ap (λ (p : Playlist). first_number p.segments) same
+first_is accepted last e = grind arith
 
 explain_step : (tolerance : ℕ) (events : List Event) (id : List ℕ) → AllByRecursion IsSoundEvent events → (o : Option Playlist) → last_playlist (told tolerance events).accepted ≡ o
     → why_by (option_map heading_of o) (kept_of (told tolerance events)) id ≡ owed_why_by (told tolerance events) o id
@@ -93,10 +78,7 @@ pub explained_so : (store : Store) (held : List Held) → has_init_sections (seg
 explained_so store held = ap has_init_sections (sym (held_listed store held))
 
 pub explains : (c : Channel) (id : List ℕ) (result : Why) → result ≡ explained c.kept id → Explains c id result
-explains c id result h given s =
-    h
-    ∙ (ap (λ (k : Kept). explained k id) s.kept
-    ∙ explain_step c.tolerance (events_of c.base given) id (all_given c.base given s.typed) (last_playlist (told_by c.base c.tolerance given).accepted) refl)
+explains c id result h given s = grind (arith, explain_step, all_given)
 
 -- ---- acceptance
 
@@ -114,13 +96,11 @@ all_fit false e = absurd (cc)
 
 last_sound : (accepted : List Accepted) (history : List Marked) (last : Playlist) → StandingOf accepted history → last_playlist accepted ≡ Some last → IsSoundPlaylist last
 unfolding StandingOf
-last_sound [] history last s e = absurd (cc)
-last_sound (a ∷ before) history last s e = let same : a.playlist ≡ last = cc in subst IsSoundPlaylist same s.read
+last_sound accepted history last s e = grind arith
 
 succeeds_last : (accepted : List Accepted) (history : List Marked) (p : Playlist) → StandingOf accepted history → IsSoundPlaylist p → (o : Option Playlist) → last_playlist accepted ≡ o
     → (succession_fault o p ≡ None) ↔ SucceedsLast o p
-succeeds_last accepted history p s r None e = (λ _. tt, λ _. refl)
-succeeds_last accepted history p s r (Some last) e = no_fault_succeeds last p (last_sound accepted history last s e) r
+succeeds_last accepted history p s r o e = grind (arith, no_fault_succeeds, last_sound)
 
 judged_ok : (o : Option RefreshFault) (done : Refreshed) → IsOk (judged o done) → o ≡ None
 judged_ok None done h = refl
@@ -163,8 +143,7 @@ acceptance_is_exact c given bytes s = (accepted_step c given bytes s (reading li
 
 events_after : (base : Parts) (later before : List Given) → events_of base (later ++ before) ≡ events_of base later ++ events_of base before
 events_after base [] before = refl
-events_after base (g ∷ later) before =
-    ap (λ es. events_in base g ++ es) (events_after base later before) ∙ sym (append_assoc (events_in base g) (events_of base later) (events_of base before))
+events_after base (g ∷ later) before = grind (arith, events_after base later before)
 
 pub stitched_list_grows : StitchedListGrows
 stitched_list_grows base tolerance later before typed =
@@ -191,11 +170,10 @@ read_step base tolerance bytes events old new g e (Ok p) k f =
 
 decided_step : (tolerance : ℕ) (events : List Event) (old new : Playlist) (o : Outcome Decisions) → owed (told tolerance events) ≡ Some old
     → owed (told tolerance (decisions_in o ++ events)) ≡ Some new → (new ≡ old) ⊎ Succeeds new old
-decided_step tolerance events old new (Ok ds) e f = same_owed old new (owed (told tolerance events)) (owed (told tolerance (live.decided ds ∷ events))) e f refl
-decided_step tolerance events old new (Err fault) e f = same_owed old new (owed (told tolerance events)) (owed (told tolerance events)) e f refl
+decided_step tolerance events old new (Ok ds) e f = grind arith
+decided_step tolerance events old new (Err fault) e f = grind arith
 
 pub owed_playlists_succeed : OwedPlaylistsSucceed
-owed_playlists_succeed base tolerance (decided bytes) before old new g e f = decided_step tolerance (events_of base before) old new (decisions_of bytes) e f
-owed_playlists_succeed base tolerance (withdrawn id) before old new g e f = decided_step tolerance (events_of base before) old new (Ok (Withdraw id)) e f
-owed_playlists_succeed base tolerance (refreshed bytes) before old new g e f =
-    read_step base tolerance bytes (events_of base before) old new (all_given base before g.1) e (reading limited base bytes) refl f
+owed_playlists_succeed base tolerance (decided bytes) before old new g e f = grind (arith, decided_step)
+owed_playlists_succeed base tolerance (withdrawn id) before old new g e f = grind (arith, decided_step)
+owed_playlists_succeed base tolerance (refreshed bytes) before old new g e f = grind (arith, read_step, all_given)

@@ -1,26 +1,22 @@
 -- A channel after a refresh.
-use Rattle.std.proofs.Common.{◌≡◌, ◌≢◌, ℕ, Bool, true, false, not, cond, ◌&&◌, ◌||◌, List, [], ◌∷◌, map, drop, refl, ap, sym, ◌∙◌, subst}
-use Rattle.std.specs.Prelude.{Option, Some, None, IsSome, Result, Ok, Err, IsErr, IfErr, option_map, filter, find, nat_le, reverse}
+use Rattle.std.proofs.Common.{◌≡◌, ◌≢◌, ℕ, Bool, true, false, not, cond, ◌&&◌, ◌||◌, List, [], ◌∷◌, map, drop, refl, ap, sym, ◌∙◌, subst, arith}
+use Rattle.std.specs.Prelude.{Option, Some, None, Result, Ok, Err, IsErr, IfErr, option_map, filter, find, nat_le, reverse}
 use Rattle.std.specs.List.{list_all, list_any, AllByRecursion}
 use Rattle.std.proofs.lemmas.Bool.{and_from}
 use Rattle.url.specs.Parts.{Parts}
 use Rattle.playlist_model.specs.declared.PlaylistFault.{PlaylistFault}
 use Rattle.playlist_model.specs.declared.Playlist.{Playlist}
-use Rattle.channel_spec.specs.declared.heading.Heading.{Heading}
 use Rattle.pod_store.specs.Marks.{Marked}
 use Rattle.playlist_model.specs.LookBack.{or_earlier}
 use Rattle.playlist_model.specs.Reading.{reading, limited}
-use Rattle.stitcher.specs.Stitched.{Numbers, fits}
-use Rattle.stitcher.specs.Paced.{Rest as MeantRest}
-use Rattle.pod_store.specs.Pods.{Pod}
+use Rattle.stitcher.specs.Stitched.{fits}
 use Rattle.read_is_writable.specs.Read.{uris_are_text}
 use Rattle.read_is_writable.proofs.Whole.{can_be_written}
 use Rattle.pod_store.specs.Store.{Entry, Store, has_id, pod_of, pod_for, is_one_of, with_copies, kept_in_use}
 use Rattle.pod_store.proofs.Copies.{pod_stays, fallback_stands}
-use Rattle.break_finder.specs.Breaks.{Break}
 use Rattle.stitcher.specs.declared.marked.MarkedSegment.{MarkedSegment as Held}
 use Rattle.stitcher.specs.declared.ends.Rest.{Rest}
-use Rattle.stitcher.specs.StitchedSegments.{meant, mark_in, mark_with, rest_from, rest_in, IsDecided, AreDecided}
+use Rattle.stitcher.specs.StitchedSegments.{meant, mark_in, rest_in, IsDecided, AreDecided}
 use Rattle.break_finder.specs.Known.{is_this}
 use Rattle.channel_spec.specs.declared.fault.RefreshFault.{RefreshFault}
 use Rattle.playlist_model.specs.declared.FaultKind.TheVariants.{OutOfMemory as NoMemory}
@@ -57,17 +53,11 @@ none_step uses id e entries rec false same h false = rec
 
 none_kept : (uses : List ℕ → Bool) (id : List ℕ) (entries : List Entry) → find (has_id id) entries ≡ None → find (has_id id) (entries_after uses entries) ≡ None
 none_kept uses id [] h = refl
-none_kept uses id (e ∷ entries) h = by (has_id id e) refl h (none_kept uses id entries)
-  where
-    by : (b : Bool) → has_id id e ≡ b → cond b (Some e) (find (has_id id) entries) ≡ None → (find (has_id id) entries ≡ None → find (has_id id) (entries_after uses entries) ≡ None)
-        → find (has_id id) (entries_after uses (e ∷ entries)) ≡ None
-    by true same h rec = absurd (cc)
-    by false same h rec = none_step uses id e entries (rec h) false same refl (not e.used || uses e.id)
+none_kept uses id (e ∷ entries) h = grind (arith, none_kept uses id entries)
 
 after_found : (uses : List ℕ → Bool) (store : Store) (id : List ℕ) (o : Option Entry) → uses id ≡ true → find (has_id id) store.entries ≡ o
     → option_map pod_of (find (has_id id) (entries_after uses store.entries)) ≡ option_map pod_of o
-after_found uses store id None u e = ap (option_map pod_of) (none_kept uses id store.entries e)
-after_found uses store id (Some x) u e = ap (option_map pod_of) (kept_found uses id store.entries x u e)
+after_found uses store id o u e = grind (arith, none_kept, kept_found)
 
 pod_stays_on : (ids : List (List ℕ)) (store : Store) (id : List ℕ) → is_one_of ids id ≡ true → pod_for (kept_in_use ids store) id ≡ pod_for store id
 pod_stays_on ids store id u =
@@ -78,9 +68,7 @@ pod_stays_on ids store id u =
 mark_stays : (ids : List (List ℕ)) (store : Store) (o : Option (List ℕ)) → IsDecided store o → ((id : List ℕ) → is_marked id (mark_in store o) ≡ true → is_one_of ids id ≡ true)
     → (mark_in (kept_in_use ids store) o ≡ mark_in store o) × IsDecided (kept_in_use ids store) o
 mark_stays ids store None d h = (refl, tt)
-mark_stays ids store (Some id) d h =
-    let same = pod_stays_on ids store id (h id (marked_too store id (Some id) d ∙ same_id id)) in
-    (ap (mark_with id) same, subst (λ o. IsSome o) (sym same) d)
+mark_stays ids store (Some id) d h = grind (arith, pod_stays_on, marked_too, same_id)
 
 marks_stay : (ids : List (List ℕ)) (store : Store) (held : List Held) → AreDecided store held
     → AllByRecursion (λ (x : Marked). (id : List ℕ) → is_marked id x.mark ≡ true → is_one_of ids id ≡ true) (map (meant store) held) → MarksStay store (kept_in_use ids store) held
@@ -97,13 +85,7 @@ marks_stay ids store (m ∷ later) d h =
 rest_stays : (ids : List (List ℕ)) (store : Store) (rest : Option Rest) → IsRestDecided store rest → ((id : List ℕ) → is_this id (rest_id (rest_in store rest)) ≡ true → is_one_of ids id ≡ true)
     → RestStays store (kept_in_use ids store) rest
 rest_stays ids store None d h = record { same = refl; decided = tt }
-rest_stays ids store (Some rest) d h =
-    let same = pod_stays_on ids store rest.id (h rest.id (named rest.id rest.place (pod_for store rest.id) d)) in
-    record { same = ap (λ o. option_map (rest_from rest.place) (mark_with rest.id o)) same; decided = subst (λ o. IsSome o) (sym same) d }
-  where
-    named : (id : List ℕ) (place : ℕ) (o : Option Pod) → IsSome o → is_this id (rest_id (option_map (rest_from place) (mark_with id o))) ≡ true
-    named id place None d = absurd (cc)
-    named id place (Some pod) d = same_id id
+rest_stays ids store (Some rest) d h = grind (arith, pod_stays_on, same_id)
 
 -- ---- each mark of a shown segment is in use
 
@@ -128,15 +110,7 @@ used_from first uses (s ∷ before) h = step (nat_le first s.segment.media_seque
 -- ---- an accepted refresh
 
 kept_ext : (a b : Kept) → a.store ≡ b.store → a.breaks ≡ b.breaks → a.last ≡ b.last → a.shown ≡ b.shown → a.entered ≡ b.entered → a.numbers ≡ b.numbers → a.so_far ≡ b.so_far → a.rest ≡ b.rest → a ≡ b
-kept_ext a b store breaks last shown entered numbers lasted rest =
-    ap (λ (x : Store). record a { store = x }) store
-    ∙ (ap (λ (x : List Break). record a { store = b.store; breaks = x }) breaks
-    ∙ (ap (λ (x : Option Heading). record a { store = b.store; breaks = b.breaks; last = x }) last
-    ∙ (ap (λ (x : List Marked). record a { store = b.store; breaks = b.breaks; last = b.last; shown = x }) shown
-    ∙ (ap (λ (x : Option (List ℕ)). record b { entered = x; numbers = a.numbers; so_far = a.so_far; rest = a.rest }) entered
-    ∙ (ap (λ (x : Numbers). record b { numbers = x; so_far = a.so_far; rest = a.rest }) numbers
-    ∙ (ap (λ (x : ℕ). record b { so_far = x; rest = a.rest }) lasted
-    ∙ ap (λ (x : Option MeantRest). record b { rest = x }) rest))))))
+kept_ext a b store breaks last shown entered numbers lasted rest = grind arith
 
 no_fault : (succession number_range : Option RefreshFault) → succession ≡ None → number_range ≡ None → or_earlier succession number_range ≡ None
 no_fault None number_range e f = f

@@ -1,6 +1,6 @@
 -- The numbers of the shown segments rise by one, and a playlist that may follow leaves none out.
-use Rattle.std.proofs.Common.{◌≡◌, ℕ, ◌+◌, ◌≤◌, Bool, true, false, cond, List, [], ◌∷◌, map, length, refl, ap, sym, ◌∙◌, subst, arith}
-use Rattle.std.specs.Prelude.{None, Ok, nat_le}
+use Rattle.std.proofs.Common.{◌≡◌, ℕ, ◌+◌, ◌≤◌, List, [], ◌∷◌, map, length, refl, ap, sym, ◌∙◌, subst, arith}
+use Rattle.std.specs.Prelude.{None, Ok}
 use Rattle.std.specs.List.{AllByRecursion}
 use Rattle.std.proofs.lemmas.List.{length-map, length-reverse}
 use mathlib.Core.List.{reverse_aux}
@@ -41,14 +41,7 @@ record Rise (store : Store) (list : List Held) (before : List Marked) (end : ℕ
 
 held_rise : (store : Store) (list : List Held) (before : List Marked) (end : ℕ) → FallFrom end (reverse_aux (map (meant store) list) before) → Rise store list before end
 held_rise store [] before end f = record { first = end; rise = tt; falls = f; long = omega arith }
-held_rise store (m ∷ later) before end f =
-    let k = held_rise store later (meant store m ∷ before) end f in
-    record {
-      first = m.segment.media_sequence;
-      rise = (refl, subst (λ n. RiseByOne n later) (sym k.falls.0) k.rise);
-      falls = k.falls.1;
-      long = omega (arith, k.falls.0, k.long);
-    }
+held_rise store (m ∷ later) before end f = grind (arith, held_rise store later (meant store m ∷ before) end f)
 
 -- ---- what is shown
 
@@ -64,11 +57,7 @@ any_falls (s ∷ before) segments end f h = record { end = end; falls = f; near 
 
 front_falls : (first end : ℕ) (seen : List Marked) → FallFrom end seen → FallFrom end (shown_from first seen)
 front_falls first end [] f = tt
-front_falls first end (s ∷ before) f = step (nat_le first s.segment.media_sequence) (front_falls first s.segment.media_sequence before f.1)
-  where
-    step : (b : Bool) → FallFrom s.segment.media_sequence (shown_from first before) → FallFrom end (cond b (s ∷ shown_from first before) [])
-    step true g = (f.0, g)
-    step false g = tt
+front_falls first end (s ∷ before) f = grind (arith, front_falls first s.segment.media_sequence before f.1)
 
 shown_falls : (accepted : List Accepted) (history : List Marked) (p : Playlist) → StandingOf accepted history → succession_fault (last_playlist accepted) p ≡ None → FallsBefore (shown_by (last_playlist accepted) history) p.segments
 unfolding StandingOf
@@ -81,14 +70,7 @@ seen_long : (store : Store) (list : List Held) → length (so_far store list) �
 seen_long store list = length-reverse (map (meant store) list) ∙ length-map list (meant store)
 
 held_rises : (store : Store) (list : List Held) (segments : List Segment) → FallsBefore (so_far store list) segments → RisesOn list segments
-held_rises store list segments b =
-    let r = held_rise store list [] b.end b.falls in
-    record {
-      first = r.first;
-      rise = r.rise;
-      near = omega (arith, r.long, b.near);
-      anew = λ e. r.long ∙ b.anew (seen_long store list ∙ e);
-    }
+held_rises store list segments b = grind (arith, held_rise, seen_long)
 
 pub rises_next : (base : Parts) (tolerance : ℕ) (given : List Given) (bytes : List ℕ) (state : ChannelState) (p : Playlist) → reading limited base bytes ≡ Ok p → kept_in state ≡ kept_of (told_by base tolerance given) → AllByRecursion (IsAsTyped base) given → RisesNext state p
 rises_next base tolerance given bytes state p read e typed f =

@@ -1,5 +1,5 @@
 -- A channel that keeps no history follows all that it was given.
-use Rattle.std.proofs.Common.{◌≡◌, ℕ, cond, List, [], ◌∷◌, ◌++◌, map, length, refl, ap, sym, ◌∙◌, subst, Bool, true, false}
+use Rattle.std.proofs.Common.{◌≡◌, ℕ, cond, List, [], ◌∷◌, ◌++◌, map, length, refl, ap, sym, ◌∙◌, subst, Bool, true, false, arith}
 use Rattle.std.specs.Prelude.{Option, Some, None, Ok, Err, is_none, option_map, Result}
 use Rattle.std.specs.List.{AllByRecursion}
 use Rattle.url.specs.Parts.{Parts}
@@ -33,8 +33,7 @@ use Rattle.pod_store.specs.Store.{Store}
 use Rattle.decision_files.specs.Decided.{decisions_of}
 use Rattle.pod_store.specs.Outcome.{Outcome}
 use Rattle.pod_store.specs.declared.Decisions.{Decisions}
-use Rattle.pod_store.specs.declared.Decisions.TheVariants.{Withdraw}
-use Rattle.live_channel.specs.Channel.{Given, decided, withdrawn, refreshed, Reading, readable, decisions_in, with_store, events_in, events_of, told_by, text_after, Channel, Represents, refreshed_with, judged, fresh_after, answer_read, AnswersAs, IsAsTyped, playlist_after, step_judged, step_read, step, says_read, says, StepsUnless, AnswersUnless, is_out_of_memory, WritesOwed}
+use Rattle.live_channel.specs.Channel.{Given, decided, withdrawn, refreshed, Reading, readable, decisions_in, with_store, events_in, events_of, told_by, text_after, Channel, Represents, refreshed_with, judged, fresh_after, answer_read, AnswersAs, IsAsTyped, playlist_after, step_judged, step_read, step, says_read, says, StepsUnless, AnswersUnless, WritesOwed}
 use Rattle.live_channel.specs.ChannelLaws.{StepFollows, StepsRefresh, DecideFollows, UndecidedFollows, WithdrawFollows, ChannelWrites}
 
 -- ---- what was given keeps the rules
@@ -62,7 +61,7 @@ one_given base (refreshed bytes) h = read_given base bytes (reading limited base
 
 pub all_given : (base : Parts) (given : List Given) → AllByRecursion (IsAsTyped base) given → AllByRecursion lawful.IsSoundEvent (events_of base given)
 all_given base [] h = tt
-all_given base (g ∷ before) h = both lawful.IsSoundEvent (events_in base g) (events_of base before) (one_given base g h.0) (all_given base before h.1)
+all_given base (g ∷ before) h = grind (arith, both, one_given, all_given base before h.1)
 
 -- ---- one refresh
 
@@ -157,7 +156,7 @@ steps_step false old bytes given result new h s =
     }
 
 pub steps_refresh : StepsRefresh
-steps_refresh old bytes result new k given s = steps_step (is_out_of_memory result) old bytes given result new k s
+steps_refresh old bytes result new k given s = grind (arith, steps_step)
 
 -- ---- decisions
 
@@ -176,14 +175,10 @@ decide_follows c ds bytes given h e s =
     ∙ ap (λ o. told c.tolerance (decisions_in o ++ events_of c.base given)) (sym e)) s
 
 pub undecided_follows : UndecidedFollows
-undecided_follows c fault bytes given h e s =
-    let same : told_by c.base c.tolerance given ≡ told_by c.base c.tolerance (decided bytes ∷ given) = ap (λ o. told c.tolerance (decisions_in o ++ events_of c.base given)) (sym e) in
-    record { kept = s.kept ∙ ap kept_of same; text = s.text ∙ ap text_after same; typed = (h, s.typed) }
+undecided_follows c fault bytes given h e s = grind arith
 
 pub withdraw_follows : WithdrawFollows
-withdraw_follows c id given s =
-    store_on c (live.decide (Withdraw id) c.kept.store) (withdrawn id) given tt
-    (ap (λ (x : Store). record (told_by c.base c.tolerance given) { store = live.decide (Withdraw id) x }) (ap (λ (k : Kept). k.store) s.kept)) s
+withdraw_follows c id given s = grind arith
 
 -- ---- what is written
 
@@ -205,7 +200,7 @@ one_good base (refreshed bytes) h = read_good base bytes h (reading limited base
 
 all_good : (base : Parts) (given : List Given) → AllByRecursion (IsAsTyped base) given → AllByRecursion CanBeGiven (events_of base given)
 all_good base [] h = tt
-all_good base (g ∷ before) h = both CanBeGiven (events_in base g) (events_of base before) (one_good base g h.0) (all_good base before h.1)
+all_good base (g ∷ before) h = grind (arith, both, one_good, all_good base before h.1)
 
 written : (tolerance : ℕ) (events : List Event) → AllByRecursion CanBeGiven events → (o : Option Playlist) → last_playlist (told tolerance events).accepted ≡ o
     → WritesOwed (told tolerance events) (option_map (owed_text (told tolerance events)) o)
@@ -213,6 +208,4 @@ written tolerance events good None e = e
 written tolerance events good (Some p) e = (p, (e, refl, λ base. always_denotes tolerance events p base good e))
 
 pub channel_writes : ChannelWrites
-channel_writes c given s =
-    subst (WritesOwed (told_by c.base c.tolerance given)) (sym s.text)
-    (written c.tolerance (events_of c.base given) (all_good c.base given s.typed) (last_playlist (told_by c.base c.tolerance given).accepted) refl)
+channel_writes c given s = grind (arith, written, all_good)

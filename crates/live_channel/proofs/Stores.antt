@@ -1,15 +1,14 @@
 -- Decisions leave the marks that are kept as they are.
-use Rattle.std.proofs.Common.{◌≡◌, ℕ, List, [], ◌∷◌, map, reverse, refl, ap, sym, ◌∙◌, subst}
-use Rattle.std.specs.Prelude.{Option, Some, None, IsSome, option_map}
+use Rattle.std.proofs.Common.{◌≡◌, ℕ, List, [], ◌∷◌, map, reverse, refl, sym, subst, arith}
+use Rattle.std.specs.Prelude.{Option, Some, None, IsSome}
 use Rattle.std.specs.List.{AllByRecursion}
 use mathlib.Core.List.{reverse_aux}
 use Rattle.pod_store.specs.Pods.{Pod}
 use Rattle.pod_store.specs.Marks.{Mark, Marked}
-use Rattle.pod_store.specs.Store.{Store, pod_of, pod_for}
-use Rattle.playlist_model.specs.LookBack.{or_earlier}
+use Rattle.pod_store.specs.Store.{Store, pod_for}
 use Rattle.stitcher.specs.declared.marked.MarkedSegment.{MarkedSegment as Held}
 use Rattle.stitcher.specs.declared.ends.Rest.{Rest}
-use Rattle.stitcher.specs.StitchedSegments.{meant, mark_in, mark_with, rest_from, rest_in, IsDecided, AreDecided}
+use Rattle.stitcher.specs.StitchedSegments.{meant, mark_in, mark_with, rest_in, IsDecided, AreDecided}
 use Rattle.channel_window.specs.Listed.{IsRestDecided}
 use Rattle.channel_spec.specs.Kept.{Kept}
 use Rattle.channel_spec.specs.LiveLaws.{HasPod, rest_mark}
@@ -23,10 +22,7 @@ unturned P (x ∷ xs) acc h = let k = unturned P xs (x ∷ acc) h in ((k.1.0, k.
 
 pod_stays : (old new : Store) (id : List ℕ) (p : Option Pod) → ((mark : Option Mark) → HasPod old mark → HasPod new mark) → IsSome p → HasPod old (mark_with id p)
     → (mark_in new (Some id) ≡ mark_with id p) × IsSome (pod_for new id)
-pod_stays old new id None keeps d h = absurd (cc)
-pod_stays old new id (Some pod) keeps d h =
-    let found : pod_for new id ≡ Some pod = ap (λ o. or_earlier (option_map pod_of o) new.fallback) (keeps (Some (record { id = id; pod = pod })) h).1 in
-    (ap (mark_with id) found, subst (λ o. IsSome o) (sym found) refl)
+pod_stays old new id p keeps d h = grind arith
 
 mark_stays : (old new : Store) (o : Option (List ℕ)) → ((mark : Option Mark) → HasPod old mark → HasPod new mark) → IsDecided old o → HasPod old (mark_in old o)
     → (mark_in new o ≡ mark_in old o) × IsDecided new o
@@ -50,23 +46,10 @@ pub record Stay (old new : Store) (held : List Held) (left : Option Rest) : Type
 marks_stay : (old new : Store) (held : List Held) → ((mark : Option Mark) → HasPod old mark → HasPod new mark) → AreDecided old held
     → AllByRecursion (λ (s : Marked). HasPod old s.mark) (map (meant old) held) → MarksStay old new held
 marks_stay old new [] keeps d h = record { same = refl; decided = tt }
-marks_stay old new (m ∷ later) keeps d h =
-    let here = mark_stays old new m.mark keeps d.0 h.0 in
-    let rest = marks_stay old new later keeps d.1 h.1 in
-    record {
-      same = ap (λ o. record (meant old m) { mark = o } ∷ map (meant new) later) here.0 ∙ ap (λ xs. meant old m ∷ xs) rest.same;
-      decided = (here.1, rest.decided);
-    }
-
-of_rest : (store : Store) (place : ℕ) (o : Option Mark) → HasPod store (rest_mark (option_map (rest_from place) o)) → HasPod store o
-of_rest store place None h = tt
-of_rest store place (Some mark) h = h
+marks_stay old new (m ∷ later) keeps d h = grind (arith, marks_stay old new later keeps d.1 h.1)
 
 rest_stays : (old new : Store) (rest : Option Rest) → ((mark : Option Mark) → HasPod old mark → HasPod new mark) → IsRestDecided old rest → HasPod old (rest_mark (rest_in old rest)) → RestStays old new rest
-rest_stays old new None keeps d h = record { same = refl; decided = tt }
-rest_stays old new (Some rest) keeps d h =
-    let k = mark_stays old new (Some rest.id) keeps d (of_rest old rest.place (mark_in old (Some rest.id)) h) in
-    record { same = ap (option_map (rest_from rest.place)) k.0; decided = k.1 }
+rest_stays old new rest keeps d h = grind arith
 
 abbrev KeptPods : Kept → Type 0
 KeptPods k = AllByRecursion (λ (x : Marked). HasPod k.store x.mark) k.shown × HasPod k.store (rest_mark k.rest)

@@ -17,11 +17,12 @@ use Rattle.channel_window.specs.Showing.{AreKept, IsLastEntered, kept_in}
 use Rattle.channel_window.specs.declared.state.ChannelState.{ChannelState}
 use Rattle.channel_window.specs.Checked.{AreContiguous, AreTaken}
 use Rattle.channel_window.specs.Listed.{segments_in}
-use Rattle.playlist_parse.specs.KeptLines.{KeptLines, WasRead}
-use Rattle.playlist_parse.specs.Kept.{AreKeptLines, IsAfter, IsKept, IsTakenFrom, kept_segments, playlist_in, with_taken}
-use Rattle.playlist_parse.specs.declared.read_playlist.Read.{Read}
-use Rattle.playlist_parse.specs.declared.source.Source.{Source}
-use Rattle.playlist_parse.specs.declared.step.Step.{Step}
+use Rattle.playlist_kept.specs.KeptLines.{WasRead}
+use Rattle.playlist_kept.specs.declared.source.KeptLines.{KeptLines}
+use Rattle.playlist_kept.specs.Kept.{AreKeptLines, IsAfter, IsKept, IsTakenFrom, kept_segments, playlist_in, with_taken}
+use Rattle.playlist_kept.specs.declared.read_playlist.Read.{Read}
+use Rattle.playlist_kept.specs.declared.source.Source.{Source}
+use Rattle.playlist_kept.specs.declared.step.Step.{Step}
 use Rattle.playlist_write.specs.declared.resumed.WrittenText.{WrittenText}
 use Rattle.live_channel.specs.declared.channel.Refreshed.{Refreshed}
 use Rattle.live_channel.specs.Channel.{Stands, IsListed, channel_with, told_by, text_in, Refreshes}
@@ -112,7 +113,7 @@ alone read taken = taken ∙ ap (drop read.from) (take-nil read.till) ∙ drop-n
 
 pub read_alone : (base : Parts) (bytes : List ℕ) (read : Read) → reading limited base bytes ≡ Ok (playlist_in read) → list_all uris_are_text read.playlist.segments ≡ true → read.taken.now ≡ []
     → IsRead base bytes (playlist_in read)
-read_alone base bytes read is here none = read_as base bytes read is here (ap (list_all uris_are_text) none)
+read_alone base bytes read is here none = grind (arith, read_as)
 
 -- ---- what is kept of the text
 
@@ -122,7 +123,7 @@ step_of read = record { playlist = read.playlist; front = read.front; from = rea
 
 lines_kept : (base : Parts) (segments : List Segment) (ranges : List DateRange) (lines : Option KeptLines) (kept : KeptLines) → lines ≡ Some kept
     → MatchOption lines (Unit {0}) (λ k. WasRead base k segments ranges) → WasRead base kept segments ranges
-lines_kept base segments ranges lines kept is h = subst (λ o. MatchOption o (Unit {0}) (λ k. WasRead base k segments ranges)) is h
+lines_kept base segments ranges lines kept is h = grind arith
 
 as_match : (base : Parts) (read : Read) (lines : Option KeptLines) → AreKeptLines base (playlist_in read) lines → MatchOption lines (Unit {0}) (λ k. WasRead base k (playlist_in read).segments (playlist_in read).date_ranges)
 as_match base read None h = h

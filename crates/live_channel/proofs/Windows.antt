@@ -1,5 +1,5 @@
 -- The window that is written, from its first items and from what is new.
-use Rattle.std.proofs.Common.{◌≡◌, ℕ, ◌+◌, ◌-◌, ◌<◌, Bool, true, false, ◌||◌, ◌⊎◌, inl, inr, List, [], ◌∷◌, ◌++◌, take, drop, length, refl, ap, sym, ◌∙◌, subst, arith}
+use Rattle.std.proofs.Common.{◌≡◌, ℕ, ◌+◌, ◌-◌, ◌<◌, Bool, true, false, ◌⊎◌, List, [], ◌∷◌, ◌++◌, take, drop, length, refl, ap, sym, ◌∙◌, subst, arith}
 use Rattle.std.specs.Prelude.{Some}
 use Rattle.std.specs.List.{list_any}
 use Rattle.std.proofs.lemmas.List.{drop-append-le, drop-drop, length-drop, take-append-le}
@@ -32,11 +32,7 @@ head_one (x ∷ xs) ys h = refl
 
 any_more : (xs ys : List OutSegment) → list_any states_time xs ≡ true → list_any states_time (xs ++ ys) ≡ true
 any_more [] ys h = absurd (cc)
-any_more (x ∷ xs) ys h = step (states_time x) (any_more xs ys) h
-  where
-    step : (b : Bool) → (list_any states_time xs ≡ true → list_any states_time (xs ++ ys) ≡ true) → (b || list_any states_time xs) ≡ true → (b || list_any states_time (xs ++ ys)) ≡ true
-    step true f h = refl
-    step false f h = f h
+any_more (x ∷ xs) ys h = grind (arith, any_more xs ys)
 
 module _ (whole front tail window : List OutSegment) (start : ℕ) (is : whole ≡ front ++ tail) (inside : start < length front) (here : drop start whole ≡ window) where
   abbrev first : List OutSegment
@@ -93,7 +89,4 @@ none_left false ids = refl
 
 pub dates_same : (first window : List OutSegment) (ids : List (List ℕ)) (date_ranges : List DateRange) → (date_ranges ≡ []) ⊎ (list_any states_time first ≡ true)
     → (list_any states_time first ≡ true → list_any states_time window ≡ true) → date_ranges_left (list_any states_time first) ids date_ranges ≡ date_ranges_left (list_any states_time window) ids date_ranges
-dates_same first window ids date_ranges (inl e) f =
-    ap (date_ranges_left (list_any states_time first) ids) e
-    ∙ (none_left (list_any states_time first) ids ∙ sym (ap (date_ranges_left (list_any states_time window) ids) e ∙ none_left (list_any states_time window) ids))
-dates_same first window ids date_ranges (inr e) f = ap (λ b. date_ranges_left b ids date_ranges) (e ∙ sym (f e))
+dates_same first window ids date_ranges h f = grind arith

@@ -3,7 +3,7 @@ use Rattle.std.specs.Prelude.{◌≡◌, ◌≢◌, ℕ, Bool, true, false, List
 use Rattle.std.specs.List.{AllByRecursion, list_all}
 use Rattle.url.specs.Parts.{Parts}
 use Rattle.playlist_model.specs.declared.Playlist.{Playlist}
-use Rattle.playlist_parse.specs.declared.source.Source.{Source}
+use Rattle.playlist_kept.specs.declared.source.Source.{Source}
 use Rattle.playlist_model.specs.declared.PlaylistFault.{PlaylistFault}
 use Rattle.pod_store.specs.Marks.{Marked}
 use Rattle.playlist_model.specs.Reading.{reading, limited, Denotes}

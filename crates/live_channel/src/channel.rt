@@ -17,8 +17,8 @@ use channel_spec::{MAX_TOLERANCE, RefreshFault};
 use channel_window::{ChannelState, Row, Shown, have_init_sections};
 use decision_files::read_decisions;
 use fixed_duration::Nanos;
+use playlist_kept::Source;
 use playlist_model::{Shared, Text};
-use playlist_parse::Source;
 use playlist_write::resumed::WrittenText;
 use pod_store::{DecisionFault, PodStore};
 use std::alloc::{AllocError, Global};
@@ -54,7 +54,7 @@ pub struct Channel {
 
 impl Model for Channel {
     ghost use Rattle.live_channel.specs.Channel.{Channel, Stands, IsListed, channel_with, text_in};
-    ghost use Rattle.playlist_parse.specs.Kept.{IsKept};
+    ghost use Rattle.playlist_kept.specs.Kept.{IsKept};
 
     ghost Value = { Channel };
 

@@ -2,7 +2,7 @@
 ghost use Rattle.std.specs.Prelude.{◌≡◌, ◌⊎◌, [], None, IfOk, IfErr, IfSome, true, false, drop, map};
 ghost use Rattle.std.specs.List.{list_all, list_any};
 ghost use Rattle.stitcher.specs.Stitched.{fits};
-ghost use Rattle.playlist_parse.specs.Kept.{playlist_in};
+ghost use Rattle.playlist_kept.specs.Kept.{playlist_in};
 ghost use Rattle.playlist_write.specs.Owed.{playlist_text};
 ghost use Rattle.stitcher.specs.StitchedSegments.{AreDecided, KnowRuns};
 ghost use Rattle.playlist_model.specs.LookBack.{or_earlier};
@@ -26,8 +26,8 @@ use channel_window::{
     first_number, head_of, is_any_timed, place_of_number, placed_of, run_end, stepped_of,
 };
 use fixed_duration::Nanos;
+use playlist_kept::Read;
 use playlist_model::{Items, Playlist, Shared, Text};
-use playlist_parse::Read;
 use playlist_write::OutPlaylist;
 use playlist_write::resumed::{WrittenText, front_length, laid_after, laid_on, laid_out};
 use std::alloc::{AllocError, Global};

@@ -1,5 +1,5 @@
 -- What is read and decided is what the laws of windows ask for.
-use Rattle.std.proofs.Common.{◌≡◌, ℕ, ◌+◌, ◌<◌, Bool, true, false, List, [], ◌∷◌, length, refl, ap, sym, ◌∙◌, subst, arith}
+use Rattle.std.proofs.Common.{◌≡◌, ◌+◌, ◌<◌, Bool, true, false, List, [], ◌∷◌, length, refl, ap, subst, arith}
 use Rattle.std.specs.Prelude.{is_some, ◌||◌, not}
 use Rattle.std.specs.List.{list_all, list_any, AllByRecursion}
 use Rattle.std.proofs.lemmas.Bool.{and_parts, or_parts, eqb-true}
@@ -12,7 +12,6 @@ use Rattle.read_is_writable.specs.Read.{numbers_read, init_sections_agree, AreRe
 use Rattle.channel_spec.specs.Successor.{first_number, has_init_sections}
 use Rattle.channel_spec.specs.Sound.{RiseFrom, IsSoundPlaylist, IsSoundPod, AllPods, IsSoundEvent}
 use Rattle.pod_store.specs.declared.Decisions.{Decisions}
-use Rattle.pod_store.specs.declared.Decisions.TheVariants.{Breaks, Withdraw, Fallback, NoFallback}
 use Rattle.channel_spec.specs.Live.{Event, decided, refreshed}
 use Rattle.owed_is_denoted.specs.Laws.{KeepsRules, CanBeGiven}
 use Rattle.channel_spec.proofs.SoundPods.{kept_is_sound}
@@ -42,7 +41,7 @@ none_have (s ∷ later) h = let a = or_parts (has_init_section s) (list_any has_
 
 as_first : (b : Bool) (segments : List Segment) → AllByRecursion (λ (s : Segment). is_some s.init_section ≡ b) segments → AllByRecursion (λ (s : Segment). is_some s.init_section ≡ has_init_sections segments) segments
 as_first b [] h = tt
-as_first b (s ∷ later) h = all_more (λ (t : Segment). is_some t.init_section ≡ b) (λ (t : Segment). is_some t.init_section ≡ is_some s.init_section) (s ∷ later) (λ t e. e ∙ sym h.0) h
+as_first b (s ∷ later) h = grind (arith, all_more)
 
 init_sections_alike : (segments : List Segment) → init_sections_agree segments ≡ true → AllByRecursion (λ (s : Segment). is_some s.init_section ≡ has_init_sections segments) segments
 init_sections_alike segments h = step (list_all has_init_section segments) refl (list_any has_init_section segments) refl h
@@ -59,10 +58,7 @@ is_read p r =
     record { some = n.0; numbers = n.1; with_init_sections = init_sections_alike p.segments r.init_sections }
 
 pub all_of : (P Q : Pod → Type 0) (ds : Decisions) → ((x : Pod) → P x → Q x) → AllPods P ds → AllPods Q ds
-all_of P Q (Breaks ds) f h = all_more (λ (d : List ℕ × Pod). P d.1) (λ (d : List ℕ × Pod). Q d.1) ds (λ d k. f d.1 k) h
-all_of P Q (Withdraw id) f h = tt
-all_of P Q (Fallback pod) f h = f pod h
-all_of P Q NoFallback f h = tt
+all_of P Q ds f h = grind (arith, all_more)
 
 given : (event : Event) → CanBeGiven event → IsSoundEvent event
 given (decided ds) h = all_of KeepsRules IsSoundPod ds (λ d k. kept_is_sound d k) h

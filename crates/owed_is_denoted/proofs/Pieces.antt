@@ -1,6 +1,6 @@
 -- The pieces of a stitched list can be written.
-use Rattle.std.proofs.Common.{◌≡◌, ℕ, ◌+◌, ◌<◌, ◌^◌, ℤ, Bool, true, false, not, cond, zero, suc, List, [], ◌∷◌, map, take, length, reverse, refl, ap, ◌∙◌, arith}
-use Rattle.std.specs.Prelude.{Option, Some, None, ◌&&◌, ◌||◌, ◌==◌, nat_le, nat_lt, is_some, option_map}
+use Rattle.std.proofs.Common.{◌≡◌, ℕ, ◌<◌, ◌^◌, ℤ, Bool, true, false, not, cond, zero, suc, List, [], ◌∷◌, map, take, length, reverse, refl, ap, ◌∙◌, arith}
+use Rattle.std.specs.Prelude.{Option, ◌&&◌, ◌||◌, ◌==◌, nat_le, nat_lt, is_some, option_map}
 use Rattle.std.specs.List.{list_all, list_any, AllByRecursion}
 use Rattle.std.specs.Char.{is_control}
 use Rattle.std.proofs.lemmas.Bool.{and_from, and_parts}
@@ -11,11 +11,11 @@ use mathlib.Core.List.{reverse_aux}
 use Rattle.playlist_model.specs.declared.Segment.{Segment}
 use Rattle.date_times.specs.Instant.{in_range}
 use Rattle.pod_store.specs.Pods.{PodSegment, Ad, Pod}
-use Rattle.pod_store.specs.Marks.{Mark, Marked, continues}
-use Rattle.stitcher.specs.Stitched.{Piece, is_kept, with_keys, ad_piece, ad_pieces, pieces_of_ads, pod_pieces, run_pieces, stitched, Numbers, steps_between, numbers_at, Item, numbered, fits}
+use Rattle.pod_store.specs.Marks.{Mark, Marked}
+use Rattle.stitcher.specs.Stitched.{Piece, is_kept, with_keys, ad_piece, ad_pieces, pieces_of_ads, run_pieces, stitched, Numbers, numbers_at, Item, numbered, fits}
 use Rattle.stitcher.specs.declared.OutSegment.{OutSegment}
 use Rattle.stitcher.specs.Written.{written_item}
-use Rattle.writable.specs.Fitting.{if_some, is_clean, uri_fits, byte_range_fits, effective_keys_fit, init_section_fits}
+use Rattle.writable.specs.Fitting.{if_some, is_clean, effective_keys_fit, init_section_fits}
 use Rattle.playlist_model.specs.Numbering.{follows, all_follow}
 use Rattle.playlist_write.specs.WellFormed.{resource_fits, duration_fits, segment_fits, out_numbers, numbers_fit, out_has_init_section, init_sections_agree}
 use Rattle.pod_store.specs.Laws.{segment_can_be_written, ad_can_be_written}
@@ -43,9 +43,7 @@ empty_is_clean = and_from _ _ (is_utf8-from_IsUtf8 [] IsUtf8-nil) (ap (λ cs. no
 
 segment_stands : (mark : Mark) (first : Bool) (ad : Ad) (s : PodSegment) → effective_keys_fit ad.keys ≡ true → if_some init_section_fits (option_map (with_keys ad.keys) ad.init_section) ≡ true
     → segment_can_be_written s ≡ true → piece_stands (ad_piece mark first ad s) ≡ true
-segment_stands mark first ad s k m h =
-    let a : ((uri_fits s.uri && if_some byte_range_fits s.byte_range) ≡ true) × (duration_fits s.duration ≡ true) = and_parts _ _ h in
-    and_from _ _ (and_from _ _ (and_from _ _ (and_from _ _ (and_from _ _ a.0 k) m) a.1) empty_is_clean) refl
+segment_stands mark first ad s k m h = grind (arith, and_parts, and_from, empty_is_clean)
 
 later_stand : (mark : Mark) (ad : Ad) (segments : List PodSegment) → effective_keys_fit ad.keys ≡ true → if_some init_section_fits (option_map (with_keys ad.keys) ad.init_section) ≡ true
     → list_all segment_can_be_written segments ≡ true → list_all piece_stands (map (ad_piece mark false ad) segments) ≡ true
@@ -80,8 +78,7 @@ pub record Stands (s : Marked) : Type 0 where
   pub mark : OfMark (λ (pod : Pod). pod_can_be_written pod ≡ true) s.mark
 
 run_stands : (s : Marked) (mark : Option Mark) → can_stand s.segment s.instant ≡ true → OfMark (λ (pod : Pod). pod_can_be_written pod ≡ true) mark → list_all piece_stands (run_pieces s mark) ≡ true
-run_stands s None h k = and_from _ _ h refl
-run_stands s (Some mark) h k = list_all-reverse piece_stands (pod_pieces mark) ∙ ads_stand mark mark.pod.ads k
+run_stands s mark h k = grind (arith, and_from, list_all-reverse, ads_stand)
 
 either_stands : (b : Bool) (pieces : List Piece) → list_all piece_stands pieces ≡ true → list_all piece_stands (cond b [] pieces) ≡ true
 either_stands true pieces h = refl
@@ -89,9 +86,7 @@ either_stands false pieces h = h
 
 pub pieces_stand : (history : List Marked) → AllByRecursion Stands history → list_all piece_stands (stitched history) ≡ true
 pieces_stand [] h = refl
-pieces_stand (s ∷ before) h =
-    list_all-append piece_stands (cond (continues s before) [] (run_pieces s s.mark)) (stitched before)
-    ∙ and_from _ _ (either_stands (continues s before) (run_pieces s s.mark) (run_stands s s.mark h.0.segment h.0.mark)) (pieces_stand before h.1)
+pieces_stand (s ∷ before) h = grind (arith, list_all-append, and_from, either_stands, run_stands, pieces_stand before h.1)
 
 -- ---- numbered items
 
@@ -128,12 +123,9 @@ turned_fit (y ∷ before) x later h k = let a = and_parts _ _ h in turned_fit be
 same : (n : ℕ) → (n == n) ≡ true
 same n = grind (arith, nat_tests)
 
-steps_within : (n steps : ℕ) → nat_le steps (n + steps) ≡ true
-steps_within n steps = grind (arith, nat_tests)
-
 own_steps : (first : Numbers) (p : Piece) (before : List Piece) → nat_le first.discontinuities first.discontinuity_sequence ≡ true → nat_le (numbers_at first p before).discontinuities (numbers_at first p before).discontinuity_sequence ≡ true
 own_steps first p [] h = h
-own_steps first p (q ∷ before) h = steps_within (numbers_at first q before).discontinuity_sequence (steps_between q p)
+own_steps first p (q ∷ before) h = grind arith
 
 abbrev written_at : Numbers → Piece → List Piece → OutSegment
 written_at first p before = written_item (record { piece = p; numbers = numbers_at first p before })
@@ -142,9 +134,7 @@ pub taken_fall : (first : Numbers) → nat_le first.discontinuities first.discon
     → all_fall (written_at first p before) (map written_item (take n (numbered first before))) ≡ true
 taken_fall first h zero p before = own_steps first p before h
 taken_fall first h (suc n) p [] = own_steps first p [] h
-taken_fall first h (suc n) p (q ∷ before) =
-    let m = numbers_at first q before in
-    and_from _ _ (and_from _ _ (same (m.media_sequence + 1)) (same (m.discontinuity_sequence + steps_between q p))) (taken_fall first h n q before)
+taken_fall first h (suc n) p (q ∷ before) = grind (arith, taken_fall first h n q before)
 
 map_aux : {A B : Type 0} (f : A → B) (xs acc : List A) → map f (reverse_aux xs acc) ≡ reverse_aux (map f xs) (map f acc)
 map_aux f [] acc = refl
@@ -154,18 +144,12 @@ pub window_numbers : (first : Numbers) → nat_le first.discontinuities first.di
     → numbers_fit (map written_item (reverse (take n (numbered first pieces)))) ≡ true
 window_numbers first h zero pieces k l = absurd (omega (arith, k))
 window_numbers first h (suc n) [] k l = absurd (omega (arith, l))
-window_numbers first h (suc n) (p ∷ before) k l =
-    ap numbers_fit (map_aux written_item (take (suc n) (numbered first (p ∷ before))) [])
-    ∙ turned_fit (map written_item (take n (numbered first before))) (written_at first p before) [] (taken_fall first h n p before) refl
+window_numbers first h (suc n) (p ∷ before) k l = grind (arith, map_aux, turned_fit, taken_fall)
 
 -- ---- sections
 
-has_init_section_kept : (kept : Bool) (s : Segment) (n : Numbers) → is_some (cond kept s (record s { media_sequence = n.media_sequence; discontinuity_sequence = n.discontinuity_sequence; discontinuities = n.discontinuities })).init_section ≡ is_some s.init_section
-has_init_section_kept true s n = refl
-has_init_section_kept false s n = refl
-
 pub has_init_section_item : (item : Item) → out_has_init_section (written_item item) ≡ is_some item.piece.segment.init_section
-has_init_section_item item = has_init_section_kept (is_kept item.piece) item.piece.segment item.numbers
+has_init_section_item item = grind arith
 
 all_with_init_section : (outs : List OutSegment) → AllByRecursion (λ (o : OutSegment). out_has_init_section o ≡ true) outs → list_all out_has_init_section outs ≡ true
 all_with_init_section [] h = refl
@@ -186,4 +170,4 @@ back false false h = refl
 
 pub agree : (m : Bool) (outs : List OutSegment) → AllByRecursion (λ (o : OutSegment). out_has_init_section o ≡ m) outs → init_sections_agree outs ≡ true
 agree true outs h = front _ _ (all_with_init_section outs h)
-agree false outs h = back (list_all out_has_init_section outs) (list_any out_has_init_section outs) (none_with_init_section outs h)
+agree false outs h = grind (arith, back, none_with_init_section)

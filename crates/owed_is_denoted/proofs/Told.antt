@@ -1,5 +1,5 @@
 -- What holds of all that a list of events tells: all of it can be written.
-use Rattle.std.proofs.Common.{◌≡◌, ℕ, ◌+◌, ℤ, Bool, true, false, cond, List, [], ◌∷◌, refl, ap, ◌∙◌, arith}
+use Rattle.std.proofs.Common.{◌≡◌, ℕ, ◌+◌, ℤ, Bool, true, false, cond, List, [], ◌∷◌, ap, ◌∙◌, arith}
 use Rattle.std.specs.Prelude.{Option, Some, None, is_none, filter, nat_le, ◌&&◌}
 use Rattle.std.specs.List.{list_all, AllByRecursion}
 use Rattle.std.proofs.lemmas.Bool.{and_from, and_parts}
@@ -7,11 +7,10 @@ use Rattle.std.proofs.lemmas.Bool.Decides.{nat_tests}
 use Rattle.playlist_model.specs.declared.Segment.{Segment}
 use Rattle.playlist_model.specs.declared.Playlist.{Playlist}
 use Rattle.date_times.specs.Instant.{in_range}
-use Rattle.playlist_model.specs.Instants.{begins_at, ends_at, instants_after}
+use Rattle.playlist_model.specs.Instants.{begins_at}
 use Rattle.pod_store.specs.Pods.{Pod}
 use Rattle.pod_store.specs.Marks.{Mark, Marked, newest_mark}
 use Rattle.stitcher.specs.Stitched.{Numbers, numbers_from, first_numbers}
-use Rattle.timeline.proofs.RangeLaws.{found_in_range}
 use Rattle.writable.specs.Fitting.{if_some, is_clean, effective_keys_fit, init_section_fits}
 use Rattle.playlist_write.specs.WellFormed.{resource_fits, duration_fits}
 use Rattle.read_is_writable.specs.Read.{segment_reads, uris_are_text, segment_can_be_written, numbers_are_words, numbers_read}
@@ -41,9 +40,7 @@ other_time false s before time h t = absurd (cc)
 other_time true s before time h t = and_from _ _ (and_parts _ _ h).0 t
 
 in_range_there : (ended : Option ℤ) (s : Segment) (later : List Segment) → if_some in_range (begins_at ended s later) ≡ true
-in_range_there ended s later =
-    let begun = begins_at ended s later in
-    let c : (if_some in_range begun ≡ true) × (list_all (if_some in_range) (instants_after (ends_at begun s.duration) later) ≡ true) = and_parts _ _ (found_in_range ended (s ∷ later)) in c.0
+in_range_there ended s later = grind arith
 
 newest_of : (history : List Marked) → AllByRecursion Stands history → OfMark IsWritten (newest_mark history)
 newest_of [] h = tt
@@ -81,15 +78,10 @@ first_stays m s before segments h =
     ap (λ (n : Numbers). nat_le n.discontinuities n.discontinuity_sequence) same ∙ h
 
 first_begins : (m : Moment) (segments : List Segment) → numbers_read segments ≡ true → HasFirst (show_all m [] (filter (is_new []) segments))
-first_begins m [] h = absurd (cc)
-first_begins m (s ∷ later) h =
-    let rest = filter (is_new []) later in
-    let here = next_shown m [] s rest in
-    first_stays m here [] rest (from_first s here.mark (and_parts _ _ h).0)
+first_begins m segments h = grind (arith, first_stays, from_first, and_parts)
 
 first_after : (m : Moment) (history : List Marked) (p : Playlist) → HasFirst history → numbers_read p.segments ≡ true → HasFirst (history_after m history p)
-first_after m [] p h n = first_begins m p.segments n
-first_after m (s ∷ before) p h n = first_stays m s before (filter (is_new (s ∷ before)) p.segments) h
+first_after m history p h n = grind (arith, first_begins, first_stays)
 
 -- ---- all events
 
@@ -127,5 +119,5 @@ event_good tolerance t (decided ds) g h =
 event_good tolerance t (refreshed p) g h = refusal_step (is_none (refusal tolerance t p)) (after_refresh tolerance t p) t (refresh_good tolerance t p g h) g
 
 pub good_told : (tolerance : ℕ) (events : List Event) → AllByRecursion CanBeGiven events → Good (told tolerance events)
-good_told tolerance [] h = record { pods = record { entries = tt; fallback = tt }; stands = tt; first = refl }
-good_told tolerance (event ∷ before) h = event_good tolerance (told tolerance before) event (good_told tolerance before h.1) h.0
+good_told tolerance [] h = grind arith
+good_told tolerance (event ∷ before) h = grind (arith, event_good, good_told tolerance before h.1)

@@ -1,5 +1,5 @@
 -- What is owed is well formed, and its text denotes it.
-use Rattle.std.proofs.Common.{◌≡◌, ℕ, ◌-◌, Bool, true, false, cond, zero, suc, List, [], ◌∷◌, ◌++◌, map, take, length, refl, ap, sym, ◌∙◌, inl, inr, arith}
+use Rattle.std.proofs.Common.{◌≡◌, ℕ, ◌-◌, Bool, true, false, cond, zero, suc, List, [], ◌∷◌, map, take, length, refl, ap, sym, ◌∙◌, inl, inr, arith}
 use Rattle.std.specs.Prelude.{Option, Some, None, Ok, max, is_none, is_some, not, filter}
 use Rattle.std.specs.List.{list_all, list_any, flat_map, AllByRecursion}
 use Rattle.std.proofs.lemmas.Bool.{and_from, and_parts}
@@ -11,14 +11,14 @@ use Rattle.playlist_model.specs.LookBack.{or_earlier}
 use Rattle.playlist_model.specs.Reading.{limited, unlimited}
 use Rattle.playlist_model.specs.Said.{Reader}
 use Rattle.pod_store.specs.Marks.{Marked}
-use Rattle.stitcher.specs.Stitched.{Piece, is_kept, Numbers, Item, numbered, stitched, fits, first_numbers}
+use Rattle.stitcher.specs.Stitched.{Piece, Numbers, Item, numbered, stitched, fits, first_numbers}
 use Rattle.stitcher.specs.Paced.{due_stitched, due_list}
 use Rattle.std.proofs.lemmas.List.Folds.{list_all-append}
 use Rattle.stitcher.specs.declared.OutSegment.{OutSegment}
 use Rattle.stitcher.specs.Written.{written_item}
 use Rattle.writable.specs.Fitting.{date_range_fits, says_date_range}
 use Rattle.playlist_write.specs.WellFormed.{version_fits, segment_fits, out_has_init_section, well_formed}
-use Rattle.playlist_write.specs.Denoted.{denoted, denoted_segment, denoted_date_range, date_range_told}
+use Rattle.playlist_write.specs.Denoted.{denoted, denoted_segment, denoted_date_range}
 use Rattle.playlist_write.proofs.Whole.{text_denotes}
 use Rattle.read_is_writable.specs.Read.{version_reads, IsSaid, text_is_clean}
 use Rattle.channel_spec.specs.declared.fault.RefreshFault.TheVariants.{NumberRange}
@@ -93,7 +93,7 @@ some_clean false date_ranges h = refl
 
 date_ranges_said : (date_ranges : List DateRange) → AllByRecursion (IsSaid unlimited) date_ranges → flat_map denoted_date_range (map date_range_text date_ranges) ≡ date_ranges
 date_ranges_said [] h = refl
-date_ranges_said (r ∷ later) (here, rest) = ap (λ o. date_range_told o ++ flat_map denoted_date_range (map date_range_text later)) here ∙ ap (λ rs. r ∷ rs) (date_ranges_said later rest)
+date_ranges_said (r ∷ later) (here, rest) = grind (arith, date_ranges_said later rest)
 
 module _ (t : Told) (p : Playlist) where
   abbrev stated : Bool
@@ -145,9 +145,7 @@ within true e = refl
 within false e = absurd (cc)
 
 accepted : (tolerance : ℕ) (t : Told) (p : Playlist) → refusal tolerance t p ≡ None → (succession_fault (last_playlist t.accepted) p ≡ None) × (list_all fits (due_list p.end_list (after_refresh tolerance t p).history) ≡ true)
-accepted tolerance t p e =
-    let a = or_none (succession_fault (last_playlist t.accepted) p) _ e in
-    (a.0, within (list_all fits (due_list p.end_list (after_refresh tolerance t p).history)) a.1)
+accepted tolerance t p e = grind arith
 
 now : (tolerance : ℕ) (t : Told) (p : Playlist) → refusal tolerance t p ≡ None → cond (is_none (refusal tolerance t p)) (after_refresh tolerance t p) t ≡ after_refresh tolerance t p
 now tolerance t p e = ap (λ o. cond (is_none o) (after_refresh tolerance t p) t) e
@@ -164,13 +162,9 @@ owed_is_well_formed tolerance p before g e =
 
 -- ---- denoted
 
-segment_step : (kept : Bool) (item : Item) → is_kept item.piece ≡ kept → denoted_segment (written_item item) ≡ item_segment item
-segment_step true item e = rw e refl
-segment_step false item e = rw e refl
-
 segments_denoted : (items : List Item) → map denoted_segment (map written_item items) ≡ map item_segment items
 segments_denoted [] = refl
-segments_denoted (item ∷ items) = ap (λ s. s ∷ map denoted_segment (map written_item items)) (segment_step (is_kept item.piece) item refl) ∙ ap (λ ss. item_segment item ∷ ss) (segments_denoted items)
+segments_denoted (item ∷ items) = grind (arith, segments_denoted items)
 
 pub denotes_owed : (t : Told) (p : Playlist) → CanBeRead p → denoted (owed_playlist t p) ≡ owed_for t p
 denotes_owed t p r =

@@ -1,6 +1,6 @@
 -- A pod that keeps the rules has segments, and each can be written as it stands in a stitched list.
-use Rattle.std.proofs.Common.{◌≡◌, true, List, [], ◌∷◌, length, map, refl, ap, ◌∙◌, arith}
-use Rattle.std.specs.Prelude.{Bool, Option, Some, None, option_map, nat_le, nat_lt, sum}
+use Rattle.std.proofs.Common.{◌≡◌, true, List, [], ◌∷◌, length, map, refl, ap, arith}
+use Rattle.std.specs.Prelude.{Bool, Option, option_map, nat_le}
 use Rattle.std.specs.List.{list_all}
 use Rattle.std.proofs.lemmas.Bool.{and_parts, and_from}
 use Rattle.playlist_model.specs.declared.InitSection.{InitSection}
@@ -23,16 +23,10 @@ pod_can_be_written pod = list_all ad_can_be_written (stitched_ads pod.ads)
 
 init_section_kept : (keys : List Key) (init_section : Option InitSection) → nat_le (length keys) 1 ≡ true → list_all key_keeps keys ≡ true
     → init_section_keeps init_section ≡ true → init_section_keeps (option_map (with_keys keys) init_section) ≡ true
-init_section_kept keys None n k h = refl
-init_section_kept keys (Some s) n k h = let p = and_parts _ _ h in let q = and_parts _ _ p.0 in and_from _ _ (and_from _ _ q.0 n) k
+init_section_kept keys init_section n k h = grind (arith, and_parts, and_from)
 
 ad_kept : (ad : Ad) → ad_keeps ad ≡ true → ad_keeps (stitched_ad ad) ≡ true
-ad_kept ad h =
-    let p = and_parts _ _ h in
-    let q = and_parts _ _ p.0 in
-    let r = and_parts _ _ q.0 in
-    let s = and_parts _ _ r.0 in
-    and_from _ _ (and_from _ _ (and_from _ _ (and_from _ _ (init_section_kept ad.keys ad.init_section s.1 r.1 s.0) s.1) r.1) q.1) p.1
+ad_kept ad h = grind (arith, and_parts, and_from, init_section_kept)
 
 all_kept : (ads : List Ad) → list_all ad_keeps ads ≡ true → list_all ad_keeps (stitched_ads ads) ≡ true
 all_kept [] h = refl
@@ -47,10 +41,7 @@ length_kept [] = refl
 length_kept (ad ∷ ads) = omega (arith, length_kept ads)
 
 rules_kept : (ads : List Ad) → ads_keep ads ≡ true → ads_keep (stitched_ads ads) ≡ true
-rules_kept ads h =
-    let p = and_parts _ _ h in
-    let q = and_parts _ _ p.0 in
-    and_from _ _ (and_from _ _ (ap (nat_lt 0) (length_kept ads) ∙ q.0) (ap (λ counts. nat_le (sum counts) 500) (counts_kept ads) ∙ q.1)) (all_kept ads p.1)
+rules_kept ads h = grind (arith, and_parts, and_from, length_kept, counts_kept, all_kept)
 
 pub kept_is_written : (pod : Pod) → ads_keep pod.ads ≡ true → pod_can_be_written pod ≡ true
 kept_is_written pod h = pods_can_be_written (stitched_ads pod.ads) (rules_kept pod.ads h)

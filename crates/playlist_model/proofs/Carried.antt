@@ -1,5 +1,5 @@
 -- The carried attributes of a key tag, with commas before them, are read as themselves.
-use Rattle.std.proofs.Common.{◌≡◌, ◌≢◌, ℕ, Bool, true, false, not, cond, List, [], ◌∷◌, ◌++◌, refl, ap, sym, ◌∙◌, append-nil, append_assoc, None}
+use Rattle.std.proofs.Common.{◌≡◌, ◌≢◌, ℕ, Bool, true, false, not, cond, List, [], ◌∷◌, ◌++◌, refl, ap, sym, ◌∙◌, append-nil, append_assoc, None, arith}
 use Rattle.std.specs.Prelude.{◌&&◌, filter}
 use Rattle.std.specs.List.{list_any}
 use Rattle.std.proofs.lemmas.Bool.{and_parts, and_from, or_parts, or_from, not-true, not_from_false}
@@ -15,7 +15,7 @@ attributes_are pair (next ∷ pairs) = ap (λ t. pair_spelling pair ++ 44 ∷ t)
 
 pub commas_append : (xs ys : List Pair) → after_commas (xs ++ ys) ≡ after_commas xs ++ after_commas ys
 commas_append [] ys = refl
-commas_append (x ∷ xs) ys = ap (λ t. 44 ∷ pair_spelling x ++ t) (commas_append xs ys) ∙ sym (append_assoc (44 ∷ pair_spelling x) (after_commas xs) (after_commas ys))
+commas_append (x ∷ xs) ys = grind (arith, append_assoc, commas_append xs ys)
 
 -- ---- names that were apart stay apart if some are left out
 
@@ -23,9 +23,7 @@ abbrev FreeOf : List Pair → List Pair → Type 0
 FreeOf kept before = (name : List ℕ) → list_any (is_named name) before ≡ false → list_any (is_named name) kept ≡ false
 
 none_before : (name : List ℕ) (before : List Pair) (pair : Pair) → list_any (is_named name) (before ++ pair ∷ []) ≡ false → (list_any (is_named name) before ≡ false) × (is_named name pair ≡ false)
-none_before name before pair h =
-    let a : (list_any (is_named name) before ≡ false) × (list_any (is_named name) (pair ∷ []) ≡ false) = or_parts _ _ (sym (list_any-append (is_named name) before (pair ∷ [])) ∙ h) in
-    (a.0, (or_parts (is_named name pair) false a.1).0)
+none_before name before pair h = grind (arith, or_parts, list_any-append)
 
 kept_apart : (q : Pair → Bool) (before kept later : List Pair) → FreeOf kept before → are_apart before later ≡ true → are_apart kept (filter q later) ≡ true
 kept_apart q before kept [] f h = refl
@@ -64,4 +62,4 @@ such_are_others (pair ∷ pairs) h n =
     ap (λ text. is_carried (attributes_of None text)) (sym (attributes_are pair pairs)) ∙ ap is_carried (written_is_read (pair ∷ pairs) (some_pairs pair pairs) h) ∙ ap not n
 
 pub others_are : (pairs : List Pair) → are_attributes pairs ≡ true → are_others (after_commas (carried pairs)) ≡ true
-others_are pairs h = such_are_others (carried pairs) (kept_apart (λ pair. not (is_key_attribute pair)) [] [] pairs (λ name g. g) h) (none_own pairs)
+others_are pairs h = grind (arith, such_are_others, kept_apart, none_own)

@@ -1,21 +1,15 @@
 -- What stands among the keys in force.
-use Rattle.std.proofs.Common.{◌≡◌, ℕ, Bool, true, false, not, cond, List, [], ◌∷◌, refl, ap, sym, ◌∙◌, subst}
+use Rattle.std.proofs.Common.{◌≡◌, ℕ, Bool, true, false, not, cond, List, [], ◌∷◌, refl, ap, arith}
 use Rattle.std.specs.Prelude.{Some, None, find, bytes_eq}
 use Rattle.std.proofs.lemmas.Slice.Eq.{bytes_eq-Decides}
 use Rattle.playlist_model.specs.declared.Key.{Key}
 use Rattle.playlist_model.specs.Said.{Said, no_keys, key}
 use Rattle.playlist_model.specs.LookBack.{keys_at, key_of, has_format, put_key, insert_key, without_format, is_before}
 
-found-step : (p : Key → Bool) (k j : Key) (js : List Key) → p k ≡ true → (find p js ≡ None → find p (insert_key k js) ≡ Some k)
-    → (b c : Bool) → p j ≡ c → cond c (Some j) (find p js) ≡ None → find p (cond b (k ∷ j ∷ js) (j ∷ insert_key k js)) ≡ Some k
-found-step p k j js pk ih true c e none = rw pk refl
-found-step p k j js pk ih false true e none = cc
-found-step p k j js pk ih false false e none = rw e (ih none)
-
 -- a key that is looked for, put among others that aren't, is found
 found : (p : Key → Bool) (k : Key) → p k ≡ true → (keys : List Key) → find p keys ≡ None → find p (insert_key k keys) ≡ Some k
 found p k pk [] none = rw pk refl
-found p k pk (j ∷ js) none = found-step p k j js pk (found p k pk js) (is_before k j) (p j) refl none
+found p k pk (j ∷ js) none = grind (arith, found p k pk js)
 
 other-step : (p : Key → Bool) (k j : Key) (js : List Key) → p k ≡ false → find p (insert_key k js) ≡ find p js
     → (b : Bool) → find p (cond b (k ∷ j ∷ js) (j ∷ insert_key k js)) ≡ find p (j ∷ js)
@@ -37,8 +31,7 @@ gone format [] = refl
 gone format (j ∷ js) = gone-step format j js (gone format js) (bytes_eq format j.format) refl
 
 differs : (a b c : List ℕ) (t : Bool) → bytes_eq a b ≡ false → bytes_eq b c ≡ true → bytes_eq a c ≡ t → bytes_eq a c ≡ false
-differs a b c true e h g = let same = (bytes_eq-Decides b c).0 h in let one = (bytes_eq-Decides a c).0 g in let k = (bytes_eq-Decides a b).1 (one ∙ sym same) in absurd (cc (k, e))
-differs a b c false e h g = g
+differs a b c t e h g = grind (arith, bytes_eq-Decides)
 
 kept-step : (format g : List ℕ) (j : Key) (js : List Key) → bytes_eq format g ≡ false → find (has_format format) (without_format g js) ≡ find (has_format format) js
     → (b : Bool) → bytes_eq g j.format ≡ b → find (has_format format) (cond (not b) (j ∷ without_format g js) (without_format g js)) ≡ find (has_format format) (j ∷ js)
@@ -51,16 +44,11 @@ kept format g d (j ∷ js) = kept-step format g j js d (kept format g d js) (byt
 
 put-step : (format : List ℕ) (k : Key) (keys : List Key) (b : Bool) → bytes_eq format k.format ≡ b
     → find (has_format format) (put_key k keys) ≡ cond b (Some k) (find (has_format format) keys)
-put-step format k keys true e =
-    let same = (bytes_eq-Decides format k.format).0 e in
-    found (has_format format) k e (without_format k.format keys) (subst (λ f. find (has_format f) (without_format k.format keys) ≡ None) (sym same) (gone k.format keys))
-put-step format k keys false e = other (has_format format) k e (without_format k.format keys) ∙ kept format k.format e keys
+put-step format k keys b e = grind (arith, bytes_eq-Decides, found, gone, other, kept)
 
 -- the key in force of a format is the last one since METHOD=NONE
 pub keys_are_the_last : (format : List ℕ) (before : List Said) → find (has_format format) (keys_at before) ≡ key_of format before
 keys_are_the_last format [] = refl
 keys_are_the_last format (no_keys ∷ before) = refl
-keys_are_the_last format (key k ∷ before) =
-    put-step format k (keys_at before) (bytes_eq format k.format) refl
-    ∙ ap (λ r. cond (bytes_eq format k.format) (Some k) r) (keys_are_the_last format before)
+keys_are_the_last format (key k ∷ before) = grind (arith, put-step, keys_are_the_last format before)
 keys_are_the_last format (_ ∷ before) = keys_are_the_last format before

@@ -1,5 +1,5 @@
 -- The order of keys by the bytes of their format.
-use Rattle.std.proofs.Common.{◌≡◌, ℕ, Bool, true, false, not, cond, List, [], ◌∷◌, refl, ap, sym, ◌∙◌, subst}
+use Rattle.std.proofs.Common.{◌≡◌, ℕ, Bool, true, false, not, cond, List, [], ◌∷◌, refl, ap, sym, ◌∙◌, arith}
 use Rattle.std.specs.Prelude.{bytes_eq}
 use Rattle.std.specs.List.{list_any, list_all}
 use Rattle.std.specs.Ordering.{nat_cmp, is_lt, is_eq, ordering_reverse}
@@ -8,7 +8,7 @@ use Rattle.std.specs.declared.cmp.Ordering.TheVariants.{Less, Equal, Greater}
 use Rattle.std.specs.Cmp.Lexicographic.{slice_cmp}
 use Rattle.std.proofs.lemmas.Cmp.{nat_list_cmp_total}
 use Rattle.std.proofs.lemmas.Map.Text.{is_eq-slice_cmp}
-use Rattle.std.proofs.lemmas.Bool.{and_parts, and_from, or_from, or_parts}
+use Rattle.std.proofs.lemmas.Bool.{and_parts, and_from, or_parts}
 use Rattle.std.proofs.lemmas.Slice.Eq.{bytes_eq-Decides}
 use Rattle.attr_list.proofs.Elements.{all_from}
 use Rattle.playlist_model.specs.declared.Key.{Key}
@@ -41,13 +41,13 @@ pub differ : (x k : Key) → is_before x k ≡ true → bytes_eq x.format k.form
 differ x k h = let e = is_less _ h in sym (is_eq-slice_cmp x.format k.format) ∙ ap is_eq e
 
 pub like : (y x k : Key) → bytes_eq x.format y.format ≡ true → is_before x k ≡ true → is_before y k ≡ true
-like y x k e h = subst (λ f. is_lt (slice_cmp nat_cmp f k.format) ≡ true) ((bytes_eq-Decides x.format y.format).0 e) h
+like y x k e h = grind (arith, bytes_eq-Decides)
 
 pub like_after : (y x k : Key) → bytes_eq x.format k.format ≡ true → is_before y k ≡ true → is_before y x ≡ true
-like_after y x k e h = subst (λ f. is_lt (slice_cmp nat_cmp y.format f) ≡ true) (sym ((bytes_eq-Decides x.format k.format).0 e)) h
+like_after y x k e h = grind (arith, bytes_eq-Decides)
 
 pub chained : (x y k : Key) → is_before x y ≡ true → is_before y k ≡ true → is_before x k ≡ true
-chained x y k h g = ap is_lt (nat_list_cmp_total.trans x.format y.format k.format (is_less _ h) (is_less _ g))
+chained x y k h g = grind (arith, nat_list_cmp_total, is_less)
 
 turned : (o : Ordering) → is_lt o ≡ false → is_eq o ≡ false → is_lt (ordering_reverse o) ≡ true
 turned Less h g = cc
@@ -56,9 +56,7 @@ turned Greater h g = refl
 
 -- of two keys of different formats the one stands before the other
 other_way : (k j : Key) → is_before k j ≡ false → bytes_eq k.format j.format ≡ false → is_before j k ≡ true
-other_way k j h g =
-    ap is_lt (nat_list_cmp_total.antisymm j.format k.format)
-    ∙ turned (slice_cmp nat_cmp k.format j.format) h (is_eq-slice_cmp k.format j.format ∙ g)
+other_way k j h g = grind (arith, nat_list_cmp_total, turned, is_eq-slice_cmp)
 
 -- ---- a key put among sorted keys
 
@@ -72,9 +70,7 @@ all_inserted p k (j ∷ js) h g = let a = and_parts _ _ g in step (is_before k j
 
 inserted_step : (k j : Key) (js : List Key) → list_all (is_before j) js ≡ true → are_sorted js ≡ true → bytes_eq k.format j.format ≡ false → are_sorted (insert_key k js) ≡ true
     → (b : Bool) → is_before k j ≡ b → are_sorted (cond b (k ∷ j ∷ js) (j ∷ insert_key k js)) ≡ true
-inserted_step k j js h s d ih true e =
-    and_from _ _ (and_from _ _ e (all_from (is_before j) (is_before k) js h (λ x g. chained k j x e g))) (and_from _ _ h s)
-inserted_step k j js h s d ih false e = and_from _ _ (all_inserted (is_before j) k js (other_way k j e d) h) ih
+inserted_step k j js h s d ih b e = grind (arith, and_from, all_from, chained, all_inserted, other_way)
 
 inserted : (k : Key) (keys : List Key) → are_sorted keys ≡ true → list_any (has_format k.format) keys ≡ false → are_sorted (insert_key k keys) ≡ true
 inserted k [] h g = refl
@@ -85,12 +81,7 @@ inserted k (j ∷ js) h g =
 
 none_left : (format : List ℕ) (keys : List Key) → list_any (has_format format) (without_format format keys) ≡ false
 none_left format [] = refl
-none_left format (j ∷ js) = step (bytes_eq format j.format) refl (none_left format js)
-  where
-    step : (b : Bool) → bytes_eq format j.format ≡ b → list_any (has_format format) (without_format format js) ≡ false
-        → list_any (has_format format) (cond (not b) (j ∷ without_format format js) (without_format format js)) ≡ false
-    step true e ih = ih
-    step false e ih = or_from _ _ e ih
+none_left format (j ∷ js) = grind (arith, none_left format js)
 
 left_sorted : (format : List ℕ) (keys : List Key) → are_sorted keys ≡ true → are_sorted (without_format format keys) ≡ true
 left_sorted format [] h = refl
@@ -104,7 +95,7 @@ left_sorted format (j ∷ js) h =
     step false x y = y
 
 pub put_sorted : (k : Key) (keys : List Key) → are_sorted keys ≡ true → are_sorted (put_key k keys) ≡ true
-put_sorted k keys h = inserted k (without_format k.format keys) (left_sorted k.format keys h) (none_left k.format keys)
+put_sorted k keys h = grind (arith, inserted, left_sorted, none_left)
 
 -- the keys in force are sorted, with one key for each format
 pub keys_are_sorted : (before : List Said) → are_sorted (keys_at before) ≡ true

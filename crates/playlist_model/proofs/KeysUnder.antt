@@ -1,5 +1,5 @@
 -- What stays of a key under the number of a segment.
-use Rattle.std.proofs.Common.{◌≡◌, ℕ, Bool, true, false, List, [], ◌∷◌, refl, ap, sym, Some, None}
+use Rattle.std.proofs.Common.{◌≡◌, ℕ, Bool, true, false, List, [], ◌∷◌, refl, ap, Some, None, arith}
 use Rattle.std.specs.Prelude.{Option, ◌&&◌, codes, is_none, bytes_eq, map, if◌then◌else◌}
 use Rattle.playlist_model.specs.declared.Key.{Key}
 use Rattle.playlist_model.specs.EffectiveKeys.{effective_key, key_under}
@@ -52,20 +52,9 @@ pub all_stay : (n : Option ℕ) (k : Key) → ◌≡◌ {A = Key} (record { form
 all_stay None k = refl
 all_stay (Some n) k = all_supplied (takes_iv k) n k
 
--- an IV that was supplied stays
-twice_by : (n m : ℕ) (k : Key) (i v : Bool) → bytes_eq k.format (codes "identity") ≡ i → is_none k.iv ≡ v → effective_key n (effective_key m k) ≡ effective_key m k
-twice_by n m k true true a b = simp (a, b)
-twice_by n m k true false a b = simp (a, b)
-twice_by n m k false v a b = simp (a, b)
-
 pub under_stays : (n m : ℕ) (keys : List Key) → map (effective_key m) keys ≡ map (effective_key n) (map (effective_key m) keys)
 under_stays n m [] = refl
-under_stays n m (k ∷ keys) =
-    let e = twice_by n m k (bytes_eq k.format (codes "identity")) (is_none k.iv) refl refl in
-    cons (sym e) (under_stays n m keys)
-  where
-    cons : {j k : Key} {js ks : List Key} → j ≡ k → js ≡ ks → ◌≡◌ {A = List Key} (j ∷ js) (k ∷ ks)
-    cons a b = cc
+under_stays n m (k ∷ keys) = grind (arith, under_stays n m keys)
 
 pub stated_keys : (keys : List Key) → keys ≡ map (key_under None) keys
 stated_keys [] = refl

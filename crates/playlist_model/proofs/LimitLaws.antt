@@ -1,6 +1,6 @@
 -- A reader with limits reads what the bytes denote.
-use Rattle.std.proofs.Common.{◌≡◌, ℕ, ◌+◌, Bool, true, false, not, cond, List, [], ◌∷◌, length, refl}
-use Rattle.std.specs.Prelude.{Result, Ok, Err, Option, None, codes, bytes_eq, ◌++◌}
+use Rattle.std.proofs.Common.{◌≡◌, ℕ, ◌+◌, Bool, true, false, not, cond, List, [], ◌∷◌, length, refl, arith}
+use Rattle.std.specs.Prelude.{Result, Ok, Err, Option, None}
 use Rattle.std.specs.Str.{is_utf8}
 use Rattle.std.specs.Str.Lines.{lines}
 use Rattle.url.specs.Parts.{Parts}
@@ -10,10 +10,10 @@ use Rattle.playlist_model.specs.Lines.{Kind, ignored, uri, tag, kind_of, has_con
 use Rattle.playlist_model.specs.declared.FaultKind.TheVariants as fault
 use Rattle.attr_list.specs.declared.AttrFault.{AttrFault}
 use Rattle.attr_list.specs.declared.AttrFault.TheVariants.{TooMany as TooManyAttributes}
-use Rattle.attr_list.specs.Attributes.{Pair, pieces, is_full, pair_of, add_pair, pairs_from}
+use Rattle.attr_list.specs.Attributes.{Pair, is_full, pair_of, add_pair, pairs_from}
 use Rattle.playlist_model.specs.LookBack.{keys_at, count, is_media}
 use Rattle.spec_words.specs.Outcomes.{◌>>=◌, refuse_if, mended}
-use Rattle.playlist_model.specs.Said.{Name, key_tag, init_section_tag, date_range_tag, Said, nothing, over, Outcome, Reader, attributes, key_said, init_section_said, date_range_said}
+use Rattle.playlist_model.specs.Said.{Name, key_tag, init_section_tag, date_range_tag, Said, over, Outcome, Reader, attributes, key_said, init_section_said, date_range_said}
 use Rattle.playlist_model.specs.Reading.{name_of, said_by_tag, said_by_uri, said_by_kind, said_by, said_from, at_line, Fault, and_whole, of_lines, reading, unlimited, within_formats, Denotes}
 
 -- what the one answers, the other answers too
@@ -53,8 +53,7 @@ unlimited_pair false o x h = h
 added : (before : List Pair) (o p : Result Pair AttrFault) (f g : List Pair → Result (List Pair) AttrFault)
     → Grants o p → ((pairs : List Pair) → Grants (f pairs) (g pairs)) → Grants (add_pair before o f) (add_pair before p g)
 unfolding Grants
-added before (Ok pair) p f g s t y h = let e : p ≡ Ok pair = s pair refl in rw e (t (before ++ pair ∷ []) y h)
-added before (Err e) p f g s t y h = cc
+added before o p f g s t y h = grind arith
 
 more_pairs : (most : Option ℕ) (before : List Pair) (parts : List (List ℕ)) → Grants (pairs_from most before parts) (pairs_from None before parts)
 more_pairs most before [] = itself _
@@ -67,7 +66,7 @@ told_as e (Ok x) p g y h = let same : p ≡ Ok x = g x refl in rw same h
 told_as e (Err d) p g y h = cc
 
 more_attributes : (reader : Reader) (rest : List ℕ) → Grants (attributes reader rest) (attributes unlimited rest)
-more_attributes reader rest = told_as fault.BadAttributes _ _ (more_pairs reader.attributes [] (pieces rest))
+more_attributes reader rest = grind (arith, told_as, more_pairs)
 
 more_formats : (reader : Reader) (before : List Said) (said : Said) → Grants (within_formats reader before said) (within_formats unlimited before said)
 more_formats reader before said = refused (over reader.formats (length (keys_at (said ∷ before)))) fault.TooMany (within_formats unlimited before said)
@@ -115,8 +114,7 @@ whole_step (Ok said) p g x h = let e : p ≡ Ok said = g said refl in rw e h
 whole_step (Err e) p g x h = cc
 
 of : (reader : Reader) (base : Parts) (texts : List (List ℕ)) → Grants (of_lines reader base texts) (of_lines unlimited base texts)
-of reader base [] = itself _
-of reader base (first ∷ later) = either (bytes_eq first (codes "#EXTM3U")) _ _ _ (whole_step _ _ (from reader base (nothing ∷ []) later))
+of reader base texts = grind (arith, itself, either, whole_step, from)
 
 chosen : {A E : Type 0} (b long : Bool) (e f : E) (o p : Result A E) → Grants o p → Grants (cond b (Err e) (cond long (Err f) o)) (cond b (Err e) p)
 unfolding Grants

@@ -1,5 +1,5 @@
 -- Lines are slices of their text.
-use Rattle.std.proofs.Common.{◌≡◌, ℕ, ◌+◌, ◌-◌, ◌≤◌, Bool, true, false, cond, List, [], ◌∷◌, ◌++◌, map, take, drop, length, refl, ap, ◌∙◌, arith, subst, length-append, length-take, append_assoc}
+use Rattle.std.proofs.Common.{◌≡◌, ℕ, ◌+◌, ◌-◌, ◌≤◌, Bool, true, false, cond, List, [], ◌∷◌, ◌++◌, map, take, length, refl, ap, ◌∙◌, arith, subst, length-append, length-take, append_assoc}
 use Rattle.std.specs.Prelude.{slice_range, ◌==◌, slice_index}
 use Rattle.std.specs.List.{slice_split, join_with_byte}
 use Rattle.std.specs.Str.Lines.{lines_of_parts, strip_carriage_return}
@@ -21,8 +21,7 @@ same_lines start (piece ∷ []) = same_cond (length piece == 0) start piece
 same_lines start (piece ∷ next ∷ later) = ap (λ xs. strip_carriage_return piece ∷ xs) (same_lines (start + length piece + 1) (next ∷ later))
 
 strip_step : (b : Bool) (n : ℕ) (l : List ℕ) → (n ≤ length l) → take (length (cond b (take n l) l)) l ≡ cond b (take n l) l
-strip_step true n l h = let e : length (take n l) ≡ n = length-take n l ∙ omega (arith, h) in rw e refl
-strip_step false n l h = take_all (length l) l (omega arith)
+strip_step b n l h = grind (arith, length-take, take_all)
 
 strip_short : (b : Bool) (n : ℕ) (l : List ℕ) → length (cond b (take n l) l) ≤ length l
 strip_short true n l = omega (arith, length-take n l)
@@ -31,11 +30,7 @@ strip_short false n l = omega arith
 -- a front of a piece, in its place
 in_place : (front piece rest line : List ℕ) → take (length line) piece ≡ line → length line ≤ length piece
     → slice_range (front ++ (piece ++ rest)) (length front) (length front + length line) ≡ line
-in_place front piece rest line e h =
-    let size : length front + length line - length front ≡ length line = omega arith in
-    let after : drop (length front) (front ++ (piece ++ rest)) ≡ piece ++ rest = drop-append-le (length front) front (piece ++ rest) (omega arith) ∙ ap (λ xs. xs ++ (piece ++ rest)) (drop_all (length front) front (omega arith)) in
-    let part : take (length line) (piece ++ rest) ≡ line = take-append-le (length line) piece rest h ∙ e in
-    rw (size, after) part
+in_place front piece rest line e h = grind (arith, drop-append-le, drop_all, take-append-le)
 
 abbrev joined : List (List ℕ) → List ℕ
 joined pieces = join_with_byte 10 pieces

@@ -1,6 +1,6 @@
 -- A text of printable ASCII holds no control character.
-use Rattle.std.proofs.Common.{◌≡◌, ℕ, zero, suc, ◌<◌, true, false, List, [], ◌∷◌, ap, ◌∙◌, arith}
-use Rattle.std.specs.List.{list_any, list_all}
+use Rattle.std.proofs.Common.{◌≡◌, ℕ, zero, suc, ◌<◌, true, false, List, [], ◌∷◌, arith}
+use Rattle.std.specs.List.{list_all}
 use Rattle.std.specs.Char.{is_control}
 use Rattle.std.specs.Str.{IsAscii}
 use Rattle.std.proofs.lemmas.Bool.{and_parts}
@@ -22,4 +22,4 @@ ascii (b ∷ bs) h zero = let a = and_parts _ _ h in below b a.0
 ascii (b ∷ bs) h (suc i) = let a = and_parts _ _ h in ascii bs a.1 i
 
 pub printable_has_no_control : (text : List ℕ) → list_all is_printable text ≡ true → has_control text ≡ false
-printable_has_no_control text h = ap (list_any is_control) (chars-IsAscii text (ascii text h)) ∙ none_from is_printable is_control text h no_control
+printable_has_no_control text h = grind (arith, chars-IsAscii, ascii, none_from, no_control)

@@ -1,8 +1,8 @@
 -- Keys and sections that are the same in all their parts are equal.
-use Rattle.std.proofs.Common.{◌≡◌, ℕ, Bool, true, false, List, refl, ap, sym}
-use Rattle.std.specs.Prelude.{◌==◌, ◌&&◌, bytes_eq, Some, None, Option}
+use Rattle.std.proofs.Common.{◌≡◌, ℕ, Bool, true, false, List, refl, ap, sym, arith}
+use Rattle.std.specs.Prelude.{◌&&◌, bytes_eq, Some, None, Option}
 use Rattle.std.specs.Cmp.Lexicographic.{pointwise}
-use Rattle.std.proofs.lemmas.Bool.{and_parts, and_from, eqb-true, eq-eqb}
+use Rattle.std.proofs.lemmas.Bool.{and_parts, and_from, eqb-true}
 use Rattle.std.proofs.lemmas.Slice.Eq.{bytes_eq-Decides, slice_eq-Decides}
 use Rattle.playlist_model.specs.declared.Key.{Key}
 use Rattle.playlist_model.specs.declared.ByteRange.{ByteRange}
@@ -22,26 +22,15 @@ iv_is (Some a) None h = cc
 iv_is (Some a) (Some b) h = ap Some (eqb-true a b h)
 
 pub key_is : (j k : Key) → same_key j k ≡ true → j ≡ k
-key_is j k h =
-    let a = and_parts _ _ h in let b = and_parts _ _ a.0 in let c = and_parts _ _ b.0 in let d : (bytes_eq j.format k.format ≡ true) × (bytes_eq j.method k.method ≡ true) = and_parts _ _ c.0 in
-    let f = (bytes_eq-Decides j.format k.format).0 d.0 in let m = (bytes_eq-Decides j.method k.method).0 d.1 in let u = (bytes_eq-Decides j.uri k.uri).0 c.1 in
-    let i = iv_is j.iv k.iv b.1 in let o = (bytes_eq-Decides j.other_attributes k.other_attributes).0 a.1 in key_ext _ _ _ _ _ _ _ _ _ _ f m u i o
+key_is j k h = grind (arith, and_parts, bytes_eq-Decides, iv_is, key_ext)
 
 -- ---- the same section
 
 iv_same : (a b : Option ℕ) → a ≡ b → same_option same_number a b ≡ true
-iv_same None None h = refl
-iv_same None (Some b) h = cc
-iv_same (Some a) None h = cc
-iv_same (Some a) (Some b) h = eq-eqb a b (some_is a b h)
-  where
-    some_is : (a b : ℕ) → ◌≡◌ {A = Option ℕ} (Some a) (Some b) → a ≡ b
-    some_is a b h = cc
+iv_same a b h = grind arith
 
 pub key_same : (j k : Key) → j ≡ k → same_key j k ≡ true
-key_same j k e =
-    and_from _ _ (and_from _ _ (and_from _ _ (and_from _ _ ((bytes_eq-Decides j.format k.format).1 (ap (λ x. x.format) e)) ((bytes_eq-Decides j.method k.method).1 (ap (λ x. x.method) e)))
-    ((bytes_eq-Decides j.uri k.uri).1 (ap (λ x. x.uri) e))) (iv_same j.iv k.iv (ap (λ x. x.iv) e))) ((bytes_eq-Decides j.other_attributes k.other_attributes).1 (ap (λ x. x.other_attributes) e))
+key_same j k e = grind (arith, and_from, bytes_eq-Decides, iv_same)
 
 pub keys_same : (xs ys : List Key) → xs ≡ ys → pointwise same_key xs ys ≡ true
 keys_same xs ys = (slice_eq-Decides (λ a b. (key_is a b, key_same a b)) xs ys (pointwise same_key xs ys) refl).1
@@ -50,13 +39,7 @@ pub keys_are : (xs ys : List Key) → pointwise same_key xs ys ≡ true → xs �
 keys_are xs ys = (slice_eq-Decides (λ a b. (key_is a b, key_same a b)) xs ys (pointwise same_key xs ys) refl).0
 
 pub byte_range_is : (a b : Option ByteRange) → same_option same_byte_range a b ≡ true → a ≡ b
-byte_range_is None None h = refl
-byte_range_is None (Some b) h = cc
-byte_range_is (Some a) None h = cc
-byte_range_is (Some a) (Some b) h = let p : ((a.length == b.length) ≡ true) × ((a.offset == b.offset) ≡ true) = and_parts _ _ h in ext _ _ _ _ (eqb-true _ _ p.0) (eqb-true _ _ p.1)
-  where
-    ext : (l m o p : ℕ) → l ≡ m → o ≡ p → ◌≡◌ {A = Option ByteRange} (Some (record { length = l; offset = o })) (Some (record { length = m; offset = p }))
-    ext l m o p e g = cc
+byte_range_is a b h = grind arith
 
 init_section_ext : (u v : List ℕ) (r s : Option ByteRange) (k l : List Key) → u ≡ v → r ≡ s → k ≡ l → ◌≡◌ {A = InitSection} (record { uri = u; byte_range = r; keys = k }) (record { uri = v; byte_range = s; keys = l })
 init_section_ext u v r s k l a b c = cc
@@ -75,4 +58,4 @@ none_of true true true o = refl
 
 -- keys of which one states another IV differ
 pub other_iv : (j k : Key) → same_option same_number j.iv k.iv ≡ false → false ≡ same_key j k
-other_iv j k h = rw h (sym (none_of (bytes_eq j.format k.format) (bytes_eq j.method k.method) (bytes_eq j.uri k.uri) (bytes_eq j.other_attributes k.other_attributes)))
+other_iv j k h = grind arith

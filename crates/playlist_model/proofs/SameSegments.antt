@@ -1,5 +1,5 @@
 -- Segments that are the same have equal parts.
-use Rattle.std.proofs.Common.{◌≡◌, ℕ, true, List, refl, ap, sym, ◌↔◌, []}
+use Rattle.std.proofs.Common.{◌≡◌, ℕ, true, List, refl, sym, ◌↔◌, [], arith}
 use Rattle.std.specs.Prelude.{◌==◌, bytes_eq, Some, None, Option}
 use Rattle.std.specs.Cmp.Lexicographic.{pointwise}
 use Rattle.std.proofs.lemmas.Bool.{and_parts, and_from, eqb-true, eq-eqb}
@@ -15,20 +15,10 @@ some_is : {A : Type 0} {a b : A} → ◌≡◌ {A = Option A} (Some a) (Some b) 
 some_is h = cc h
 
 byte_range_same : (a b : Option ByteRange) → a ≡ b → same_option same_byte_range a b ≡ true
-byte_range_same None None h = refl
-byte_range_same None (Some b) h = cc
-byte_range_same (Some a) None h = cc
-byte_range_same (Some a) (Some b) h =
-    let e = some_is h in and_from _ _ (eq-eqb _ _ (ap (λ (r : ByteRange). r.length) e)) (eq-eqb _ _ (ap (λ (r : ByteRange). r.offset) e))
+byte_range_same a b h = grind arith
 
 init_section_same : (a b : Option InitSection) → a ≡ b → same_option same_init_section a b ≡ true
-init_section_same None None h = refl
-init_section_same None (Some b) h = cc
-init_section_same (Some a) None h = cc
-init_section_same (Some a) (Some b) h =
-    let e = some_is h in
-    and_from _ _ (and_from _ _ ((bytes_eq-Decides a.uri b.uri).1 (ap (λ (s : InitSection). s.uri) e)) (byte_range_same a.byte_range b.byte_range (ap (λ (s : InitSection). s.byte_range) e)))
-    (keys_same a.keys b.keys (ap (λ (s : InitSection). s.keys) e))
+init_section_same a b h = grind (arith, some_is, and_from, bytes_eq-Decides, byte_range_same, keys_same)
 
 init_sections_are : (a b : Option InitSection) → same_option same_init_section a b ≡ true → a ≡ b
 init_sections_are None None h = refl
@@ -50,12 +40,7 @@ parts_are a b h =
     (keys_are a.keys b.keys k.0) (init_sections_are a.init_section b.init_section k.1) (eqb-true _ _ m.1)
 
 parts_same : (a b : Segment) → kept_parts a ≡ kept_parts b → same_segment a b ≡ true
-parts_same a b e =
-    and_from _ _
-    (and_from _ _ (and_from _ _ (eq-eqb _ _ (ap (λ (s : Segment). s.media_sequence) e)) (eq-eqb _ _ (ap (λ (s : Segment). s.discontinuity_sequence) e)))
-    (and_from _ _ (and_from _ _ ((bytes_eq-Decides a.uri b.uri).1 (ap (λ (s : Segment). s.uri) e)) (byte_range_same a.byte_range b.byte_range (ap (λ (s : Segment). s.byte_range) e)))
-    (eq-eqb _ _ (ap (λ (s : Segment). s.duration) e))))
-    (and_from _ _ (keys_same a.keys b.keys (ap (λ (s : Segment). s.keys) e)) (init_section_same a.init_section b.init_section (ap (λ (s : Segment). s.init_section) e)))
+parts_same a b e = grind (arith, and_from, eq-eqb, bytes_eq-Decides, byte_range_same, keys_same, init_section_same)
 
 pub same_segment_decides : (a b : Segment) → (same_segment a b ≡ true) ↔ (kept_parts a ≡ kept_parts b)
 same_segment_decides a b = (parts_are a b, parts_same a b)

@@ -224,8 +224,8 @@ impl Clone for Segment {
 /// A date range (EXT-X-DATERANGE; RFC 8216, section 4.3.2.7).
 #[derive(PartialEq, Drop)]
 pub struct DateRange {
-    /// ID.
-    pub id: Text,
+    /// ID. Those who know the break of this name own it too.
+    pub id: Shared<Text>,
     /// START-DATE.
     pub start: Option<Instant>,
     /// END-DATE.

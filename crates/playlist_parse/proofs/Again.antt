@@ -30,11 +30,7 @@ use Rattle.playlist_parse.proofs.Kept.{running_of, with_running, takes_tag, dura
 pub line_states : (line first stated : List ℕ) (all left : List ((ℕ × ℕ) × List ℕ)) (view : (ℕ × ℕ) × List ℕ)
     → map (λ (l : (ℕ × ℕ) × List ℕ). l.1) all ≡ lines line → all ≡ view ∷ left → left ≡ [] → view.1 ≡ first → first ≡ codes "#EXTINF:" ++ stated
     → EndsInFeed line → IsLineOf line stated
-line_states line first stated all left view texts cut none is says ends = record {
-  front = ends.front;
-  ends = ends.is;
-  is = sym texts ∙ ap (map (λ (l : (ℕ × ℕ) × List ℕ). l.1)) (cut ∙ ap (λ ls. view ∷ ls) none) ∙ ap (λ l. l ∷ []) (is ∙ says);
-}
+line_states line first stated all left view texts cut none is says ends = grind arith
 
 -- a line of EXTINF takes memory
 heavy : (line stated : List ℕ) → line ≡ codes "#EXTINF:" ++ stated → IsLight line → ⊥
@@ -70,10 +66,7 @@ shorter left line later h = let e = ap length h ∙ length-append line later in 
 pub reached_again : {base : Parts} {old new : Progress} {number : ℕ} {lines later : List ((ℕ × ℕ) × List ℕ)} (tail all : List (List ℕ))
     → list_all is_free (map line_text lines) ≡ true → IsLineAgain lines later old new → Reached base old number (map line_text lines ++ tail) all
     → Reached base new (number + 1) (map line_text later ++ tail) all
-reached_again {base = base} {old = old} {new = new} {number = number} {lines = lines} {later = later} tail all free a r =
-    let cut_free = and_parts _ _ (subst (λ ls. list_all is_free ls ≡ true) a.cut free) in
-    let at : Reached base old number (a.line ∷ (map line_text later ++ tail)) all = subst (λ left. Reached base old number (left ++ tail) all) a.cut r in
-    next at (taken_ok a.line new at (a.takes (not-true _ cut_free.0)))
+reached_again {base = base} {old = old} {new = new} {number = number} {lines = lines} {later = later} tail all free a r = grind (arith, and_parts, next, taken_ok, not-true)
 
 -- no fault of lines that take no memory is still to be met
 pub told_again : {base : Parts} {old new : Progress} {number : ℕ} {lines later : List ((ℕ × ℕ) × List ℕ)} (tail : List (List ℕ)) (e : Fault)

@@ -1,10 +1,8 @@
 -- Known date ranges, some of which stand again.
-use Rattle.std.proofs.Common.{◌≡◌, ℕ, ◌<◌, get_or, zero, suc, List, [], ◌∷◌, ◌++◌, length, take, ap, sym, ◌∙◌, Some, arith, subst}
+use Rattle.std.proofs.Common.{◌≡◌, ℕ, ◌<◌, get_or, zero, suc, List, [], ◌∷◌, ◌++◌, length, take, ap, sym, Some, arith, subst}
 use Rattle.std.specs.Prelude.{slice_get}
 use Rattle.std.proofs.lemmas.List.{append-nil}
 use Rattle.playlist_model.specs.declared.DateRange.{DateRange}
-use Rattle.playlist_model.specs.Said.{date_range_said}
-use Rattle.playlist_model.specs.Reading.{limited}
 use Rattle.playlist_parse.specs.Inner.DateRanges.{IsSaid, AreSaid, StandsAt, Adds}
 
 pub said_later : (one : DateRange) (later list : List DateRange) → list ≡ one ∷ later → AreSaid list → AreSaid later
@@ -28,9 +26,5 @@ one_more (x ∷ later) (suc place) one e = ap (λ ys. x ∷ ys) (one_more later 
 -- the one that comes next is taken
 pub met_next : (old known list now : List DateRange) (place more : ℕ) (rest : List ℕ) → take place old ++ list ≡ now → length list ≡ 0 → AreSaid known → take place known ≡ take place old → more ≡ suc place
     → StandsAt known place rest → Adds rest now (take more known ++ list)
-met_next old known [] now place more rest view_is none said same is s = record {
-  one = s.one;
-  said = ap (date_range_said limited) (sym s.same) ∙ said_at known place s.one said s.here;
-  is = append-nil (take more known) ∙ (ap (λ n. take n known) is ∙ (one_more known place s.one s.here ∙ ap (λ xs. xs ++ s.one ∷ []) (same ∙ (sym (append-nil (take place old)) ∙ view_is))));
-}
+met_next old known [] now place more rest view_is none said same is s = grind (arith, said_at, append-nil, one_more)
 met_next old known (x ∷ later) now place more rest view_is none said same is s = absurd (omega (arith, none))

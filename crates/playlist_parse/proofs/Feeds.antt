@@ -1,5 +1,5 @@
 -- Where the first line feed of a text stands.
-use Rattle.std.proofs.Common.{◌≡◌, ℕ, ◌+◌, ◌-◌, ◌<◌, List, take, drop, length, arith, sym, ◌∙◌, ap}
+use Rattle.std.proofs.Common.{◌≡◌, ℕ, ◌+◌, ◌<◌, List, drop, length, arith}
 use Rattle.std.specs.List.{position_or_len, before_first, after_first, slice_range}
 use Rattle.std.specs.Str.{IsUtf8, IsCharBoundary}
 use Rattle.std.proofs.lemmas.Bool.{false_from_ne_true, eqb-true}
@@ -13,21 +13,14 @@ no_feed text none =
     position_or_len_is is_feed text (length text) 0 (omega arith) (λ k lt. false_from_ne_true _ (none k (omega arith) lt)) (λ lt. absurd (omega (arith, lt)))
 
 pub first_feed : (text : List ℕ) (at : ℕ) → NoneBefore (Passes (is_byte 10) text) 0 (length text) at × Passes (is_byte 10) text at → position_or_len is_feed text ≡ at
-first_feed text at h =
-    let within = h.0.high in
-    position_or_len_is is_feed text at 0 (omega (arith, within)) (λ k lt. false_from_ne_true _ (h.0.before k (omega arith) lt)) (λ _. h.1)
+first_feed text at h = grind (arith, position_or_len_is, false_from_ne_true)
 
 -- a character begins after a line feed
 pub feed_ends : (text : List ℕ) (at : ℕ) → IsUtf8 text → at < length text → Passes (is_byte 10) text at → IsCharBoundary text (at + 1)
-feed_ends text at utf8 h feed =
-    let ten = eqb-true _ _ feed in IsCharBoundary-after_ascii text at utf8 h (omega (arith, ten))
+feed_ends text at utf8 h feed = grind (arith, eqb-true, IsCharBoundary-after_ascii)
 
 -- what stands on either side of the first line feed
 pub cut : (text before after : List ℕ) (at : ℕ) → NoneBefore (Passes (is_byte 10) text) 0 (length text) at × Passes (is_byte 10) text at
     → before ≡ slice_range text 0 at → after ≡ drop (at + 1) text
     → (position_or_len is_feed text < length text) × (before ≡ before_first is_feed text) × (after ≡ after_first is_feed text)
-cut text before after at h before_is after_is =
-    let e = first_feed text at h in
-    let within = h.0.high in
-    let cut_at : at - 0 ≡ position_or_len is_feed text = omega (arith, e) in
-    (omega (arith, e, within), before_is ∙ ap (λ k. take k text) cut_at, after_is ∙ ap (λ k. drop (k + 1) text) (sym e))
+cut text before after at h before_is after_is = grind (arith, first_feed)

@@ -1,36 +1,34 @@
 -- A reading that goes on with lines that were read before.
 use Rattle.std.proofs.Common.{◌≡◌, ℕ, ◌+◌, ◌-◌, ◌<◌, ◌≤◌, Bool, true, List, [], ◌∷◌, ◌++◌, take, drop, length, refl, ap, sym, ◌∙◌, arith, subst, length-append, append_assoc}
-use Rattle.std.specs.Prelude.{ℤ, ◌&&◌, Option, None, Some, Result, Ok, Err, IfOk, OnOk, MatchOption, unwrap_or}
+use Rattle.std.specs.Prelude.{◌&&◌, Option, None, Some, Result, Ok, Err, IfOk, OnOk, MatchOption, unwrap_or}
 use Rattle.std.specs.List.{list_all}
 use Rattle.std.proofs.lemmas.Bool.{and_parts}
 use Rattle.std.specs.Str.Lines.{lines}
 use Rattle.std.proofs.lemmas.List.{append-nil, drop-append-le, drop_all, take_all, take-append-le}
 use Rattle.std.proofs.Math.Seq.{take-append_seam}
 use Rattle.url.specs.Parts.{Parts}
-use Rattle.playlist_model.specs.declared.Key.{Key}
-use Rattle.playlist_model.specs.declared.InitSection.{InitSection}
 use Rattle.playlist_model.specs.declared.Segment.{Segment}
 use Rattle.playlist_model.specs.declared.DateRange.{DateRange}
 use Rattle.playlist_model.specs.declared.Playlist.{Playlist}
-use Rattle.playlist_model.specs.declared.PlaylistKind.{PlaylistKind}
-use Rattle.playlist_model.specs.Said.{Said, nothing, media, date_range, Outcome}
-use Rattle.playlist_model.specs.LookBack.{Standing, standing_at, Extent, latest, the_sequence, the_discontinuity_sequence, is_media, is_discontinuity, count, segments_of, segment_at, date_ranges_of}
+use Rattle.playlist_model.specs.Said.{Said, nothing, media, Outcome}
+use Rattle.playlist_model.specs.LookBack.{Standing, standing_at, latest, the_sequence, the_discontinuity_sequence, is_media, count, segments_of, date_ranges_of}
 use Rattle.playlist_model.specs.Inner.Heading.{Heading, heading_at}
 use Rattle.playlist_model.specs.Reading.{has, said_by, said_from, at_line, limited, playlist_of, Fault}
 use Rattle.segment_state.specs.Continued.{Stop, IsStop, stopped_at}
 use Rattle.playlist_parse.specs.Inner.Progress.{Progress, progress_at}
 use Rattle.playlist_parse.specs.Inner.Reached.{Reached, left_in}
 use Rattle.playlist_parse.specs.declared.reading.Reading.{Reading}
-use Rattle.playlist_parse.specs.declared.read_playlist.Places.{Places}
-use Rattle.playlist_parse.specs.declared.source.Source.{Source}
-use Rattle.playlist_parse.specs.Inner.Places.{StandInBoth}
-use Rattle.playlist_parse.specs.Kept.{AreKeptLines}
+use Rattle.playlist_kept.specs.declared.read_playlist.Places.{Places}
+use Rattle.playlist_kept.specs.declared.source.Source.{Source}
+use Rattle.playlist_kept.specs.Places.{StandInBoth}
+use Rattle.playlist_kept.specs.Kept.{AreKeptLines}
 use Rattle.playlist_parse.specs.Inner.Resumed.{Scene, scene_at, Alike, Resumed}
 use Rattle.playlist_parse.specs.Inner.LineViews.{is_free}
 use Rattle.playlist_parse.specs.Inner.Source.{Agree, TakesOver, AreLinesOf, Grown, gone_to, gone_after}
 use Rattle.playlist_parse.specs.Inner.HeadingView.{heading_view}
-use Rattle.playlist_parse.specs.KeptLines.{KeptLines, SaysOfAll, WasRead}
-use Rattle.playlist_parse.specs.declared.progress.ReadHeading.{ReadHeading}
+use Rattle.playlist_kept.specs.KeptLines.{SaysOfAll, WasRead}
+use Rattle.playlist_kept.specs.declared.source.KeptLines.{KeptLines}
+use Rattle.playlist_kept.specs.declared.heading.ReadHeading.{ReadHeading}
 use Rattle.playlist_parse.proofs.GoingOn.{goes_on}
 
 -- ---- lines after lines
@@ -67,31 +65,17 @@ scene_of heading stop = record {
   extent = stop.extent;
 }
 
-scene_ext : (g h : Heading) (n m d e s t : ℕ) (u v : Option (ℕ × List ℕ)) (a b : Option (ℕ × Option ℕ)) (i j : Option ℤ) (k l : List Key) (o p : Option InitSection) (x y : Option Extent)
-    → g ≡ h → n ≡ m → d ≡ e → s ≡ t → u ≡ v → a ≡ b → i ≡ j → k ≡ l → o ≡ p → x ≡ y
-    → ◌≡◌ {A = Scene} (record { heading = g; number = n; discontinuity = d; steps = s; duration = u; byte_range = a; time = i; keys = k; init_section = o; extent = x })
-    (record { heading = h; number = m; discontinuity = e; steps = t; duration = v; byte_range = b; time = j; keys = l; init_section = p; extent = y })
-scene_ext g h n m d e s t u v a b i j k l o p x y e1 e2 e3 e4 e5 e6 e7 e8 e9 e10 = cc
-
 scene_is : (before : List Said) (heading : Heading) (stop : Stop) → heading_at before ≡ heading → IsStop (standing_at before) stop → scene_at before ≡ scene_of heading stop
-scene_is before heading stop h s =
-    scene_ext _ _ _ _ _ _ _ _ _ _ _ _ _ _ _ _ _ _ _ _ h s.number s.discontinuity s.between.steps s.between.duration s.between.byte_range s.between.time s.keys s.init_section s.extent
+scene_is before heading stop h s = grind arith
 
 pub count_segments : (before : List Said) → length (segments_of before) ≡ count is_media before
 count_segments [] = refl
-count_segments (media resource ∷ before) =
-    let more : length (segments_of before ++ segment_at before resource ∷ []) ≡ length (segments_of before) + 1 = length-append (segments_of before) (segment_at before resource ∷ []) ∙ omega arith in
-    let there = count_segments before in
-    omega (arith, more, there)
+count_segments (media resource ∷ before) = grind (arith, length-append, count_segments before)
 count_segments (_ ∷ before) = count_segments before
 
 pub alike_at : (old new : List Said) (stop : Stop) → IsStop (standing_at old) stop → IsStop (standing_at new) stop → heading_at old ≡ heading_at new → has is_media old ≡ true
     → length (segments_of new) ≤ length (segments_of old) → Alike old new
-alike_at old new stop s t h some fewer = record {
-  scene = scene_is old (heading_at new) stop h s ∙ sym (scene_is new (heading_at new) stop refl t);
-  media = some;
-  fewer = let one = count_segments old in let other = count_segments new in omega (arith, one, other, fewer);
-}
+alike_at old new stop s t h some fewer = grind (arith, scene_is, count_segments)
 
 -- ---- parts of lists
 
@@ -104,25 +88,14 @@ taken_all xs n h = sym (take_all n xs h)
 -- ---- what is reached
 
 drop_front : {A : Type 0} (xs ys : List A) → drop (length xs) (xs ++ ys) ≡ ys
-drop_front xs ys = drop-append-le (length xs) xs ys (omega arith) ∙ ap (λ zs. zs ++ ys) (drop_all (length xs) xs (omega arith))
-
-standing_ext : (a b c d e f g h i j : ℕ) (u v : Option (ℕ × List ℕ)) (q r : Option (ℕ × Option ℕ)) (s t : Option ℤ) (k l : List Key) (o p : Option InitSection) (x y : Option Extent)
-    → a ≡ b → c ≡ d → e ≡ f → g ≡ h → i ≡ j → u ≡ v → q ≡ r → s ≡ t → k ≡ l → o ≡ p → x ≡ y
-    → ◌≡◌ {A = Standing} (record { media_sequence = a; discontinuity_sequence = c; media_count = e; discontinuity_count = g; discontinuities = i; duration = u; byte_range = q; program_date_time = s; keys = k; init_section = o; extent = x })
-    (record { media_sequence = b; discontinuity_sequence = d; media_count = f; discontinuity_count = h; discontinuities = j; duration = v; byte_range = r; program_date_time = t; keys = l; init_section = p; extent = y })
-standing_ext a b c d e f g h i j u v q r s t k l o p x y e1 e2 e3 e4 e5 e6 e7 e8 e9 e10 e11 = cc
+drop_front xs ys = grind (arith, drop-append-le, drop_all)
 
 counted : (first stated n number : ℕ) → first ≡ stated → stated + n ≡ number → number - first ≡ n
 counted first stated n number h k = omega (arith, h, k)
 
 stopped_is : (s : Standing) (stop : Stop) (heading : Heading) (said : List Said) → s.media_sequence ≡ unwrap_or (latest the_sequence said) 0
     → s.discontinuity_sequence ≡ unwrap_or (latest the_discontinuity_sequence said) 0 → scene_at said ≡ scene_of heading stop → stopped_at s stop ≡ standing_at said
-stopped_is s stop heading said first step e =
-    standing_ext _ _ _ _ _ _ _ _ _ _ _ _ _ _ _ _ _ _ _ _ _ _ first step
-    (counted s.media_sequence (unwrap_or (latest the_sequence said) 0) (count is_media said) stop.number first (ap (λ (x : Scene). x.number) e))
-    (counted s.discontinuity_sequence (unwrap_or (latest the_discontinuity_sequence said) 0) (count is_discontinuity said) stop.discontinuity step (ap (λ (x : Scene). x.discontinuity) e))
-    (sym (ap (λ (x : Scene). x.steps) e)) (sym (ap (λ (x : Scene). x.duration) e)) (sym (ap (λ (x : Scene). x.byte_range) e)) (sym (ap (λ (x : Scene). x.time) e))
-    (sym (ap (λ (x : Scene). x.keys) e)) (sym (ap (λ (x : Scene). x.init_section) e)) (sym (ap (λ (x : Scene). x.extent) e))
+stopped_is s stop heading said first step e = grind arith
 
 progress_ext : (a b : Parts) (g h : Heading) (s t : Standing) (d e : List DateRange) (x y : List Segment) → a ≡ b → g ≡ h → s ≡ t → d ≡ e → x ≡ y
     → ◌≡◌ {A = Progress} (record { base = a; heading = g; standing = s; date_ranges = d; segments = x }) (record { base = b; heading = h; standing = t; date_ranges = e; segments = y })
@@ -130,29 +103,13 @@ progress_ext a b g h s t d e x y e1 e2 e3 e4 e5 = cc
 
 -- what is taken over of a list
 taken : {A : Type 0} (here now there whole front all more : List A) → here ≡ front → there ≡ drop (length now) whole → now ≡ all → whole ≡ all ++ more → here ++ there ≡ front ++ more
-taken here now there whole front all more h t n w =
-    ap (λ xs. xs ++ there) h ∙ ap (λ xs. front ++ xs) (t ∙ ap (λ xs. drop (length xs) whole) n ∙ ap (λ xs. drop (length all) xs) w ∙ drop_front all more)
-
-heading_ext : (a b c d : Option ℕ) (k l : Option PlaylistKind) (e f g h i j m n o p : Bool) → a ≡ b → c ≡ d → k ≡ l → e ≡ f → g ≡ h → i ≡ j → m ≡ n → o ≡ p
-    → ◌≡◌ {A = Heading} (record { version = a; target_duration = c; playlist_type = k; independent_segments = e; end_list = g; has_sequence = i; has_discontinuity_sequence = m; has_media = o })
-    (record { version = b; target_duration = d; playlist_type = l; independent_segments = f; end_list = h; has_sequence = j; has_discontinuity_sequence = n; has_media = p })
-heading_ext a b c d k l e f g h i j m n o p e1 e2 e3 e4 e5 e6 e7 e8 = cc
+taken here now there whole front all more h t n w = grind (arith, drop_front)
 
 heading_was : (heading : ReadHeading) (before : List Said) → SaysOfAll heading before → heading_at before ≡ heading_view heading
-heading_was heading before h =
-    heading_ext _ _ _ _ _ _ _ _ _ _ _ _ _ _ _ _ h.version h.target_duration h.playlist_type h.independent_segments h.end_list h.has_sequence h.has_discontinuity_sequence h.has_media
+heading_was heading before h = grind arith
 
 heading_says : (heading : ReadHeading) (before : List Said) → heading_at before ≡ heading_view heading → SaysOfAll heading before
-heading_says heading before h = record {
-  version = ap (λ (h : Heading). h.version) h;
-  target_duration = ap (λ (h : Heading). h.target_duration) h;
-  playlist_type = ap (λ (h : Heading). h.playlist_type) h;
-  independent_segments = ap (λ (h : Heading). h.independent_segments) h;
-  end_list = ap (λ (h : Heading). h.end_list) h;
-  has_sequence = ap (λ (h : Heading). h.has_sequence) h;
-  has_discontinuity_sequence = ap (λ (h : Heading). h.has_discontinuity_sequence) h;
-  has_media = ap (λ (h : Heading). h.has_media) h;
-}
+heading_says heading before h = grind arith
 
 module _ (base : Parts) (p q new : Progress) (n m k : ℕ) (left left_now lines_here lines_there : List (List ℕ)) (common : List ℕ) (source : KeptLines) (all : List Segment) (ranges : List DateRange)
     (here : Reached base p n left lines_here) (there : Reached base q m (lines common) lines_there) (was : WasRead base source all ranges)
@@ -229,22 +186,16 @@ took_over old front new common source agree same cut is number = λ base was the
 
 -- if nothing changed, nothing has to be shown
 pub stayed : (front old new : Reading) (source : Source) → new ≡ old → TakesOver front source old new
-stayed front old new source is = λ base was there tail all here. subst (λ (x : Reading). Reached base x.progress x.number (left_in x ++ tail) all) (sym is) here
+stayed front old new source is = grind arith
 
 -- what stands at these places was taken over
 pub taken_over : (old front new : Progress) (source : Source) (places : Places) → new ≡ gone_after old front source → places.start ≡ length old.segments → places.end ≡ length new.segments
     → places.from ≡ length front.segments → places.till ≡ source.lines.segments → StandInBoth source.segments.items new.segments places
-taken_over old front new source places is start end from till =
-    let segments : new.segments ≡ old.segments ++ drop (length front.segments) (take source.lines.segments source.segments.items) = ap (λ (x : Progress). x.segments) is in record {
-      ordered = let size = ap length segments ∙ length-append old.segments _ in omega (arith, size, start, end);
-      within = omega (arith, end);
-      same = ap (λ n. drop n (take places.end new.segments)) start ∙ ap (drop (length old.segments)) (take_all places.end new.segments (omega (arith, end)) ∙ segments)
-          ∙ drop_front old.segments _ ∙ ap (λ n. drop n (take source.lines.segments source.segments.items)) (sym from) ∙ ap (λ n. drop places.from (take n source.segments.items)) (sym till);
-    }
+taken_over old front new source places is start end from till = grind (arith, length-append, take_all, drop_front)
 
 -- nothing was taken over
 pub none_taken : (old new : List Segment) (places : Places) → places ≡ record { start = 0; end = 0; from = 0; till = 0 } → StandInBoth old new places
-none_taken old new places none = subst (StandInBoth old new) (sym none) (record { ordered = omega arith; within = omega arith; same = refl })
+none_taken old new places none = grind arith
 
 pub plain_after : (front left later : List (List ℕ)) → left ≡ front ++ later → list_all is_free left ≡ true → list_all is_free later ≡ true
 plain_after front left later is h = dropped front later (ap (list_all is_free) (sym is) ∙ h)
@@ -283,19 +234,7 @@ record Follows (before all : List Said) : Type 0 where
   date_ranges_are : date_ranges_of all ≡ date_ranges_of before ++ date_ranges
 
 one_more : (said : Said) (before all : List Said) → Follows (said ∷ before) all → Follows before all
-one_more (media resource) before all f = record {
-  segments = segment_at before resource ∷ f.segments;
-  date_ranges = f.date_ranges;
-  segments_are = f.segments_are ∙ append_assoc (segments_of before) (segment_at before resource ∷ []) f.segments;
-  date_ranges_are = f.date_ranges_are;
-}
-one_more (date_range range) before all f = record {
-  segments = f.segments;
-  date_ranges = range ∷ f.date_ranges;
-  segments_are = f.segments_are;
-  date_ranges_are = f.date_ranges_are ∙ append_assoc (date_ranges_of before) (range ∷ []) f.date_ranges;
-}
-one_more _ before all f = record { segments = f.segments; date_ranges = f.date_ranges; segments_are = f.segments_are; date_ranges_are = f.date_ranges_are }
+one_more said before all f = grind (arith, append_assoc)
 
 line_follows : (n : ℕ) (o : Outcome Said) (f : Said → Result (List Said) Fault) (before all : List Said) → ((said : Said) → f said ≡ Ok all → Follows (said ∷ before) all)
     → at_line n o f ≡ Ok all → Follows before all
@@ -330,33 +269,15 @@ further {base = base} here end =
 
 -- what was taken over of some segments is taken over of these and more
 pub taken_on : {old xs : List Segment} {places : Places} (ys more : List Segment) → ys ≡ xs ++ more → StandInBoth old xs places → StandInBoth old ys places
-taken_on {xs = xs} {places = places} ys more is a =
-    let size : length ys ≡ length xs + length more = ap length is ∙ length-append xs more in record {
-      ordered = a.ordered;
-      within = omega (arith, a.within, size);
-      same = ap (drop places.start) (ap (take places.end) is ∙ take-append-le places.end xs more a.within) ∙ a.same;
-    }
+taken_on {xs = xs} {places = places} ys more is a = grind (arith, length-append, take-append-le)
 
 front_is : {A : Type 0} (all front more : List A) (n : ℕ) → all ≡ front ++ more → n ≡ length front → front ≡ take n all
-front_is all front more n is count = sym (take-append_seam front more) ∙ ap (λ k. take k (front ++ more)) (sym count) ∙ ap (take n) (sym is)
+front_is all front more n is count = grind (arith, take-append_seam)
 
 -- what is kept of the lines that were read so far
 kept : {base : Parts} {p : Progress} {number : ℕ} (text : List ℕ) (source : KeptLines) (playlist : Playlist) → Reached base p number [] (lines text)
     → length (lines text) < 9223372036854775808 → AreLinesOf text p number source → Grown p playlist → WasRead base source playlist.segments playlist.date_ranges
-kept {p = p} text source playlist r few is g =
-    let ranges = ap (λ (x : Progress). x.date_ranges) r.progress_is in
-    let segments = ap (λ (x : Progress). x.segments) r.progress_is in
-    let heading : heading_at r.before ≡ heading_view source.heading = sym (ap (λ (x : Progress). x.heading) r.progress_is) ∙ sym is.heading in
-    let same = ap lines is.text_is in record {
-      before = r.before;
-      few = subst (λ ls. length ls < 9223372036854775808) (sym same) few;
-      read = ap (said_from (said_by limited _) (nothing ∷ [])) same ∙ sym r.rest;
-      next = r.count ∙ sym is.next;
-      heading = heading_says source.heading r.before heading;
-      stop = subst (λ s. IsStop s source.stop) (ap (λ (x : Progress). x.standing) r.progress_is) is.stop;
-      segments = sym segments ∙ front_is playlist.segments p.segments g.segments source.segments g.segments_are is.segments;
-      date_ranges = sym ranges ∙ front_is playlist.date_ranges p.date_ranges g.date_ranges source.date_ranges g.date_ranges_are is.date_ranges;
-    }
+kept {p = p} text source playlist r few is g = grind (arith, heading_says, front_is)
 
 pub kept_source : {base : Parts} {p : Progress} {number : ℕ} (text : List ℕ) (source : Option KeptLines) (playlist : Playlist) → Reached base p number [] (lines text)
     → length (lines text) < 9223372036854775808 → MatchOption source (Unit {0}) (λ s. AreLinesOf text p number s) → Grown p playlist → AreKeptLines base playlist source

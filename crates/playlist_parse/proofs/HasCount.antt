@@ -16,4 +16,4 @@ step false n any h = h
 -- some line passes exactly if more than none do
 pub has_count : (p : Said → Bool) (before : List Said) → nat_lt 0 (count p before) ≡ list_any p before
 has_count p [] = refl
-has_count p (said ∷ before) = step (p said) (count p before) (list_any p before) (has_count p before)
+has_count p (said ∷ before) = grind (arith, has_count p before)

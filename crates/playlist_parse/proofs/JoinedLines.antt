@@ -1,5 +1,5 @@
 -- The lines of two texts, one after the other, the first of which ends with a line feed.
-use Rattle.std.proofs.Common.{◌≡◌, ℕ, ◌+◌, ◌≤◌, Bool, true, false, cond, List, [], ◌∷◌, ◌++◌, map, length, refl, ap, sym, ◌∙◌, arith, subst}
+use Rattle.std.proofs.Common.{◌≡◌, ℕ, ◌+◌, ◌≤◌, Bool, true, false, cond, List, [], ◌∷◌, ◌++◌, map, length, refl, ap, sym, arith, subst}
 use Rattle.std.specs.Prelude.{◌==◌}
 use Rattle.std.specs.List.{slice_split, onto_first}
 use Rattle.std.specs.Str.Lines.{lines, lines_of_parts, strip_carriage_return}
@@ -61,10 +61,7 @@ append_none [] = refl
 append_none (x ∷ xs) = ap (λ ys. x ∷ ys) (append_none xs)
 
 joined_cut : (front back : List ℕ) → Cut front → lines (front ++ back) ≡ lines front ++ lines back
-joined_cut front back c =
-    let some : 1 ≤ length (slice_split is_feed back) = omega (arith, length-slice_split is_feed back) in
-    let own : lines front ≡ map strip_carriage_return (c.piece ∷ c.pieces) = ap lines_of_parts c.own ∙ stripped c.piece c.pieces [] [] ∙ append_none (map strip_carriage_return (c.piece ∷ c.pieces)) in
-    ap lines_of_parts (c.joined back) ∙ stripped_before c.piece c.pieces (slice_split is_feed back) some ∙ ap (λ xs. xs ++ lines back) (sym own)
+joined_cut front back c = grind (arith, length-slice_split, stripped, append_none, stripped_before)
 
 pub joined_lines : (front back : List ℕ) → EndsInFeed front → lines (front ++ back) ≡ lines front ++ lines back
 joined_lines front back h = joined_cut front back (subst Cut (sym h.is) (cut h.front))
@@ -72,5 +69,4 @@ joined_lines front back h = joined_cut front back (subst Cut (sym h.is) (cut h.f
 -- the lines of a text from a place on, of which a front ends with a line feed
 pub after_front : (start more : ℕ) (text front later : List ℕ) → text ≡ front ++ later → EndsInFeed front
     → map line_text (lines_from start text) ≡ lines front ++ map line_text (lines_from more later)
-after_front start more text front later is h =
-    texts_from start text ∙ ap lines is ∙ joined_lines front later h ∙ ap (λ xs. lines front ++ xs) (sym (texts_from more later))
+after_front start more text front later is h = grind (arith, texts_from, joined_lines)

@@ -1,17 +1,13 @@
 -- A tag that changes what stands and nothing else of a reading.
-use Rattle.std.proofs.Common.{◌≡◌, ◌≢◌, ℕ, Bool, true, false, List, ◌∷◌, refl, ap, sym, ◌∙◌, subst}
-use Rattle.std.specs.Prelude.{Result, Ok, Err, IsOk, MatchResult, codes, bytes_eq, if◌then◌else◌}
+use Rattle.std.proofs.Common.{◌≡◌, ◌≢◌, ℕ, Bool, true, false, List, ◌∷◌, refl, ap, sym, ◌∙◌, subst, arith}
+use Rattle.std.specs.Prelude.{Result, Ok, Err, IsOk, MatchResult}
 use Rattle.url.specs.Parts.{Parts}
-use Rattle.attr_list.specs.Attributes.{Pair, attribute, is_comma}
 use Rattle.playlist_model.specs.declared.FaultKind.{FaultKind}
-use Rattle.spec_words.specs.Outcomes.{◌>>=◌, refuse_if, optional, or_fault, mended}
-use Rattle.playlist_model.specs.Said.{Reader, key_tag, init_section_tag, time_tag, duration_tag, Said, no_keys, Outcome, attributes, required, set_key, key_said, init_section_said, init_section_byte_range, iv_of, quoted_of, uri_of}
-use Rattle.date_times.specs.Instant.{instant_of}
-use Rattle.fixed_duration.specs.Duration.{duration_of}
-use Rattle.std.specs.List.{before_first}
+use Rattle.spec_words.specs.Outcomes.{◌>>=◌, refuse_if}
+use Rattle.playlist_model.specs.Said.{Reader, key_tag, init_section_tag, time_tag, duration_tag, Said, Outcome, key_said}
 use Rattle.playlist_model.specs.declared.FaultKind.TheVariants as fault
 use Rattle.playlist_model.specs.LookBack.{Standing, standing_at, with_said}
-use Rattle.playlist_model.specs.Reading.{said_by_tag, within_formats, with_ivs}
+use Rattle.playlist_model.specs.Reading.{said_by_tag}
 use Rattle.segment_state.specs.Running.{Running, running_at, Takes as StateTakes, TakesExactly}
 use Rattle.playlist_parse.specs.Inner.Progress.{Progress, progress_at, TakesLine}
 
@@ -34,48 +30,24 @@ says_after : (o : Outcome Said) (f : Said → Outcome Said) → Says o → ((sai
 says_after (Ok said) f o_says h = h said o_says
 says_after (Err e) f o_says h = record {}
 
-says_either : (b : Bool) (x y : Outcome Said) → Says x → Says y → Says (if b then x else y)
-says_either true x y h k = h
-says_either false x y h k = k
-
 says_unless : (b : Bool) (e : FaultKind) (o : Outcome Said) → Says o → Says (refuse_if b e o)
 says_unless true e o h = record {}
 says_unless false e o h = h
 
-says_set : (base : Parts) (pairs : List Pair) (method : List ℕ) → Says (set_key base pairs method)
-says_set base pairs method =
-    says_then (required true (attribute pairs (codes "URI"))) _ (λ reference.
-    says_then (optional iv_of (attribute pairs (codes "IV"))) _ (λ iv.
-    says_then (optional quoted_of (attribute pairs (codes "KEYFORMAT"))) _ (λ format.
-    says_then (uri_of base reference) _ (λ resource. λ b before. refl))))
-
 says_key : (reader : Reader) (base : Parts) (rest : List ℕ) → Says (key_said reader base rest)
-says_key reader base rest =
-    says_then (attributes reader rest) _ (λ pairs.
-    says_then (required false (attribute pairs (codes "METHOD"))) _ (λ method.
-    says_either (bytes_eq method (codes "NONE")) (Ok no_keys) (set_key base pairs method) (λ b before. refl) (says_set base pairs method)))
-
-says_init_section : (reader : Reader) (base : Parts) (rest : List ℕ) → Says (init_section_said reader base rest)
-says_init_section reader base rest =
-    says_then (attributes reader rest) _ (λ pairs.
-    says_then (required true (attribute pairs (codes "URI"))) _ (λ reference.
-    says_then (optional init_section_byte_range (attribute pairs (codes "BYTERANGE"))) _ (λ byte_range.
-    says_then (uri_of base reference) _ (λ resource. λ b before. refl))))
+says_key reader base rest = grind arith
 
 pub key_tag_says : (reader : Reader) (base : Parts) (before : List Said) (rest : List ℕ) → Says (said_by_tag reader base before key_tag rest)
-key_tag_says reader base before rest =
-    says_after (key_said reader base rest) (within_formats reader before) (says_key reader base rest) (λ said h. says_unless _ _ (Ok said) h)
+key_tag_says reader base before rest = grind (arith, says_after, says_key, says_unless)
 
 pub init_section_tag_says : (reader : Reader) (base : Parts) (before : List Said) (rest : List ℕ) → Says (said_by_tag reader base before init_section_tag rest)
-init_section_tag_says reader base before rest =
-    says_after (init_section_said reader base rest) (with_ivs before) (says_init_section reader base rest) (λ said h. says_unless _ _ (Ok said) h)
+init_section_tag_says reader base before rest = grind arith
 
 pub time_tag_says : (reader : Reader) (base : Parts) (before : List Said) (rest : List ℕ) → Says (said_by_tag reader base before time_tag rest)
-time_tag_says reader base before rest = says_then (or_fault fault.BadTime (instant_of rest)) _ (λ t. λ b lines. refl)
+time_tag_says reader base before rest = grind (arith, says_then)
 
 pub duration_tag_says : (reader : Reader) (base : Parts) (before : List Said) (rest : List ℕ) → Says (said_by_tag reader base before duration_tag rest)
-duration_tag_says reader base before rest =
-    says_then (mended fault.BadDuration (duration_of (before_first is_comma rest))) _ (λ nanos. λ b lines. refl)
+duration_tag_says reader base before rest = grind arith
 
 goes : (base : Parts) (before : List Said) (o : Outcome Said) → Says o → progress_at base (with_said before o) ≡ with_standing (progress_at base before) (standing_at (with_said before o))
 goes base before (Ok said) h = h base before
@@ -112,5 +84,4 @@ refused_so (Err e) P o kept h = (λ _. h.0, h.1)
 -- what the state takes with no memory, the reading takes
 pub takes_tag_exactly : (outcome : Parts → List Said → Outcome Said) (p q : Progress) (new : Running) (result : Result (Unit {0}) FaultKind) → p ≡ q
     → ((base : Parts) (before : List Said) → Says (outcome base before)) → TakesExactly outcome (running_of p) new result → TakesLine outcome q (with_running p new) result
-takes_tag_exactly outcome p q new result is says takes =
-    takes_tag outcome p q new result is says (λ before e. refused_so result _ (outcome p.base before) (new ≡ running_of p) (takes before e))
+takes_tag_exactly outcome p q new result is says takes = grind (arith, takes_tag, refused_so)

@@ -5,7 +5,8 @@ use Rattle.url.specs.Parts.{Parts}
 use Rattle.playlist_model.specs.declared.DateRange.{DateRange}
 use Rattle.playlist_model.specs.declared.Segment.{Segment}
 use Rattle.playlist_model.specs.Said.{nothing}
-use Rattle.playlist_parse.specs.KeptLines.{KeptLines, WasRead}
+use Rattle.playlist_kept.specs.KeptLines.{WasRead}
+use Rattle.playlist_kept.specs.declared.source.KeptLines.{KeptLines}
 use Rattle.playlist_parse.specs.Inner.DateRanges.{AreSaid}
 use Rattle.playlist_parse.proofs.SaidAgain.{all_said}
 

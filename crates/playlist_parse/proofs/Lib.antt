@@ -20,4 +20,3 @@ pub mod DateRanges
 pub mod SaidAgain
 pub mod KnownRanges
 pub mod Mixed
-pub mod Parts

@@ -1,6 +1,6 @@
 -- A fault of lines that take no memory is answered.
-use Rattle.std.proofs.Common.{◌≡◌, ℕ, ◌+◌, Bool, true, false, List, [], ◌∷◌, ◌++◌, map, length, refl, ap, sym, ◌∙◌, subst, arith}
-use Rattle.std.specs.Prelude.{◌≢◌, Option, Some, None, Result, Ok, Err, IsOk, ◌||◌, ◌==◌, nat_lt, codes, bytes_eq, if◌then◌else◌}
+use Rattle.std.proofs.Common.{◌≡◌, ℕ, ◌+◌, Bool, true, false, List, [], ◌∷◌, ◌++◌, length, refl, ap, sym, ◌∙◌, subst, arith}
+use Rattle.std.specs.Prelude.{◌≢◌, Option, Some, None, Result, Ok, Err, IsOk, ◌||◌, if◌then◌else◌}
 use Rattle.url.specs.Parts.{Parts}
 use Rattle.attr_list.specs.Numbers.{decimal_of}
 use Rattle.spec_words.specs.Outcomes.{◌>>=◌, or_fault, refuse_if}
@@ -14,7 +14,6 @@ use Rattle.playlist_model.specs.Reading.{has, is_set, name_of, said_by_tag, said
 use Rattle.playlist_parse.specs.Light.{IsOfWhole, IsLightKind, IsLight, AreLight}
 use Rattle.playlist_parse.specs.Inner.Answers.{fault_at}
 use Rattle.playlist_parse.specs.Inner.Progress.{Progress, progress_at, TakesLineExactly}
-use Rattle.playlist_parse.specs.Inner.LineViews.{line_text}
 use Rattle.playlist_parse.specs.Inner.Reached.{Telling, IsToBeTold, left_in}
 use Rattle.playlist_parse.specs.declared.reading.Reading.{Reading}
 use Rattle.playlist_parse.proofs.Reached.{own_base, same_base, kept_line}
@@ -45,12 +44,10 @@ a_number : (rest : List ℕ) → Lacks (number rest)
 a_number rest = owed fault.BadValue (decimal_of rest) (λ f. cc)
 
 a_version : (rest : List ℕ) → Lacks (version_of rest)
-a_version rest =
-    after (or_fault fault.BadVersion (decimal_of rest)) _ (owed fault.BadVersion (decimal_of rest) (λ f. cc))
-    (λ v. refused (v == 0 || nat_lt 7 v) fault.Version (Ok v) (λ f. cc) tt)
+a_version rest = grind arith
 
 a_type : (rest : List ℕ) → Lacks (playlist_type_of rest)
-a_type rest = chosen (bytes_eq rest (codes "EVENT")) _ _ tt (chosen (bytes_eq rest (codes "VOD")) _ _ tt (λ f. cc))
+a_type rest = grind arith
 
 module _ (base : Parts) where
   light_tag : (before : List Said) (name : Name) (rest : List ℕ) → IsOfWhole name → Lacks (said_by_tag limited base before name rest)
@@ -134,17 +131,7 @@ module _ (before : List Said) where
 -- ---- going over the lines
 
 pub to_be_told : (base : Parts) (progress : Progress) (all : List (List ℕ)) → progress ≡ progress_at base (nothing ∷ []) → IsToBeTold base progress 2 all all
-to_be_told base progress all is = λ front later e all_is light said. record {
-  before = nothing ∷ [];
-  front = front;
-  later = later;
-  progress_is = is;
-  count = refl;
-  none = refl;
-  left_is = all_is;
-  light = light;
-  said = said;
-}
+to_be_told base progress all is = grind arith
 
 none_left : (before : List Said) (base : Parts) (front later : List (List ℕ)) (e : Fault) → [] ≡ front ++ later → said_from (said_by limited base) before front ≡ Err e → ⊥
 none_left before base [] later e h said = cc said
@@ -165,16 +152,7 @@ record Opened (base : Parts) (before : List Said) (line : List ℕ) (rest : List
 opened : (base : Parts) (before : List Said) (line : List ℕ) (rest front later : List (List ℕ)) (e : Fault) → line ∷ rest ≡ front ++ later → AreLight front
     → said_from (said_by limited base) before front ≡ Err e → Opened base before line rest e
 opened base before line rest [] later e h light said = absurd (cc said)
-opened base before line rest (x ∷ xs) later e h light said =
-    let same : x ≡ line = cc in
-    record {
-      front = xs;
-      later = later;
-      left_is = cc;
-      first = subst IsLight same light.0;
-      light = light.1;
-      said = subst (λ (l : List ℕ). said_from (said_by limited base) before (l ∷ xs) ≡ Err e) same said;
-    }
+opened base before line rest (x ∷ xs) later e h light said = grind arith
 
 -- the next line is light if a fault of such lines is still to be met
 pub told_first : {base : Parts} {progress : Progress} {n : ℕ} {line : List ℕ} {rest : List (List ℕ)} {e : Fault} → Telling base progress n (line ∷ rest) e → IsLight line
@@ -240,11 +218,9 @@ pub told_at : (base : Parts) (reading : Reading) (tail body : List (List ℕ)) �
     → ((all : List (List ℕ)) → IsToBeTold base reading.progress 2 all all)
     → (front later : List (List ℕ)) (e : Fault) → body ≡ front ++ later → AreLight front → said_from (said_by limited base) (nothing ∷ []) front ≡ Err e
     → Telling base reading.progress reading.number (left_in reading ++ tail) e
-told_at base reading tail body whole first light front later e is are_light said =
-    subst (λ n. Telling base reading.progress n (left_in reading ++ tail) e) (sym first)
-    (subst (λ ls. Telling base reading.progress 2 ls e) (sym whole) (light body front later e is are_light said))
+told_at base reading tail body whole first light front later e is are_light said = grind arith
 
 -- after its last one
 pub told_after : {base : Parts} {e : Fault} (tail : List (List ℕ)) (reading : Reading) → reading.lines ≡ []
     → Telling base reading.progress reading.number (left_in reading ++ tail) e → Telling base reading.progress reading.number tail e
-told_after {base = base} {e = e} tail reading none t = subst (λ ls. Telling base reading.progress reading.number (map line_text ls ++ tail) e) none t
+told_after {base = base} {e = e} tail reading none t = grind arith

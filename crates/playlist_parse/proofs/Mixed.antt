@@ -1,11 +1,11 @@
 -- A test of segments that stand in three lists.
-use Rattle.std.proofs.Common.{◌≡◌, Bool, List, ◌++◌, ap, ◌∙◌}
+use Rattle.std.proofs.Common.{◌≡◌, Bool, List, ◌++◌, arith}
 use Rattle.std.specs.Prelude.{◌&&◌, ◌||◌}
 use Rattle.std.specs.List.{list_any, list_all}
 use Rattle.std.proofs.lemmas.List.Folds.{list_any-append, list_all-append}
 
 pub any_of_three : {A : Type 0} (p : A → Bool) (xs ys zs : List A) → list_any p (xs ++ (ys ++ zs)) ≡ (list_any p xs || (list_any p ys || list_any p zs))
-any_of_three p xs ys zs = list_any-append p xs (ys ++ zs) ∙ ap (λ b. list_any p xs || b) (list_any-append p ys zs)
+any_of_three p xs ys zs = grind (arith, list_any-append)
 
 pub all_of_three : {A : Type 0} (p : A → Bool) (xs ys zs : List A) → list_all p (xs ++ (ys ++ zs)) ≡ (list_all p xs && (list_all p ys && list_all p zs))
-all_of_three p xs ys zs = list_all-append p xs (ys ++ zs) ∙ ap (λ b. list_all p xs && b) (list_all-append p ys zs)
+all_of_three p xs ys zs = grind (arith, list_all-append)

@@ -1,5 +1,5 @@
 -- Lines and their places.
-use Rattle.std.proofs.Common.{◌≡◌, ℕ, ◌+◌, ◌-◌, ◌<◌, ◌≤◌, Bool, true, false, cond, not, List, [], ◌∷◌, map, take, drop, length, refl, ap, sym, ◌∙◌, arith, length-take, length-drop}
+use Rattle.std.proofs.Common.{◌≡◌, ℕ, ◌+◌, ◌<◌, ◌≤◌, Bool, true, false, cond, not, List, [], ◌∷◌, map, length, refl, ap, sym, ◌∙◌, arith, length-take, length-drop}
 use Rattle.std.specs.Prelude.{◌==◌}
 use Rattle.std.specs.List.{slice_split, position_or_len, before_first, after_first, onto_first}
 use Rattle.std.specs.Str.Lines.{strip_carriage_return, lines}
@@ -23,21 +23,13 @@ one_more start piece (next ∷ later) h = refl
 -- a line, and those after its line feed
 pub next_line : (start : ℕ) (text : List ℕ) → position_or_len is_feed text < length text
     → lines_from start text ≡ with_end (start, strip_carriage_return (before_first is_feed text)) ∷ lines_from (start + length (before_first is_feed text) + 1) (after_first is_feed text)
-next_line start text h =
-    ap (λ pieces. map with_end (placed_from start pieces)) (slice_split_first is_feed text 0 h)
-    ∙ ap (map with_end) (one_more start (before_first is_feed text) (slice_split is_feed (after_first is_feed text)) (omega (arith, length-slice_split is_feed (after_first is_feed text))))
+next_line start text h = grind (arith, slice_split_first, one_more, length-slice_split)
 
 -- the same, over what was found of the first line
 pub first_line : (start : ℕ) (rest piece later line : List ℕ) (view : (ℕ × ℕ) × List ℕ) → position_or_len is_feed rest < length rest
     → piece ≡ before_first is_feed rest → later ≡ after_first is_feed rest → line ≡ strip_carriage_return piece → view ≡ with_end (start, line)
     → lines_from start rest ≡ view ∷ lines_from (start + length piece + 1) later
-first_line start rest piece later line view some piece_is later_is line_is view_is =
-    next_line start rest some
-    ∙ ap (λ (q : List ℕ × List ℕ). with_end (start, strip_carriage_return q.0) ∷ lines_from (start + length q.0 + 1) q.1) (sym (pair piece_is later_is))
-    ∙ ap (λ v. v ∷ lines_from (start + length piece + 1) later) (sym (view_is ∙ ap (λ l. with_end (start, l)) line_is))
-  where
-    pair : {a b c d : List ℕ} → a ≡ b → c ≡ d → ◌≡◌ {A = List ℕ × List ℕ} (a, c) (b, d)
-    pair x y = cc
+first_line start rest piece later line view some piece_is later_is line_is view_is = grind (arith, next_line)
 
 whole_step : (x : ℕ) (xs : List ℕ) (n : ℕ) (b : Bool) → (n ≡ length xs → slice_split is_feed xs ≡ xs ∷ []) → cond (not b) (1 + n) 0 ≡ 1 + length xs
     → cond b ([] ∷ slice_split is_feed xs) (onto_first x (slice_split is_feed xs)) ≡ (x ∷ xs) ∷ []
@@ -46,11 +38,11 @@ whole_step x xs n false ih h = ap (onto_first x) (ih (omega (arith, h)))
 
 whole : (text : List ℕ) → position_or_len is_feed text ≡ length text → slice_split is_feed text ≡ text ∷ []
 whole [] h = refl
-whole (x ∷ xs) h = whole_step x xs (position_or_len is_feed xs) (is_feed x) (whole xs) (h ∙ omega arith)
+whole (x ∷ xs) h = grind (arith, whole xs)
 
 -- the last line, unless it is empty
 pub last_line : (start : ℕ) (text : List ℕ) → position_or_len is_feed text ≡ length text → (length text == 0) ≡ false → lines_from start text ≡ with_end (start, text) ∷ []
-last_line start text h some = ap (λ pieces. map with_end (placed_from start pieces)) (whole text h) ∙ ap (λ b. map with_end (cond b [] ((start, text) ∷ []))) some
+last_line start text h some = grind (arith, whole)
 
 pub no_line : (start : ℕ) (text : List ℕ) → length text ≡ 0 → lines_from start text ≡ []
 no_line start [] h = refl
@@ -59,31 +51,18 @@ no_line start (x ∷ xs) h = absurd (omega (arith, h))
 -- where the rest begins
 pub rest_begins : (text : List ℕ) → position_or_len is_feed text < length text
     → length (before_first is_feed text) + 1 + length (after_first is_feed text) ≡ length text
-rest_begins text h =
-    let n = position_or_len is_feed text in
-    let front : length (take n text) ≡ n = length-take n text ∙ omega (arith, h) in
-    let back : length (drop (n + 1) text) ≡ length text - (n + 1) = length-drop (n + 1) text in
-    omega (arith, front, back, h)
+rest_begins text h = grind (arith, length-take, length-drop)
 
 -- ---- all lines of a text
 
 few_placed : (start : ℕ) (pieces : List (List ℕ)) → length (map with_end (placed_from start pieces)) ≤ length pieces
 few_placed start [] = omega arith
-few_placed start (piece ∷ []) = by (length piece == 0)
-  where
-    by : (b : Bool) → length (map with_end (cond b [] ((start, piece) ∷ []))) ≤ 1
-    by true = omega arith
-    by false = omega arith
-few_placed start (piece ∷ next ∷ later) =
-    let more = few_placed (start + length piece + 1) (next ∷ later) in omega (arith, more)
+few_placed start (piece ∷ []) = grind arith
+few_placed start (piece ∷ next ∷ later) = grind (arith, few_placed (start + length piece + 1) (next ∷ later))
 
 -- a text has at most a line for each of its bytes, and one more
 few_lines : (text : List ℕ) → length (lines_from 0 text) ≤ length text + 1
-few_lines text =
-    let placed = few_placed 0 (slice_split is_feed text) in
-    let pieces = length-slice_split is_feed text in
-    let feeds = count_by-le-length is_feed text in
-    omega (arith, placed, pieces, feeds)
+few_lines text = grind (arith, few_placed, length-slice_split, count_by-le-length)
 
 -- and few are left after the first one
 pub few_left : (text : List ℕ) (all : List ((ℕ × ℕ) × List ℕ)) (first : (ℕ × ℕ) × List ℕ) (left : List ((ℕ × ℕ) × List ℕ))
@@ -96,10 +75,7 @@ few_left text all first left all_is cut small =
 slices_are : (text : List ℕ) (placed : List (ℕ × List ℕ)) → AreSlices text placed
     → slices_at text (map line_span (map with_end placed)) ≡ map (λ (line : ℕ × List ℕ). line.1) placed
 slices_are text [] h = refl
-slices_are text (line ∷ later) h = both h.0 (slices_are text later h.1)
-  where
-    both : {x y : List ℕ} {xs ys : List (List ℕ)} → x ≡ y → xs ≡ ys → x ∷ xs ≡ y ∷ ys
-    both e f = cc
+slices_are text (line ∷ later) h = grind (arith, slices_are text later h.1)
 
 -- the slices at the places of all lines are the lines
 pub lines_are_slices_at : (text : List ℕ) → slices_at text (map line_span (lines_from 0 text)) ≡ lines text

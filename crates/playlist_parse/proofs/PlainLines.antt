@@ -1,5 +1,5 @@
 -- No line of a plain text has a control character.
-use Rattle.std.proofs.Common.{◌≡◌, ℕ, ◌+◌, zero, suc, Bool, true, false, not, cond, List, [], ◌∷◌, map, take, length, refl, sym, subst, ap, ◌∙◌, ◌-◌}
+use Rattle.std.proofs.Common.{◌≡◌, ℕ, ◌+◌, zero, suc, Bool, true, false, not, cond, List, [], ◌∷◌, map, take, length, refl, sym, subst, ap, ◌∙◌, ◌-◌, arith}
 use Rattle.std.specs.Prelude.{◌==◌, slice_index}
 use Rattle.std.specs.List.{list_all, slice_split, onto_first}
 use Rattle.std.proofs.lemmas.Bool.{and_parts, and_from}
@@ -19,10 +19,7 @@ printable x e h = rw e at h
 
 piece_step : (x : ℕ) (pieces : List (List ℕ)) (b : Bool) → is_feed x ≡ b → is_plain_byte x ≡ true → list_all (list_all is_printable) pieces ≡ true
     → list_all (list_all is_printable) (cond b ([] ∷ pieces) (onto_first x pieces)) ≡ true
-piece_step x pieces true e plain h = and_from _ _ refl h
-piece_step x [] false e plain h = and_from _ _ (and_from _ _ (printable x e plain) refl) refl
-piece_step x (piece ∷ pieces) false e plain h =
-    let a = and_parts _ _ h in and_from _ _ (and_from _ _ (printable x e plain) a.0) a.1
+piece_step x pieces b e plain h = grind arith
 
 -- what stands between the line feeds of a plain text is printable
 printable_pieces : (text : List ℕ) → list_all is_plain_byte text ≡ true → list_all (list_all is_printable) (slice_split is_feed text) ≡ true

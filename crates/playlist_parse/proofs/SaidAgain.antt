@@ -1,6 +1,6 @@
 -- The date ranges of a text that was read are what their attributes say.
-use Rattle.std.proofs.Common.{◌≡◌, ℕ, ◌+◌, Bool, true, false, cond, List, [], ◌∷◌, ◌++◌, length, codes, refl, ap, ◌∙◌, subst}
-use Rattle.std.specs.Prelude.{Result, Ok, Err, Option, ℤ, ◌||◌, is_none, bytes_eq, unwrap_or, option_map}
+use Rattle.std.proofs.Common.{◌≡◌, ℕ, ◌+◌, Bool, true, false, List, [], ◌∷◌, ◌++◌, length, codes, refl, ap, ◌∙◌, subst, arith}
+use Rattle.std.specs.Prelude.{Result, Ok, Err, Option, ℤ, ◌||◌, unwrap_or, option_map}
 use Rattle.std.specs.List.{list_any}
 use Rattle.url.specs.Parts.{Parts}
 use Rattle.spec_words.specs.Outcomes.{◌>>=◌, refuse_if, or_fault, mended, optional}
@@ -14,9 +14,9 @@ use Rattle.playlist_model.specs.declared.DateRange.{DateRange}
 use Rattle.playlist_model.specs.declared.ByteRange.{ByteRange}
 use Rattle.playlist_model.specs.declared.FaultKind.{FaultKind}
 use Rattle.playlist_model.specs.declared.FaultKind.TheVariants as fault
-use Rattle.playlist_model.specs.Lines.{Kind, ignored, uri, tag, kind_of, has_control}
-use Rattle.playlist_model.specs.Said.{Said, Outcome, Name, version_tag, target_tag, sequence_tag, discontinuity_sequence_tag, type_tag, ended_tag, independent_tag, frames_tag, master_tag, duration_tag, byte_range_tag, discontinuity_tag, key_tag, init_section_tag, time_tag, date_range_tag, unknown_tag, version, target, sequence, discontinuity_sequence, playlist_type, ended, duration, byte_range, discontinuity, no_keys, key, init_section, time, date_range, media, number, version_of, playlist_type_of, byte_range_of, attributes, required, quoted_of, iv_of, set_key, key_said, init_section_byte_range, init_section_said, time_of, length_of, value_of, uri_of, over, date_range_of, date_range_said}
-use Rattle.playlist_model.specs.LookBack.{the_version, the_target, the_sequence, the_discontinuity_sequence, the_type, is_media, is_discontinuity, is_ended, count, own_duration, media_sequence_at, discontinuity_at, keys_at, date_ranges_of, byte_range_at}
+use Rattle.playlist_model.specs.Lines.{Kind, ignored, uri, tag}
+use Rattle.playlist_model.specs.Said.{Said, Outcome, Name, version_tag, target_tag, sequence_tag, discontinuity_sequence_tag, type_tag, ended_tag, independent_tag, frames_tag, master_tag, duration_tag, byte_range_tag, discontinuity_tag, key_tag, init_section_tag, time_tag, date_range_tag, unknown_tag, version, target, sequence, discontinuity_sequence, playlist_type, ended, duration, byte_range, discontinuity, key, init_section, time, date_range, number, version_of, playlist_type_of, byte_range_of, attributes, required, quoted_of, key_said, init_section_byte_range, init_section_said, time_of, length_of, value_of, uri_of, over, date_range_of, date_range_said}
+use Rattle.playlist_model.specs.LookBack.{the_version, the_target, the_sequence, the_discontinuity_sequence, the_type, is_media, is_discontinuity, is_ended, discontinuity_at, keys_at, date_ranges_of}
 use Rattle.playlist_model.specs.Reading.{limited, is_set, has, passes, needs_iv, within_formats, with_ivs, said_by, said_by_tag, said_by_kind, said_by_uri, said_from, at_line, Fault, name_of}
 use Rattle.playlist_parse.specs.Inner.DateRanges.{IsSaid, AreSaid}
 
@@ -37,10 +37,6 @@ only_then P (Err e) f h = tt
 only_both : (P : Said → Type 0) (o : Outcome Said) (f : Said → Outcome Said) → Only P o → ((s : Said) → P s → Only P (f s)) → Only P (o >>= f)
 only_both P (Ok s) f h k = k s h
 only_both P (Err e) f h k = tt
-
-only_choice : (P : Said → Type 0) (b : Bool) (o p : Outcome Said) → Only P o → Only P p → Only P (cond b o p)
-only_choice P true o p h k = h
-only_choice P false o p h k = k
 
 -- ---- a date range
 
@@ -72,19 +68,7 @@ abbrev after_id : List ℕ → List Pair → List ℕ → Outcome Said
 after_id text pairs id = optional time_of (attribute pairs (codes "START-DATE")) >>= after_start text pairs id
 
 last_of_range : (text : List ℕ) (pairs : List Pair) (id : List ℕ) (start end : Option ℤ) (lasts : Option ℕ) → Only (HasText text) (after_lasts text pairs id start end lasts)
-last_of_range text pairs id start end lasts =
-    only_then (HasText text) (optional length_of (attribute pairs (codes "PLANNED-DURATION")))
-    (λ planned. Ok (date_range (record {
-      id = id;
-      start = start;
-      end = end;
-      duration = lasts;
-      planned_duration = planned;
-      scte35_out = option_map value_of (attribute pairs (codes "SCTE35-OUT"));
-      scte35_in = option_map value_of (attribute pairs (codes "SCTE35-IN"));
-      attributes = text;
-    })))
-    (λ planned. refl)
+last_of_range text pairs id start end lasts = grind arith
 
 range_text : (text : List ℕ) (pairs : List Pair) → Only (HasText text) (date_range_of text pairs)
 range_text text pairs =
@@ -94,7 +78,7 @@ range_text text pairs =
     (λ end. only_then (HasText text) (optional length_of (attribute pairs (codes "DURATION"))) (after_lasts text pairs id start end) (last_of_range text pairs id start end))))
 
 has_text : (rest : List ℕ) → Only (HasText rest) (date_range_said limited rest)
-has_text rest = only_then (HasText rest) (attributes limited rest) (date_range_of rest) (range_text rest)
+has_text rest = grind (arith, only_then, range_text)
 
 -- ---- each tag
 
@@ -125,35 +109,8 @@ after_format base pairs method reference iv format =
 abbrev after_iv : Parts → List Pair → List ℕ → List ℕ → Option ℕ → Outcome Said
 after_iv base pairs method reference iv = optional quoted_of (attribute pairs (codes "KEYFORMAT")) >>= after_format base pairs method reference iv
 
-abbrev after_reference : Parts → List Pair → List ℕ → List ℕ → Outcome Said
-after_reference base pairs method reference = optional iv_of (attribute pairs (codes "IV")) >>= after_iv base pairs method reference
-
-last_of_key : (base : Parts) (pairs : List Pair) (method reference : List ℕ) (iv : Option ℕ) (format : Option (List ℕ)) → Only IsRight (after_format base pairs method reference iv format)
-last_of_key base pairs method reference iv format =
-    only_then IsRight (uri_of base reference)
-    (λ resource. Ok (key (record {
-      format = unwrap_or format (codes "identity");
-      method = method;
-      uri = resource;
-      iv = iv;
-      other_attributes = after_commas (carried pairs);
-    })))
-    (λ resource. tt)
-
-right_set : (base : Parts) (pairs : List Pair) (method : List ℕ) → Only IsRight (set_key base pairs method)
-right_set base pairs method =
-    only_then IsRight (required true (attribute pairs (codes "URI"))) (after_reference base pairs method)
-    (λ reference. only_then IsRight (optional iv_of (attribute pairs (codes "IV"))) (after_iv base pairs method reference)
-    (λ iv. only_then IsRight (optional quoted_of (attribute pairs (codes "KEYFORMAT"))) (after_format base pairs method reference iv) (last_of_key base pairs method reference iv)))
-
-abbrev after_method : Parts → List Pair → List ℕ → Outcome Said
-after_method base pairs method = cond (bytes_eq method (codes "NONE")) (Ok no_keys) (set_key base pairs method)
-
 right_key : (base : Parts) (rest : List ℕ) → Only IsRight (key_said limited base rest)
-right_key base rest =
-    only_then IsRight (attributes limited rest) (λ pairs. required false (attribute pairs (codes "METHOD")) >>= after_method base pairs)
-    (λ pairs. only_then IsRight (required false (attribute pairs (codes "METHOD"))) (after_method base pairs)
-    (λ method. only_choice IsRight (bytes_eq method (codes "NONE")) (Ok no_keys) (set_key base pairs method) tt (right_set base pairs method)))
+right_key base rest = grind arith
 
 abbrev after_byte_range : Parts → List ℕ → Option ByteRange → Outcome Said
 after_byte_range base reference part = uri_of base reference >>= λ resource. Ok (init_section resource part)
@@ -162,11 +119,7 @@ abbrev after_uri : Parts → List Pair → List ℕ → Outcome Said
 after_uri base pairs reference = optional init_section_byte_range (attribute pairs (codes "BYTERANGE")) >>= after_byte_range base reference
 
 right_section : (base : Parts) (rest : List ℕ) → Only IsRight (init_section_said limited base rest)
-right_section base rest =
-    only_then IsRight (attributes limited rest) (λ pairs. required true (attribute pairs (codes "URI")) >>= after_uri base pairs)
-    (λ pairs. only_then IsRight (required true (attribute pairs (codes "URI"))) (after_uri base pairs)
-    (λ reference. only_then IsRight (optional init_section_byte_range (attribute pairs (codes "BYTERANGE"))) (after_byte_range base reference)
-    (λ part. only_then IsRight (uri_of base reference) (λ resource. Ok (init_section resource part)) (λ resource. tt))))
+right_section base rest = grind arith
 
 right_tag : (base : Parts) (before : List Said) (name : Name) (rest : List ℕ) → Only IsRight (said_by_tag limited base before name rest)
 right_tag base before version_tag rest = only_if IsRight (is_set the_version before) fault.Repeated (version_of rest >>= λ n. Ok (version n)) (only_then IsRight (version_of rest) (λ n. Ok (version n)) (λ n. tt))
@@ -194,13 +147,7 @@ right_tag base before unknown_tag rest = tt
 -- ---- each line
 
 right_uri : (base : Parts) (before : List Said) (reference : List ℕ) → Only IsRight (said_by_uri limited base before reference)
-right_uri base before reference =
-    let whole = uri_of base reference >>= λ resource. byte_range_at before resource >>= λ r. Ok (media resource) in
-    only_if IsRight (over limited.segments (count is_media before + 1)) fault.TooMany (refuse_if (is_none (own_duration before)) fault.NoDuration (refuse_if (passes (media_sequence_at before)) fault.BadValue whole))
-    (only_if IsRight (is_none (own_duration before)) fault.NoDuration (refuse_if (passes (media_sequence_at before)) fault.BadValue whole)
-    (only_if IsRight (passes (media_sequence_at before)) fault.BadValue whole
-    (only_then IsRight (uri_of base reference) (λ resource. byte_range_at before resource >>= λ r. Ok (media resource))
-    (λ resource. only_then IsRight (byte_range_at before resource) (λ r. Ok (media resource)) (λ r. tt)))))
+right_uri base before reference = grind arith
 
 right_kind : (base : Parts) (before : List Said) (kind : Kind) → Only IsRight (said_by_kind limited base before kind)
 right_kind base before ignored = tt
@@ -208,7 +155,7 @@ right_kind base before (uri reference) = right_uri base before reference
 right_kind base before (tag name rest colon) = right_tag base before (name_of name colon) rest
 
 right_line : (base : Parts) (before : List Said) (line : List ℕ) → Only IsRight (said_by limited base before line)
-right_line base before line = only_if IsRight (has_control line) fault.Control (said_by_kind limited base before (kind_of line)) (right_kind base before (kind_of line))
+right_line base before line = grind (arith, only_if, right_kind)
 
 -- ---- all lines
 

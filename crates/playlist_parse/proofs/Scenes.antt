@@ -1,14 +1,13 @@
 -- What stands after one line more.
-use Rattle.std.proofs.Common.{◌≡◌, ℕ, ◌+◌, ◌≤◌, Bool, true, false, cond, List, [], ◌∷◌, ◌++◌, length, map, refl, ap, sym, ◌∙◌, arith}
-use Rattle.std.specs.Prelude.{Some, None, ◌||◌, unwrap_or}
+use Rattle.std.proofs.Common.{◌≡◌, ℕ, ◌+◌, true, List, [], ◌∷◌, ◌++◌, length, map, refl, ap, arith}
+use Rattle.std.specs.Prelude.{Some, None, unwrap_or}
 use Rattle.std.specs.Result.{result_unwrap_or}
 use Rattle.playlist_model.specs.declared.Segment.{Segment}
 use Rattle.playlist_model.specs.declared.DateRange.{DateRange}
 use Rattle.playlist_model.specs.EffectiveKeys.{effective_key}
 use Rattle.playlist_model.specs.Said.{Said, nothing, version, target, sequence, discontinuity_sequence, playlist_type, ended, independent, duration, byte_range, discontinuity, no_keys, key, init_section, time, date_range, media}
-use Rattle.playlist_model.specs.LookBack.{latest, the_sequence, the_discontinuity_sequence, is_media, is_discontinuity, count, byte_range_from, extent_with, put_key, segments_of, date_ranges_of}
+use Rattle.playlist_model.specs.LookBack.{latest, the_sequence, the_discontinuity_sequence, is_media, count, byte_range_from, extent_with, put_key, segments_of, date_ranges_of}
 use Rattle.playlist_model.specs.Inner.Heading.{Heading}
-use Rattle.playlist_model.specs.Reading.{has}
 use Rattle.playlist_parse.specs.Inner.Resumed.{Scene, scene_at, Alike}
 use Rattle.playlist_parse.proofs.OtherKinds.{is_other}
 
@@ -45,28 +44,6 @@ stepped (media resource) s = record s {
 
 one_more : (a n : ℕ) → a + (n + 1) ≡ a + n + 1
 one_more a n = omega arith
-
-pub scene_step : (said : Said) (before : List Said) → is_other said ≡ true → scene_at (said ∷ before) ≡ stepped said (scene_at before)
-scene_step nothing before h = refl
-scene_step (version n) before h = refl
-scene_step (target n) before h = refl
-scene_step (sequence n) before h = absurd (cc h)
-scene_step (discontinuity_sequence n) before h = absurd (cc h)
-scene_step (playlist_type kind) before h = refl
-scene_step ended before h = refl
-scene_step independent before h = refl
-scene_step (duration nanos title) before h = refl
-scene_step (byte_range size offset) before h = refl
-scene_step discontinuity before h =
-    ap (λ n. record (stepped discontinuity (scene_at before)) { discontinuity = n })
-    (one_more (unwrap_or (latest the_discontinuity_sequence before) 0) (count is_discontinuity before))
-scene_step no_keys before h = refl
-scene_step (key k) before h = refl
-scene_step (init_section resource part) before h = refl
-scene_step (time instant) before h = refl
-scene_step (date_range r) before h = refl
-scene_step (media resource) before h =
-    ap (λ n. record (stepped (media resource) (scene_at before)) { number = n }) (one_more (unwrap_or (latest the_sequence before) 0) (count is_media before))
 
 -- ---- what the line adds
 
@@ -121,17 +98,5 @@ discontinuity_sequence_step _ before h = refl
 
 -- ---- alike after it
 
-or_still : (a b : Bool) → b ≡ true → (a || b) ≡ true
-or_still true b h = refl
-or_still false b h = h
-
-fewer_still : (b : Bool) (n m : ℕ) → n ≤ m → cond b (n + 1) n ≤ cond b (m + 1) m
-fewer_still true n m h = omega (arith, h)
-fewer_still false n m h = h
-
 pub alike_next : (said : Said) (old new : List Said) → is_other said ≡ true → Alike old new → Alike (said ∷ old) (said ∷ new)
-alike_next said old new h alike = record {
-  scene = scene_step said old h ∙ ap (stepped said) alike.scene ∙ sym (scene_step said new h);
-  media = or_still (is_media said) (has is_media old) alike.media;
-  fewer = fewer_still (is_media said) (count is_media new) (count is_media old) alike.fewer;
-}
+alike_next said old new h alike = grind arith

@@ -1,5 +1,5 @@
 -- Tags and their names.
-use Rattle.std.proofs.Common.{◌≡◌, ℕ, List, [], ◌∷◌, refl, sym, ap, subst, true, false}
+use Rattle.std.proofs.Common.{◌≡◌, ℕ, List, [], ◌∷◌, refl, sym, ap, true, false, arith}
 use Rattle.std.specs.Prelude.{◌≢◌, Bool, Some, None, Result, Ok, Err, MatchResult, bytes_eq, if◌then◌else◌}
 use Rattle.std.specs.List.{find}
 use Rattle.std.proofs.lemmas.Slice.Eq.{bytes_eq-Decides}
@@ -41,11 +41,11 @@ weaker (Err e) P o h = λ _. h
 
 -- what takes a tag with no memory, takes it
 pub exactly : (name : Name) (rest : List ℕ) (old new : Progress) (result : Result (Unit {0}) FaultKind) → TakesTagExactly name rest old new result → TakesTag name rest old new result
-exactly name rest old new result takes = λ before e. weaker result _ (said_by_tag limited old.base before name rest) (takes before e)
+exactly name rest old new result takes = grind arith
 
 -- what a tag of this name does, the tag does whose text has it
 pub takes_named : (text rest : List ℕ) (colon : Bool) (name : Name) (old new : Progress) (result : Result (Unit {0}) FaultKind) → name ≡ name_of text colon → TakesLine (λ base before. said_by_tag limited base before name rest) old new result → TakesLine (λ base before. said_by_kind limited base before (tag text rest colon)) old new result
-takes_named text rest colon name old new result h takes = subst (λ n. TakesLine (λ base before. said_by_tag limited base before n rest) old new result) h takes
+takes_named text rest colon name old new result h takes = grind arith
 
 pub named_exactly : (text rest : List ℕ) (colon : Bool) (name : Name) (old new : Progress) (result : Result (Unit {0}) FaultKind) → name ≡ name_of text colon → TakesTagExactly name rest old new result → TakesLineExactly (λ base before. said_by_kind limited base before (tag text rest colon)) old new result
-named_exactly text rest colon name old new result h takes = subst (λ n. TakesLineExactly (λ base before. said_by_tag limited base before n rest) old new result) h takes
+named_exactly text rest colon name old new result h takes = grind arith

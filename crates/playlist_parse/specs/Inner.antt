@@ -1,5 +1,4 @@
 pub mod LineViews
-pub mod Places
 pub mod Progress
 pub mod HeadingView
 pub mod Views

@@ -2,5 +2,3 @@ pub mod LineViews
 pub mod Answers
 pub mod Light
 pub mod Inner
-pub mod Kept
-pub mod KeptLines

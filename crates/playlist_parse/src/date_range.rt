@@ -9,7 +9,7 @@ ghost use Rattle.segment_state.specs.Attributes.{pairs_of};
 
 use attr_list::AttrList;
 use fixed_duration::Nanos;
-use playlist_model::{DateRange, FaultKind, Instant, Text, read_instant};
+use playlist_model::{DateRange, FaultKind, Instant, Shared, Text, read_instant};
 use segment_state::attributes::{attributes_of, required};
 use std::alloc::{AllocError, Global};
 
@@ -26,7 +26,7 @@ pub fn date_range_of(alloc: Global, rest: &str) -> Result<DateRange, FaultKind>
     let end = instant_of(&attributes, "END-DATE")?;
     let duration = duration_of(&attributes, "DURATION")?;
     let planned = duration_of(&attributes, "PLANNED-DURATION")?;
-    let id = Text::copy_of(alloc, id)?;
+    let id = Shared::copy_of(alloc, id)?;
     let out = copied(alloc, &attributes, "SCTE35-OUT")?;
     let back = copied(alloc, &attributes, "SCTE35-IN")?;
     let text = Text::copy_of(alloc, rest)?;

@@ -5,16 +5,11 @@ mod date_range;
 mod date_ranges;
 mod line;
 mod progress;
-mod read_playlist;
 mod reader;
 mod reading;
 mod source;
-mod step;
 mod tag;
 
 pub use line::{Line, LineKind, Lines, kind_of};
 pub use playlist_model::MAX_BYTES;
-pub use read_playlist::Read;
 pub use reader::read;
-pub use source::{KeptLines, Source};
-pub use step::Step;

@@ -12,13 +12,13 @@ ghost use Rattle.playlist_parse.specs.Light.{IsOfWhole, IsLight};
 ghost use Rattle.playlist_parse.specs.Inner.Progress.{progress_at, playlist_from, target_owed, IsLineAgain, TakesLine, TakesLineExactly, TakesTag, TakesTagExactly, Ends};
 ghost use Rattle.playlist_parse.specs.Inner.HeadingView.{heading_view};
 ghost use Rattle.playlist_parse.specs.Inner.Source.{gone_to};
-ghost use Rattle.playlist_parse.specs.Kept.{playlist_in};
+ghost use Rattle.playlist_kept.specs.Kept.{playlist_in};
 
 use crate::date_ranges::{DateRanges, Known};
 use crate::line::{LineKind, Lines, kind_of, stated_in, whole_line};
-use crate::read_playlist::Read;
 use crate::tag::{Tag, tag_of};
 use attr_list::read_decimal;
+use playlist_kept::{Read, ReadHeading};
 use playlist_model::{
     DateRange, FaultKind, Items, Member, Playlist, PlaylistKind, Segment, Shared, has_control,
 };
@@ -27,21 +27,6 @@ use std::alloc::{AllocError, Global};
 use std::marker::Model;
 use std::mem::swap;
 use uri_resolver::Base;
-
-/// What the tags of the whole playlist have said (RFC 8216, sections 4.3.1, 4.3.3 and 4.3.5), and whether those stood
-/// that they may not follow.
-#[derive(Clone, Copy)]
-pub struct ReadHeading {
-    pub version: Option<u64>,
-    pub target_duration: Option<u64>,
-    pub playlist_type: Option<PlaylistKind>,
-    pub independent_segments: bool,
-    pub end_list: bool,
-    pub has_sequence: bool,
-    pub has_discontinuity_sequence: bool,
-    /// Whether a segment stood before.
-    pub has_media: bool,
-}
 
 /// A playlist as far as it has been read.
 #[derive(Drop)]
@@ -63,66 +48,6 @@ impl<'a> Model for Progress<'a> {
     ghost Value = { Progress };
 
     ghost view = { progress_of };
-}
-
-fn is_same_number(a: Option<u64>, b: Option<u64>) -> bool
-    ensures { result ≡ true → a ≡ b }
-{
-    match (a, b) {
-        (None, None) => true,
-        (Some(a), Some(b)) => a == b,
-        _ => false,
-    }
-}
-
-fn is_same_kind(a: Option<PlaylistKind>, b: Option<PlaylistKind>) -> bool
-    ensures { result ≡ true → a ≡ b }
-{
-    match (a, b) {
-        (None, None) => true,
-        (Some(PlaylistKind::Event), Some(PlaylistKind::Event)) => true,
-        (Some(PlaylistKind::Vod), Some(PlaylistKind::Vod)) => true,
-        _ => false,
-    }
-}
-
-fn is_same_flag(a: bool, b: bool) -> bool
-    ensures { result ≡ true → a ≡ b }
-{
-    a == b
-}
-
-impl ReadHeading {
-    /// Whether `other` says the same.
-    pub fn is(&self, other: &ReadHeading) -> bool
-        ensures { result ≡ true → self.now ≡ other.now }
-    {
-        if !is_same_number(self.version, other.version) {
-            return false;
-        }
-        if !is_same_number(self.target_duration, other.target_duration) {
-            return false;
-        }
-        if !is_same_kind(self.playlist_type, other.playlist_type) {
-            return false;
-        }
-        if !is_same_flag(self.independent_segments, other.independent_segments) {
-            return false;
-        }
-        if !is_same_flag(self.end_list, other.end_list) {
-            return false;
-        }
-        if !is_same_flag(self.has_sequence, other.has_sequence) {
-            return false;
-        }
-        if !is_same_flag(
-            self.has_discontinuity_sequence,
-            other.has_discontinuity_sequence,
-        ) {
-            return false;
-        }
-        is_same_flag(self.has_media, other.has_media)
-    }
 }
 
 // The values of the one after those of the other, which stay where they are if nothing is before them.

@@ -11,13 +11,13 @@ ghost use Rattle.playlist_parse.specs.Light.{AreLight};
 ghost use Rattle.playlist_parse.specs.Inner.Reached.{Reached, Telling, Reads, Tells, left_in};
 ghost use Rattle.playlist_parse.specs.Answers.{HasNoHeader};
 ghost use Rattle.playlist_parse.specs.Inner.Source.{Grown};
-ghost use Rattle.playlist_parse.specs.Inner.Places.{StandInBoth};
-ghost use Rattle.playlist_parse.specs.Kept.{AnswersRead, AreKeptLines, IsKept, IsTakenFrom, kept_segments, playlist_in};
+ghost use Rattle.playlist_kept.specs.Places.{StandInBoth};
+ghost use Rattle.playlist_kept.specs.Kept.{AnswersRead, AreKeptLines, IsKept, IsTakenFrom, kept_segments, playlist_in};
 
 use crate::line::{Lines, cut_after_segments, has_plain_bytes};
-use crate::read_playlist::{Places, Read, placed};
 use crate::reading::{Reading, fault_at, read_all, read_some, reading_of, whole_reading};
-use crate::source::{Source, known_of, lines_of, take_over};
+use crate::source::{known_of, lines_of, take_over};
+use playlist_kept::{Places, Read, Source, placed};
 use playlist_model::{FaultKind, MAX_BYTES, PlaylistFault, text_of};
 use std::alloc::Global;
 use uri_resolver::Base;

@@ -1,19 +1,19 @@
 //! A text that is being read, line by line.
-ghost use Rattle.std.specs.Prelude.{◌≡◌, ◌+◌, ◌^◌, ◌<◌, ◌≤◌, ℕ, List, [], ◌∷◌, length, true, Ok, IfOk, OnOk};
+ghost use Rattle.std.specs.Prelude.{◌≡◌, ◌+◌, ◌^◌, ◌<◌, ◌≤◌, ℕ, List, [], ◌∷◌, length, map, true, Ok, IfOk, OnOk};
 ghost use Rattle.url.specs.Parts.{Parts};
 ghost use Rattle.std.specs.List.{list_all};
 ghost use Rattle.playlist_model.specs.Said.{nothing};
 ghost use Rattle.playlist_model.specs.Reading.{said_by, said_from, and_whole, limited};
-ghost use Rattle.playlist_parse.specs.Inner.LineViews.{is_free};
+ghost use Rattle.playlist_parse.specs.Inner.LineViews.{is_free, line_text};
 ghost use Rattle.playlist_parse.specs.Inner.Answers.{fault_at};
 ghost use Rattle.playlist_parse.specs.Inner.Progress.{Ends};
-ghost use Rattle.playlist_parse.specs.Kept.{AnswersRead};
-ghost use Rattle.playlist_parse.specs.Inner.Reached.{Reached, IsToBeTold, LeadsTo, IsStillTold, Reads, Tells, ReadsLine, TellsLine, left_in};
+ghost use Rattle.playlist_kept.specs.Kept.{AnswersRead};
+ghost use Rattle.playlist_parse.specs.Inner.Reached.{Reached, IsToBeTold, LeadsTo, IsStillTold, Reads, Tells, ReadsLine, TellsLine, left_in, reading_at};
 
 use crate::date_ranges::Known;
 use crate::line::Lines;
 use crate::progress::Progress;
-use crate::read_playlist::Read;
+use playlist_kept::Read;
 use playlist_model::{FaultKind, PlaylistFault};
 use std::alloc::Global;
 use uri_resolver::Base;
@@ -60,49 +60,59 @@ pub fn reading_of<'a>(
     }
 }
 
-// Passes the next line if it is the EXTINF that repeats itself. `is_plain` says that no line has a control character.
+// Passes the next of `lines` if it is the EXTINF that repeats itself. `is_plain` says that no line has a control character.
 #[inline(always)]
-fn pass_again<'a>(reading: &mut Reading<'a>, is_plain: bool)
-    requires few { reading.old.number + length reading.old.lines < 2 ^ 64 }
-    requires plain { is_plain ≡ true → list_all is_free (left_in reading.old) ≡ true }
-    ensures reached { (base : Parts) → LeadsTo base reading.old reading.new }
-    ensures light { (base : Parts) → IsStillTold base reading.old reading.new }
-    ensures plain { is_plain ≡ true → list_all is_free (left_in reading.new) ≡ true }
-    ensures counted { reading.new.number + length reading.new.lines
-        ≡ reading.old.number + length reading.old.lines }
-    ensures fewer { length reading.new.lines ≤ length reading.old.lines }
+fn pass_again<'a>(
+    progress: &mut Progress<'a>,
+    lines: &mut Lines<'a>,
+    number: &mut u64,
+    is_plain: bool,
+)
+    requires few { number.old + length lines.old < 2 ^ 64 }
+    requires plain { is_plain ≡ true → list_all is_free (map line_text lines.old) ≡ true }
+    ensures reached { (base : Parts) → LeadsTo base
+        (reading_at progress.old lines.old number.old) (reading_at progress.new lines.new number.new) }
+    ensures light { (base : Parts) → IsStillTold base
+        (reading_at progress.old lines.old number.old) (reading_at progress.new lines.new number.new) }
+    ensures plain { is_plain ≡ true → list_all is_free (map line_text lines.new) ≡ true }
+    ensures counted { number.new + length lines.new ≡ number.old + length lines.old }
+    ensures fewer { length lines.new ≤ length lines.old }
 {
     if !is_plain {
         return;
     }
-    if !reading.progress.repeats(&mut reading.lines) {
+    if !progress.repeats(lines) {
         return;
     }
-    reading.number += 1;
+    *number += 1;
 }
 
-// Reads `line`, the one before those that are left, and passes the next one if that is the EXTINF that repeats itself.
+// Reads `line`, the one of this number before `lines`, and passes the next one if that is the EXTINF that repeats itself.
 // `is_plain` says that none has a control character.
 #[inline(always)]
 fn read_line<'a>(
-    reading: &mut Reading<'a>,
+    progress: &mut Progress<'a>,
+    lines: &mut Lines<'a>,
+    number: &mut u64,
     line: &'a str,
     is_plain: bool,
 ) -> Result<(), PlaylistFault>
-    requires few { reading.old.number + length reading.old.lines + 1 < 2 ^ 64 }
-    requires plain { is_plain ≡ true → list_all is_free (line.now ∷ left_in reading.old) ≡ true }
-    ensures reached { (base : Parts) → ReadsLine base line.now reading.old result reading.new }
-    ensures light { (base : Parts) → TellsLine base line.now reading.old result reading.new }
-    ensures plain { OnOk result (is_plain ≡ true → list_all is_free (left_in reading.new) ≡ true) }
-    ensures counted { OnOk result (reading.new.number + length reading.new.lines
-        ≡ reading.old.number + length reading.old.lines + 1) }
-    ensures fewer { OnOk result (length reading.new.lines ≤ length reading.old.lines) }
+    requires few { number.old + length lines.old + 1 < 2 ^ 64 }
+    requires plain { is_plain ≡ true → list_all is_free (line.now ∷ map line_text lines.old) ≡ true }
+    ensures reached { (base : Parts) → ReadsLine base line.now
+        (reading_at progress.old lines.old number.old) result (reading_at progress.new lines.new number.new) }
+    ensures light { (base : Parts) → TellsLine base line.now
+        (reading_at progress.old lines.old number.old) result (reading_at progress.new lines.new number.new) }
+    ensures plain { OnOk result (is_plain ≡ true → list_all is_free (map line_text lines.new) ≡ true) }
+    ensures counted { OnOk result (number.new + length lines.new
+        ≡ number.old + length lines.old + 1) }
+    ensures fewer { OnOk result (length lines.new ≤ length lines.old) }
 {
-    match reading.progress.line(line, is_plain) {
-        Ok(()) => reading.number += 1,
-        Err(kind) => return Err(fault_at(kind, reading.number)),
+    match progress.line(line, is_plain) {
+        Ok(()) => *number += 1,
+        Err(kind) => return Err(fault_at(kind, *number)),
     }
-    pass_again(reading, is_plain);
+    pass_again(progress, lines, number, is_plain);
     Ok(())
 }
 
@@ -125,7 +135,13 @@ pub fn read_some<'a>(
         let Some(line) = reading.lines.next() else {
             return Ok(());
         };
-        match read_line(reading, line.text, is_plain) {
+        match read_line(
+            &mut reading.progress,
+            &mut reading.lines,
+            &mut reading.number,
+            line.text,
+            is_plain,
+        ) {
             Ok(()) => {}
             Err(fault) => return Err(fault),
         }
@@ -143,12 +159,24 @@ pub fn read_all<'a>(reading: &mut Reading<'a>, is_plain: bool) -> Result<(), Pla
     ensures light { (base : Parts) → Tells base reading.old result reading.new }
     ensures none_left { OnOk result (reading.new.lines ≡ []) }
 {
-    'lines: while let Some(line) = reading.lines.next() {
-        match read_line(reading, line.text, is_plain) {
+    // (copies of their own, which the compiler keeps in registers)
+    let (start, rest) = reading.lines.stand();
+    let mut lines = Lines::at(start, rest);
+    let mut number = reading.number;
+    'lines: while let Some(line) = lines.next() {
+        match read_line(
+            &mut reading.progress,
+            &mut lines,
+            &mut number,
+            line.text,
+            is_plain,
+        ) {
             Ok(()) => {}
             Err(fault) => return Err(fault),
         }
     }
+    reading.lines = lines;
+    reading.number = number;
     Ok(())
 }
 

@@ -4,58 +4,19 @@ ghost use Rattle.std.specs.List.{list_all};
 ghost use Rattle.std.specs.Str.Lines.{lines};
 ghost use Rattle.playlist_parse.specs.Inner.LineViews.{is_free};
 ghost use Rattle.playlist_parse.specs.Inner.Reached.{Reached, LeadsTo, left_in};
-ghost use Rattle.playlist_parse.specs.KeptLines.{WasRead};
+ghost use Rattle.playlist_kept.specs.KeptLines.{WasRead};
 ghost use Rattle.playlist_parse.specs.Inner.Source.{Agree, TakesOver, AreLinesOf, gone_after};
-ghost use Rattle.playlist_parse.specs.Inner.Places.{StandInBoth};
-ghost use Rattle.playlist_parse.specs.Kept.{IsKept, kept_segments};
+ghost use Rattle.playlist_kept.specs.Places.{StandInBoth};
+ghost use Rattle.playlist_kept.specs.Kept.{IsKept, kept_segments};
 
 use crate::date_ranges::Known;
 use crate::line::Lines;
-use crate::progress::{Progress, ReadHeading};
-use crate::read_playlist::Places;
+use crate::progress::Progress;
 use crate::reading::{Reading, read_some, reading_of};
-use playlist_model::{DateRange, Items, Member, Segment, Shared, Text};
-use segment_state::Stop;
+use playlist_kept::{KeptLines, Places, Source};
+use playlist_model::Text;
 use std::alloc::{AllocError, Global};
-use std::marker::Model;
 use uri_resolver::Base;
-
-/// The lines of a text after its header up to the last one that names a segment, and what stands after them.
-#[derive(Drop)]
-pub struct KeptLines {
-    text: Text,
-    next: u64,
-    heading: ReadHeading,
-    stop: Stop,
-    segments: usize,
-    date_ranges: usize,
-}
-
-impl Model for KeptLines {
-    ghost use Rattle.playlist_parse.specs.KeptLines.{KeptLines};
-
-    ghost Value = { KeptLines };
-
-    ghost view = { λ a. record {
-      text = a.text;
-      next = a.next;
-      heading = a.heading;
-      stop = a.stop;
-      segments = a.segments;
-      date_ranges = a.date_ranges;
-    } };
-}
-
-/// What is kept of the playlist that was read last, so that the next text can be read by what they have in common.
-#[derive(Drop)]
-pub struct Source {
-    /// The lines of its text.
-    pub lines: KeptLines,
-    /// Its segments.
-    pub segments: Vec<Member<Segment>>,
-    /// Its date ranges.
-    pub date_ranges: Items<Shared<DateRange>>,
-}
 
 #[tactic(auto, using(crate::proofs::GoingTo::dropped_all))]
 // The values from a place on.

@@ -1,5 +1,5 @@
 -- A segment that changes nothing has no tag before its time.
-use Rattle.std.proofs.Common.{◌≡◌, ℕ, true, List, [], ◌∷◌, ◌++◌, length, replicate, refl, sym, ap, Some, None, arith}
+use Rattle.std.proofs.Common.{◌≡◌, ℕ, true, List, [], ◌∷◌, ◌++◌, length, replicate, refl, Some, None, arith}
 use Rattle.std.specs.Prelude.{Option, is_none, ◌==◌}
 use Rattle.std.proofs.lemmas.Bool.{and_parts}
 use Rattle.std.proofs.lemmas.Bool.Decides.{nat_tests}
@@ -26,8 +26,4 @@ none_owed : (current : Option InitSection) (keys new : List Key) (steps : ℕ) (
 none_owed current keys new steps section k n s i = rw (k, n, s, i) refl
 
 pub nothing_owed : (current : Current) (next : OutSegment) → changes_nothing current.keys next ≡ true → [] ≡ said_text (changes_owed current next)
-nothing_owed current next h =
-    let a = and_parts _ _ h in
-    let b = and_parts _ _ a.1 in
-    let c = and_parts _ _ b.1 in
-    sym (ap said_text (none_owed current.init_section current.keys next.segment.keys next.discontinuities next.segment.init_section (no_key current.keys c.0) (no_key next.segment.keys c.1) (no_step next.discontinuities a.0) (no_section next.segment.init_section b.0)))
+nothing_owed current next h = grind (arith, and_parts, none_owed, no_key, no_step, no_section)

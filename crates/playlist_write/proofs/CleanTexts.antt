@@ -20,16 +20,10 @@ pub record Clean (bytes : List ℕ) : Type 0 where
   pub free : has_control bytes ≡ false
 
 pub clean-append : (xs ys : List ℕ) → Clean xs → Clean ys → Clean (xs ++ ys)
-clean-append xs ys a b = record {
-  utf8 = IsUtf8-append xs ys a.utf8 b.utf8;
-  free = ap (list_any is_control) (chars-append xs ys a.utf8) ∙ list_any-append is_control (chars xs) (chars ys) ∙ or_from _ _ a.free b.free;
-}
+clean-append xs ys a b = grind (arith, IsUtf8-append, chars-append, list_any-append, or_from)
 
 pub clean_printable : (bs : List ℕ) → list_all is_printable bs ≡ true → Clean bs
-clean_printable bs h = record {
-  utf8 = IsUtf8-from_ascii bs (ascii bs h);
-  free = printable_has_no_control bs h;
-}
+clean_printable bs h = grind (arith, IsUtf8-from_ascii, ascii, printable_has_no_control)
 
 -- ---- lines
 
@@ -67,8 +61,7 @@ split_text (line ∷ texts) h =
 joined : (texts : List (List ℕ)) → AllClean texts → lines_of_parts (texts ++ ([] ∷ [])) ≡ texts
 joined [] h = refl
 joined (line ∷ []) h = ap (λ l. l ∷ []) (strips line h.0)
-joined (line ∷ next ∷ texts) h =
-    ap (λ l. l ∷ lines_of_parts (next ∷ (texts ++ ([] ∷ [])))) (strips line h.0) ∙ ap (λ ls. line ∷ ls) (joined (next ∷ texts) h.1)
+joined (line ∷ next ∷ texts) h = grind (arith, strips, joined (next ∷ texts) h.1)
 
 -- the lines of a text are those that it was made of
 pub lines_of_text : (texts : List (List ℕ)) → AllClean texts → lines (text texts) ≡ texts

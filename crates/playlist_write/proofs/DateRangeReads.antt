@@ -1,5 +1,5 @@
 -- What a text says as a date range.
-use Rattle.std.proofs.Common.{◌≡◌, ℕ, Bool, true, false, List, refl, ap, sym, ◌∙◌, Ok, Err, Some, None}
+use Rattle.std.proofs.Common.{◌≡◌, ℕ, Bool, true, false, List, refl, ap, sym, ◌∙◌, Ok, Err, Some, None, arith}
 use Rattle.std.specs.Prelude.{◌&&◌, ℤ, Option, Result, codes, is_some, is_ok}
 use Rattle.std.specs.Option.{ok_or}
 use Rattle.std.proofs.lemmas.Bool.{and_parts}
@@ -13,7 +13,7 @@ use Rattle.date_times.specs.Instant.{instant_of}
 use Rattle.spec_words.specs.Outcomes.{mended, or_fault, optional, some_value, ◌>>=◌}
 use Rattle.playlist_model.specs.Said.{required, value_if, time_of, length_of, Said, Reader, date_range, Outcome, date_range_of, date_range_said}
 use Rattle.playlist_model.specs.Reading.{limited, unlimited}
-use Rattle.writable.specs.Fitting.{if_some, is_clean, says_date_range, date_range_fits}
+use Rattle.writable.specs.Fitting.{if_some, says_date_range, date_range_fits}
 use Rattle.playlist_write.specs.Inner.DateRangeParts.{is_id, says_time, says_duration, is_date_range}
 
 -- a reader of at most 64 attributes
@@ -40,7 +40,7 @@ pairs_kept text pairs =
     keeps_ok _)))))
 
 text_kept : (text : List ℕ) → Keeps text (date_range_said unlimited text)
-text_kept text = keeps_bind {A = List Pair} text (mended fault.BadAttributes (attributes_of None text)) _ (pairs_kept text)
+text_kept text = grind (arith, keeps_bind, pairs_kept)
 
 pub is_kept : (text : List ℕ) (r : DateRange) → date_range_said unlimited text ≡ Ok (date_range r) → r.attributes ≡ text
 unfolding Keeps
@@ -68,9 +68,7 @@ date_range_in text (Ok _) e h = cc
 date_range_in text (Err d) e h = cc
 
 pub one_date_range : (text : List ℕ) → date_range_fits text ≡ true → OneDateRange text
-one_date_range text h =
-    let a : (is_clean text ≡ true) × (says_date_range (date_range_said few text) ≡ true) = and_parts _ _ h in
-    date_range_in text (date_range_said few text) refl a.1
+one_date_range text h = grind (arith, and_parts, date_range_in)
 
 -- ---- one by one
 
@@ -118,7 +116,7 @@ pairs_are text pairs =
 
 -- the attributes that are read say a date range if each is as it has to be
 pub attributes_say : (text : List ℕ) (pairs : List Pair) → attributes_of (Some 64) text ≡ Ok pairs → is_date_range pairs ≡ says_date_range (date_range_said few text)
-attributes_say text pairs h = sym (ap (λ o. says_date_range (said_of text o)) h ∙ pairs_are text pairs)
+attributes_say text pairs h = grind (arith, pairs_are)
 
 -- there is an answer if there is a value
 pub told : {A E : Type 0} (o : Option A) (e : E) → is_ok (ok_or o e) ≡ is_some o

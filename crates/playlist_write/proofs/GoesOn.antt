@@ -1,14 +1,12 @@
 -- The lines of the segments that a window goes on are those that stood in the text before.
-use Rattle.std.proofs.Common.{◌≡◌, ℕ, zero, suc, ◌+◌, ◌-◌, ◌<◌, ◌≤◌, true, List, [], ◌∷◌, ◌++◌, length, take, drop, refl, ap, sym, ◌∙◌, subst, arith, append_assoc, length-append}
-use Rattle.std.specs.Prelude.{◌||◌, Option, Some, None, is_some, is_none}
+use Rattle.std.proofs.Common.{◌≡◌, ℕ, zero, suc, ◌+◌, ◌-◌, ◌<◌, ◌≤◌, true, List, [], ◌∷◌, ◌++◌, length, take, drop, refl, ap, sym, ◌∙◌, arith, append_assoc, length-append}
+use Rattle.std.specs.Prelude.{◌||◌, is_some, is_none}
 use Rattle.std.proofs.lemmas.List.{take-append-drop, take-take, drop-take, take_at, drop_at}
-use Rattle.playlist_model.specs.declared.InitSection.{InitSection}
-use Rattle.playlist_model.specs.LookBack.{or_earlier}
 use Rattle.playlist_model.specs.Said.{Said}
 use Rattle.stitcher.specs.declared.OutSegment.{OutSegment}
 use Rattle.playlist_write.specs.declared.OutPlaylist.{OutPlaylist}
 use Rattle.playlist_write.specs.declared.resumed.WrittenText.{WrittenText}
-use Rattle.playlist_write.specs.Owed.{Current, none_yet, after_segment, segment_owed, segments_owed, line_of, said_text, header_owed, ended_owed, with_feed, date_ranges_text, playlist_text}
+use Rattle.playlist_write.specs.Owed.{Current, none_yet, after_segment, segment_owed, segments_owed, said_text, header_owed, ended_owed, with_feed, date_ranges_text, playlist_text}
 use Rattle.playlist_write.specs.Laid.{after_segments, states_all, current_of, IsLaid, IsFrontLength}
 use Rattle.playlist_write.specs.Inner.Laid.{front_text}
 use Rattle.std.specs.Prelude.{codes}
@@ -20,29 +18,22 @@ lines s xs = said_text (segments_owed s xs)
 
 owed_joined : (s : Current) (xs ys : List OutSegment) → segments_owed s (xs ++ ys) ≡ segments_owed s xs ++ segments_owed (after_segments s xs) ys
 owed_joined s [] ys = refl
-owed_joined s (x ∷ xs) ys =
-    ap (λ l. segment_owed s x ++ l) (owed_joined (after_segment s x) xs ys)
-    ∙ sym (append_assoc (segment_owed s x) (segments_owed (after_segment s x) xs) (segments_owed (after_segments (after_segment s x) xs) ys))
+owed_joined s (x ∷ xs) ys = grind (arith, append_assoc, owed_joined (after_segment s x) xs ys)
 
 said_joined : (a b : List Said) → said_text (a ++ b) ≡ said_text a ++ said_text b
 said_joined [] b = refl
-said_joined (x ∷ a) b = ap (λ t. line_of x ++ t) (said_joined a b) ∙ sym (append_assoc (line_of x) (said_text a) (said_text b))
+said_joined (x ∷ a) b = grind (arith, append_assoc, said_joined a b)
 
 -- the lines of segments that come after others are what the state after those makes of them
 pub lines_joined : (s : Current) (xs ys : List OutSegment) → lines s (xs ++ ys) ≡ lines s xs ++ lines (after_segments s xs) ys
-lines_joined s xs ys = ap said_text (owed_joined s xs ys) ∙ said_joined (segments_owed s xs) (segments_owed (after_segments s xs) ys)
+lines_joined s xs ys = grind (arith, owed_joined, said_joined)
 
 pub after_joined : (s : Current) (xs ys : List OutSegment) → after_segments s (xs ++ ys) ≡ after_segments (after_segments s xs) ys
 after_joined s [] ys = refl
 after_joined s (x ∷ xs) ys = after_joined (after_segment s x) xs ys
 
-or_stated : (a b : Option InitSection) → (is_some a || is_none b) ≡ true → or_earlier a b ≡ or_earlier a None
-or_stated (Some x) b h = refl
-or_stated None None h = refl
-or_stated None (Some y) h = cc
-
 stated : (s : Current) (x : OutSegment) → (is_some x.segment.init_section || is_none s.init_section) ≡ true → after_segment s x ≡ after_segment none_yet x
-stated s x h = ap (λ (o : Option InitSection). record { keys = x.segment.keys; init_section = o }) (or_stated x.segment.init_section s.init_section h)
+stated s x h = grind arith
 
 -- of a window whose first segments are gone, `again` stand in the next one, which starts with a segment that states all that
 -- is in force after it: its lines are those of that segment by itself, what stood in the text before after that segment, and
@@ -78,9 +69,7 @@ goes_by gone x rest k h =
     }
 
 pub goes_on : (gone all fresh : List OutSegment) (again : ℕ) → 1 ≤ again → states_all (after_segments none_yet gone) all ≡ true → drop again all ≡ fresh → GoesOn gone all again fresh
-goes_on gone [] fresh again l h f = absurd (cc)
-goes_on gone (x ∷ rest) fresh zero l h f = absurd (omega arith)
-goes_on gone (x ∷ rest) fresh (suc k) l h f = subst (GoesOn gone (x ∷ rest) (suc k)) f (goes_by gone x rest k h)
+goes_on gone all fresh again l h f = grind (arith, goes_by)
 
 -- ---- the text
 
@@ -98,11 +87,7 @@ cut front a kept back =
 
 pub kept_lines : (text front body back a kept : List ℕ) (from till : ℕ) → text ≡ front ++ (body ++ back) → body ≡ a ++ kept → from ≡ length front → till ≡ length front + length body
     → drop (from + length a) (take till text) ≡ kept
-kept_lines text front body back a kept from till t b f l =
-    ap (λ n. drop (n + length a) (take till text)) f
-    ∙ (ap (λ n. drop (length front + length a) (take n text)) l
-    ∙ (ap (λ u. drop (length front + length a) (take (length front + length body) u)) t
-    ∙ (ap (λ u. drop (length front + length a) (take (length front + length u) (front ++ (u ++ back)))) b ∙ cut front a kept back)))
+kept_lines text front body back a kept from till t b f l = grind (arith, cut)
 
 -- the lines before the segments tell of the first of these alone
 one_alone : {A : Type 0} (f : List OutSegment → A) → ((x : OutSegment) (xs : List OutSegment) → f (x ∷ xs) ≡ f (x ∷ [])) → (xs ys : List OutSegment) → take 1 xs ≡ take 1 ys → f xs ≡ f ys
@@ -113,14 +98,11 @@ one_alone f h (x ∷ xs) (y ∷ ys) e = h x xs ∙ (ap f e ∙ sym (h y ys))
 
 pub front_with : (p : OutPlaylist) (segments : List OutSegment) → take 1 segments ≡ take 1 p.segments → front_text (record p { segments = segments }) ≡ front_text p
 unfolding front_text
-front_with p segments e = one_alone (λ xs. front_text (record p { segments = xs })) (λ x xs. refl) segments p.segments e
+front_with p segments e = grind arith
 
 whole_text : (p : OutPlaylist) (body : List ℕ) → front_text p ++ (body ++ said_text (ended_owed p.end_list)) ≡ with_feed (codes "#EXTM3U") ++ (said_text (header_owed p) ++ (date_ranges_text p.date_ranges ++ (body ++ said_text (ended_owed p.end_list))))
 unfolding front_text
-whole_text p body =
-    let end = body ++ said_text (ended_owed p.end_list) in
-    append_assoc (with_feed (codes "#EXTM3U")) (said_text (header_owed p) ++ date_ranges_text p.date_ranges) end
-    ∙ ap (λ t. with_feed (codes "#EXTM3U") ++ t) (append_assoc (said_text (header_owed p)) (date_ranges_text p.date_ranges) end)
+whole_text p body = grind (arith, append_assoc)
 
 -- a text of these parts is the playlist's, and laid out so
 pub record Laid (p : OutPlaylist) (w : WrittenText) : Type 0 where
@@ -129,21 +111,7 @@ pub record Laid (p : OutPlaylist) (w : WrittenText) : Type 0 where
 
 pub is_laid : (p : OutPlaylist) (w : WrittenText) (body : List ℕ) (end : Current) → body ≡ lines none_yet p.segments → end ≡ after_segments none_yet p.segments
     → w.text ≡ front_text p ++ (body ++ said_text (ended_owed p.end_list)) → w.from ≡ length (front_text p) → w.till ≡ length (front_text p ++ body) → w.count ≡ length p.segments → current_of w ≡ end → Laid p w
-is_laid p w body end b e t f l n c =
-    let ended = said_text (ended_owed p.end_list) in
-    let is : w.text ≡ front_text p ++ (lines none_yet p.segments ++ ended) = t ∙ ap (λ u. front_text p ++ (u ++ ended)) b in
-    record {
-      text = is ∙ whole_text p (lines none_yet p.segments);
-      laid = record {
-        front = front_text p;
-        back = ended;
-        is = is;
-        from = f;
-        till = l ∙ (length-append (front_text p) body ∙ ap (λ u. length (front_text p) + length u) b);
-        count = n;
-        current = c ∙ e;
-      };
-    }
+is_laid p w body end b e t f l n c = grind (arith, whole_text, length-append)
 
 -- the parts that come together are the lines of the whole window
 pub record Joins (p : OutPlaylist) (last : WrittenText) (kept : List ℕ) (fresh : List OutSegment) : Type 0 where
@@ -177,11 +145,8 @@ take_step (suc k) x xs h = let e : k ≡ suc k - 1 = omega arith in ap (λ i. x 
 
 pub text_goes : (out out' : List ℕ) (s : Current) (n : ℕ) (x : OutSegment) (left xs : List OutSegment) → 0 < n → left ≡ x ∷ xs → out' ≡ out ++ said_text (segment_owed s x)
     → out' ++ lines (after_segment s x) (take (n - 1) xs) ≡ out ++ lines s (take n left)
-text_goes out out' s n x left xs h l e =
-    ap (λ t. t ++ lines (after_segment s x) (take (n - 1) xs)) e
-    ∙ (append_assoc out (said_text (segment_owed s x)) (lines (after_segment s x) (take (n - 1) xs))
-    ∙ ap (λ t. out ++ t) (sym (ap (λ ys. lines s (take n ys)) l ∙ (ap (lines s) (take_step n x xs h) ∙ said_joined (segment_owed s x) (segments_owed (after_segment s x) (take (n - 1) xs))))))
+text_goes out out' s n x left xs h l e = grind (arith, append_assoc, take_step, said_joined)
 
 pub force_goes : (s : Current) (n : ℕ) (x : OutSegment) (left xs : List OutSegment) → 0 < n → left ≡ x ∷ xs
     → after_segments (after_segment s x) (take (n - 1) xs) ≡ after_segments s (take n left)
-force_goes s n x left xs h l = sym (ap (λ ys. after_segments s (take n ys)) l ∙ ap (after_segments s) (take_step n x xs h))
+force_goes s n x left xs h l = grind arith

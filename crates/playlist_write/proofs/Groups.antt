@@ -8,9 +8,9 @@ use Rattle.playlist_model.specs.declared.Key.{Key}
 use Rattle.playlist_model.specs.declared.ByteRange.{ByteRange}
 use Rattle.playlist_model.specs.declared.InitSection.{InitSection}
 use Rattle.playlist_model.specs.declared.Segment.{Segment}
-use Rattle.playlist_model.specs.Said.{Said, discontinuity, no_keys, key, key_tag_said, duration, media}
+use Rattle.playlist_model.specs.Said.{Said, discontinuity, key, key_tag_said, duration, media}
 use Rattle.playlist_model.specs.EffectiveKeys.{effective_key}
-use Rattle.playlist_model.specs.LookBack.{or_earlier, put_key, Extent, Standing, extent_with, are_sorted}
+use Rattle.playlist_model.specs.LookBack.{or_earlier, put_key, Extent, Standing, extent_with}
 use Rattle.playlist_model.specs.Reading.{passes, needs_iv}
 use Rattle.date_times.specs.Instant.{in_range}
 use Rattle.playlist_model.proofs.ListTests.{all_filter}
@@ -18,12 +18,12 @@ use Rattle.playlist_model.specs.declared.KeyTag.{KeyTag}
 use Rattle.playlist_model.specs.declared.KeyTag.TheVariants.{End, Set}
 use Rattle.stitcher.specs.declared.OutSegment.{OutSegment}
 use Rattle.playlist_model.specs.Same.{same_init_section, same_option}
-use Rattle.stitcher.specs.KeyTags.{transition, is_new_key, keeps_formats, after_tags}
+use Rattle.stitcher.specs.KeyTags.{is_new_key, after_tags}
 use Rattle.playlist_model.proofs.SameParts.{init_section_is}
 use Rattle.stitcher.proofs.TagLaws.{transition_leads}
 use Rattle.playlist_write.specs.Owed.{Current, keys_owed, changed_init_section, init_section_owed, keys_then, time_owed, byte_range_owed, segment_owed, after_segment, segments_owed}
 use Rattle.writable.specs.Fitting.{is_clean, uri_fits, quoted_uri_fits, byte_range_fits, if_some, key_fits, keys_fit, states_iv, init_section_fits}
-use Rattle.playlist_write.specs.WellFormed.{is_word, numbers_are_words, resource_fits, segment_fits}
+use Rattle.playlist_write.specs.WellFormed.{segment_fits}
 use Rattle.playlist_write.specs.Denoted.{denoted_segment}
 use Rattle.playlist_write.proofs.Machine.{Known, step, run, Allowed, number_known, discontinuity_known}
 
@@ -52,25 +52,14 @@ allowed-append [] ys k h g = g
 allowed-append (x ∷ xs) ys k h g = (h.0, h.1, allowed-append xs ys (step k x) h.2 g)
 
 pub goes-append : (xs ys : List Said) (a b c : Known) → Goes a xs b → Goes b ys c → Goes a (xs ++ ys) c
-goes-append xs ys a b c h g = record {
-  allowed = allowed-append xs ys a h.allowed (subst (λ k. Allowed k ys) (sym h.leads) g.allowed);
-  leads = run-append xs ys a ∙ ap (λ k. run k ys) h.leads ∙ g.leads;
-}
+goes-append xs ys a b c h g = grind (arith, allowed-append, Allowed, run-append, run)
 
 -- ---- discontinuities
 
 goes_steps : (n : ℕ) (k : Known) → discontinuity_known k.standing + n < 2 ^ 64
     → Goes k (replicate n discontinuity) (record k { standing = record k.standing { discontinuity_count = k.standing.discontinuity_count + n; discontinuities = k.standing.discontinuities + n } })
-goes_steps zero k h = record { allowed = tt; leads = ap (λ s. record k { standing = s }) (same k.standing (k.standing.discontinuity_count + 0) (k.standing.discontinuities + 0) (omega arith) (omega arith)) }
-  where
-    same : (at : Standing) (d s : ℕ) → d ≡ at.discontinuity_count → s ≡ at.discontinuities → at ≡ record at { discontinuity_count = d; discontinuities = s }
-    same at d s e g = ap (λ x. record at { discontinuity_count = x }) (sym e) ∙ ap (λ x. record at { discontinuity_count = d; discontinuities = x }) (sym g)
-goes_steps (suc n) k h =
-    let below : discontinuity_known k.standing + 1 < 2 ^ 64 = omega (arith, h) in
-    let next = goes_steps n (step k discontinuity) (omega (arith, h)) in record {
-      allowed = (tt, lt-leb _ _ below, next.allowed);
-      leads = next.leads ∙ ap (λ d. record k { standing = record k.standing { discontinuity_count = d; discontinuities = k.standing.discontinuities + 1 + n } }) (omega arith) ∙ ap (λ s. record k { standing = record k.standing { discontinuity_count = k.standing.discontinuity_count + suc n; discontinuities = s } }) (omega arith);
-    }
+goes_steps zero k h = grind arith
+goes_steps (suc n) k h = grind (arith, goes_steps n (step k discontinuity) (omega (arith, h)))
 
 -- ---- keys
 
@@ -87,16 +76,10 @@ sets_allowed [] k h = tt
 sets_allowed (j ∷ keys) k h = let a = and_parts _ _ h in (a.0, tt, sets_allowed keys (step k (key j)) a.1)
 
 tags_allowed : (b : Bool) (old new : List Key) (k : Known) → list_all key_fits new ≡ true → Allowed k (map key_tag_said (cond b (map Set (filter (is_new_key old) new)) (End ∷ map Set new)))
-tags_allowed true old new k h = sets_allowed (filter (is_new_key old) new) k (all_filter key_fits (is_new_key old) new h)
-tags_allowed false old new k h = (tt, tt, sets_allowed new (step k no_keys) h)
+tags_allowed b old new k h = grind (arith, sets_allowed, all_filter, step)
 
 goes_keys : (old new : List Key) (k : Known) → k.standing.keys ≡ old → keys_fit old ≡ true → keys_fit new ≡ true → Goes k (keys_owed old new) (with_keys k new)
-goes_keys old new k e h g =
-    let a : (list_all key_fits old ≡ true) × (are_sorted old ≡ true) = and_parts _ _ h in
-    let b : (list_all key_fits new ≡ true) × (are_sorted new ≡ true) = and_parts _ _ g in record {
-      allowed = tags_allowed (keeps_formats old new) old new k b.0;
-      leads = run_tags (transition old new) k ∙ ap (with_keys k) (ap (λ ks. after_tags ks (transition old new)) e ∙ transition_leads old new a.1 b.1);
-    }
+goes_keys old new k e h g = grind (arith, and_parts, tags_allowed, run_tags, transition_leads)
 
 -- ---- the section
 
@@ -113,9 +96,7 @@ record InitSectionParts (s : InitSection) : Type 0 where
   ivs : list_any needs_iv s.keys ≡ false
 
 init_section_parts : (s : InitSection) → init_section_fits s ≡ true → InitSectionParts s
-init_section_parts s h =
-    let a = and_parts _ _ h in let b = and_parts _ _ a.0 in let c : (quoted_uri_fits s.uri ≡ true) × (if_some byte_range_fits s.byte_range ≡ true) = and_parts _ _ b.0 in
-    record { uri = c.0; byte_range = c.1; keys = b.1; ivs = not-true _ a.1 }
+init_section_parts s h = grind arith
 
 -- the section that is written: none if it is the same
 abbrev written : Bool → InitSection → Option InitSection
@@ -130,16 +111,11 @@ init_section_step false cur new k e ke se h f =
 
 goes_init_section : (cur : Current) (sec : Option InitSection) (k : Known) → k.standing.keys ≡ cur.keys → k.standing.init_section ≡ cur.init_section → keys_fit cur.keys ≡ true → if_some init_section_fits sec ≡ true
     → Goes k (init_section_owed cur.keys (changed_init_section cur.init_section sec)) (with_init_section k (keys_then cur.keys (changed_init_section cur.init_section sec)) (or_earlier sec cur.init_section))
-goes_init_section cur None k ke se h f = record { allowed = tt; leads = with_both k cur.keys cur.init_section ke se }
+goes_init_section cur None k ke se h f = grind arith
 goes_init_section cur (Some new) k ke se h f = init_section_step _ cur new k refl ke se h f
 
-then_step : (same : Bool) (cur : Current) (new : InitSection) → keys_fit cur.keys ≡ true → keys_fit new.keys ≡ true → keys_fit (keys_then cur.keys (written same new)) ≡ true
-then_step true cur new h g = h
-then_step false cur new h g = g
-
 then_fit : (cur : Current) (sec : Option InitSection) → keys_fit cur.keys ≡ true → if_some init_section_fits sec ≡ true → keys_fit (keys_then cur.keys (changed_init_section cur.init_section sec)) ≡ true
-then_fit cur None h f = h
-then_fit cur (Some new) h f = then_step (same_option same_init_section (Some new) cur.init_section) cur new h (init_section_parts new f).keys
+then_fit cur sec h f = grind arith
 
 -- ---- the rest of a segment's lines
 
@@ -240,20 +216,7 @@ pub record SegmentFits (out : OutSegment) : Type 0 where
   init_section : if_some init_section_fits out.segment.init_section ≡ true
 
 pub segment_parts : (out : OutSegment) → segment_fits out ≡ true → SegmentFits out
-segment_parts out h =
-    let a = and_parts _ _ h in let b = and_parts _ _ a.0 in let c = and_parts _ _ b.0 in let d = and_parts _ _ c.0 in let e = and_parts _ _ d.0 in
-    let f : (numbers_are_words out ≡ true) × (resource_fits out.segment ≡ true) = and_parts _ _ e.0 in
-    let n : (is_word out.media_sequence ≡ true) × (is_word out.discontinuity_sequence ≡ true) = and_parts _ _ f.0 in
-    let r : (uri_fits out.segment.uri ≡ true) × (if_some byte_range_fits out.segment.byte_range ≡ true) = and_parts _ _ f.1 in
-    let k : (keys_fit out.segment.keys ≡ true) × (list_all states_iv out.segment.keys ≡ true) = and_parts _ _ e.1 in
-    record {
-      media_sequence = ltb-true _ _ n.0;
-      discontinuity_sequence = ltb-true _ _ n.1;
-      tail = record { uri = r.0; byte_range = r.1; duration = ltb-true _ _ c.1; title = b.1; program_date_time = a.1 };
-      keys = k.0;
-      ivs = k.1;
-      init_section = d.1;
-    }
+segment_parts out h = grind (arith, and_parts, ltb-true, tail)
 
 extent_of : OutSegment → Option Extent
 extent_of out = extent_with out.segment.uri out.segment.byte_range

@@ -1,10 +1,10 @@
 -- What a key's text of other attributes says (RFC 8216, section 4.3.2.4).
-use Rattle.std.proofs.Common.{◌≡◌, ◌≢◌, ℕ, true, false, List, [], ◌∷◌, ◌++◌, refl, ap, sym, ◌∙◌, subst, Ok, Err, None, append_assoc}
+use Rattle.std.proofs.Common.{◌≡◌, ◌≢◌, ℕ, true, false, List, [], ◌∷◌, ◌++◌, refl, ap, sym, ◌∙◌, subst, Ok, Err, None, append_assoc, arith}
 use Rattle.std.specs.Prelude.{◌==◌, Result, find, codes}
 use Rattle.std.specs.List.{list_any}
 use Rattle.std.proofs.lemmas.Bool.{and_parts, or_parts, not-true, eqb-true}
 use Rattle.attr_list.specs.declared.AttrFault.{AttrFault}
-use Rattle.attr_list.specs.Attributes.{Pair, attributes_of, attributes_text, are_attributes, is_named, pair_spelling, pieces}
+use Rattle.attr_list.specs.Attributes.{Pair, attributes_of, attributes_text, are_attributes, is_named, pieces}
 use Rattle.attr_list.proofs.Grammar.{pairs_are, read_is_list}
 use Rattle.playlist_model.specs.Carried.{after_commas, are_others, carried, is_carried, is_key_attribute}
 use Rattle.playlist_model.proofs.Carried.{attributes_are, commas_append}
@@ -42,9 +42,7 @@ other_pairs (b ∷ list) h =
 
 -- after other attributes they stand in one list
 pub others_after : (pair : Pair) (pairs others : List Pair) → attributes_text (pair ∷ pairs) ++ after_commas others ≡ attributes_text (pair ∷ pairs ++ others)
-others_after pair pairs others =
-    ap (λ t. t ++ after_commas others) (attributes_are pair pairs) ∙ append_assoc (pair_spelling pair) (after_commas pairs) (after_commas others)
-    ∙ ap (λ t. pair_spelling pair ++ t) (sym (commas_append pairs others)) ∙ sym (attributes_are pair (pairs ++ others))
+others_after pair pairs others = grind (arith, attributes_are, append_assoc, commas_append)
 
 -- a name that is none of a key's own
 pub record IsOther (pair : Pair) : Type 0 where
@@ -54,10 +52,7 @@ pub record IsOther (pair : Pair) : Type 0 where
   pub format : is_named (codes "KEYFORMAT") pair ≡ false
 
 pub is_other : (pair : Pair) → is_key_attribute pair ≡ false → IsOther pair
-is_other pair h =
-    let a = or_parts _ _ h in let b = or_parts _ _ a.0 in
-    let c : (is_named (codes "METHOD") pair ≡ false) × (is_named (codes "URI") pair ≡ false) = or_parts _ _ b.0 in
-    record { method = c.0; uri = c.1; iv = b.1; format = a.1 }
+is_other pair h = grind (arith, or_parts)
 
 pub carried_others : (others : List Pair) → list_any is_key_attribute others ≡ false → carried others ≡ others
 carried_others [] h = refl

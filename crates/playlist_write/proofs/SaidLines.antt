@@ -47,7 +47,7 @@ use Rattle.date_times.proofs.TimeLaws.{time_reads}
 use Rattle.playlist_write.proofs.WrittenTimes.{times_are_clean}
 
 pub clean_is : (bs : List ℕ) → is_clean bs ≡ true → Clean bs
-clean_is bs h = let a = and_parts _ _ h in record { utf8 = IsUtf8-from_is_utf8 bs a.0; free = not-true _ a.1 }
+clean_is bs h = grind (arith, and_parts, IsUtf8-from_is_utf8, not-true)
 
 clean_value : (quoted : Bool) (value : List ℕ) → value_fits quoted value ≡ true → Clean value
 clean_value quoted value h = clean_is value (and_parts _ _ h).0
@@ -56,7 +56,7 @@ clean_uri : (text : List ℕ) → quoted_uri_fits text ≡ true → Clean text
 clean_uri text h = clean_value true text (and_parts _ _ h).0
 
 scheme_is : (text : List ℕ) → quoted_uri_fits text ≡ true → has_scheme text ≡ true
-scheme_is text h = let a : (value_fits true text ≡ true) × (has_scheme text ≡ true) = and_parts _ _ h in a.1
+scheme_is text h = grind arith
 
 some_pairs : (pair : Pair) (pairs : List Pair) → pair ∷ pairs ≢ []
 some_pairs pair pairs h = cc

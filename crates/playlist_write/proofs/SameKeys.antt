@@ -1,5 +1,5 @@
 -- No tag stands between keys that are the same.
-use Rattle.std.proofs.Common.{◌≡◌, Bool, true, false, cond, not, ◌||◌, List, [], ◌∷◌, ◌++◌, map, filter, refl, ap, sym, ◌∙◌, append_assoc}
+use Rattle.std.proofs.Common.{◌≡◌, Bool, true, false, cond, ◌||◌, List, [], ◌∷◌, ◌++◌, map, filter, refl, ap, sym, ◌∙◌, append_assoc, arith}
 use Rattle.std.specs.List.{list_any, list_all}
 use Rattle.std.specs.Cmp.Lexicographic.{pointwise}
 use Rattle.std.proofs.lemmas.List.Folds.{list_any-append}
@@ -7,7 +7,6 @@ use Rattle.std.proofs.lemmas.Bool.{and_from}
 use Rattle.std.proofs.lemmas.Slice.Eq.{bytes_eq-Decides}
 use Rattle.playlist_model.specs.declared.Key.{Key}
 use Rattle.playlist_model.specs.declared.KeyTag.TheVariants.{Set, End}
-use Rattle.playlist_model.specs.LookBack.{has_format}
 use Rattle.playlist_model.specs.Same.{same_key}
 use Rattle.playlist_model.proofs.SameParts.{key_same, keys_are}
 use Rattle.stitcher.specs.KeyTags.{has_its_format, is_new_key, transition}
@@ -20,19 +19,15 @@ or_true false c = refl
 
 -- what holds of a key is found in the keys around it
 there : (p : Key → Bool) (front : List Key) (key : Key) (later : List Key) → p key ≡ true → list_any p (front ++ key ∷ later) ≡ true
-there p front key later h = list_any-append p front (key ∷ later) ∙ (ap (λ b. list_any p front || (b || list_any p later)) h ∙ or_true (list_any p front) (list_any p later))
+there p front key later h = grind (arith, list_any-append, or_true)
 
 formats_there : (front keys : List Key) → list_all (has_its_format (front ++ keys)) keys ≡ true
 formats_there front [] = refl
-formats_there front (key ∷ later) =
-    and_from _ _ (there (has_format key.format) front key later ((bytes_eq-Decides key.format key.format).1 refl))
-    (ap (λ all. list_all (has_its_format all) later) (sym (append_assoc front (key ∷ []) later)) ∙ formats_there (front ++ key ∷ []) later)
+formats_there front (key ∷ later) = grind (arith, and_from, there, bytes_eq-Decides, append_assoc, formats_there (front ++ key ∷ []) later)
 
 none_new : (front keys : List Key) → filter (is_new_key (front ++ keys)) keys ≡ []
 none_new front [] = refl
-none_new front (key ∷ later) =
-    ap (λ b. cond (not b) (key ∷ filter (is_new_key (front ++ key ∷ later)) later) (filter (is_new_key (front ++ key ∷ later)) later)) (there (same_key key) front key later (key_same key key refl))
-    ∙ (ap (λ all. filter (is_new_key all) later) (sym (append_assoc front (key ∷ []) later)) ∙ none_new (front ++ key ∷ []) later)
+none_new front (key ∷ later) = grind (arith, there, key_same, append_assoc, none_new (front ++ key ∷ []) later)
 
 same_lead : (keys : List Key) → transition keys keys ≡ []
 same_lead keys =

@@ -1,5 +1,5 @@
 -- The parts of a key and of a section, if they fit, are written as attributes.
-use Rattle.std.proofs.Common.{◌≡◌, ℕ, ◌^◌, ◌<◌, ◌+◌, Bool, true, false, not, cond, List, [], ◌∷◌, ◌++◌, length, refl, ap, sym, ◌∙◌, subst, append_assoc, append-nil, arith, Some, None}
+use Rattle.std.proofs.Common.{◌≡◌, ℕ, ◌^◌, ◌<◌, ◌+◌, Bool, true, false, not, cond, List, [], ◌∷◌, ◌++◌, length, refl, ap, sym, ◌∙◌, subst, append_assoc, append-nil, arith}
 use Rattle.std.specs.Prelude.{Option, codes, bytes_eq, decimal, ◌&&◌}
 use Rattle.std.specs.List.{list_any}
 use Rattle.std.specs.Char.{is_ascii_hexdigit}
@@ -11,10 +11,10 @@ use Rattle.attr_list.specs.Attributes.{Pair, is_name, is_value, is_quote, ends_p
 use Rattle.attr_list.proofs.Elements.{none_from}
 use Rattle.playlist_model.specs.declared.Key.{Key}
 use Rattle.playlist_model.specs.declared.ByteRange.{ByteRange}
-use Rattle.playlist_model.specs.Carried.{are_others, is_key_attribute}
+use Rattle.playlist_model.specs.Carried.{is_key_attribute}
 use Rattle.date_times.specs.Digits.{fixed_digits}
-use Rattle.playlist_write.specs.Spelling.{plain, in_quotes, iv_text, iv_pairs, format_pairs, own_pairs, key_text, part_pairs, init_section_pairs, byte_range_text}
-use Rattle.writable.specs.Fitting.{if_some, is_clean, value_fits, quoted_uri_fits, byte_range_fits, iv_fits, method_fits, key_fits}
+use Rattle.playlist_write.specs.Spelling.{plain, in_quotes, iv_text, iv_pairs, format_pairs, own_pairs, key_text, init_section_pairs, byte_range_text}
+use Rattle.writable.specs.Fitting.{if_some, is_clean, value_fits, quoted_uri_fits, byte_range_fits, iv_fits, key_fits}
 use Rattle.playlist_write.proofs.OtherFields.{IsOther, OtherPairs, other_pairs, is_other, others_after}
 use Rattle.playlist_write.proofs.WrittenNumbers.{is_number_byte, decimal_bytes, hex_bytes}
 
@@ -30,17 +30,12 @@ pub record KeyParts (k : Key) : Type 0 where
   pub others : OtherPairs k.other_attributes
 
 pub key_parts : (k : Key) → key_fits k ≡ true → KeyParts k
-key_parts k h =
-    let a = and_parts _ _ h in let b = and_parts _ _ a.0 in let c = and_parts _ _ b.0 in
-    let d : (value_fits true k.format ≡ true) × (method_fits k.method ≡ true) = and_parts _ _ c.0 in
-    let m : (value_fits false k.method ≡ true) × (not (bytes_eq k.method (codes "NONE")) ≡ true) = and_parts _ _ d.1 in
-    let o : (is_clean k.other_attributes ≡ true) × (are_others k.other_attributes ≡ true) = and_parts _ _ a.1 in
-    record { format = d.0; method = m.0; not_none = not-true _ m.1; uri = c.1; iv = b.1; clean = o.0; others = other_pairs k.other_attributes o.1 }
+key_parts k h = grind (arith, and_parts, not-true, other_pairs)
 
 -- ---- values
 
 value_is : (quoted : Bool) (value : List ℕ) → value_fits quoted value ≡ true → is_value quoted value ≡ true
-value_is quoted value h = let a : (is_clean value ≡ true) × (is_value quoted value ≡ true) = and_parts _ _ h in a.1
+value_is quoted value h = grind arith
 
 hex_is_plain : (b : ℕ) → is_ascii_hexdigit b ≡ true → ends_plain b ≡ false
 hex_is_plain b h = grind (arith, nat_tests)
@@ -73,7 +68,7 @@ pair_is : (name value : List ℕ) (quoted : Bool) → is_name name ≡ true → 
 pair_is name value quoted n v = and_from (is_name name) (is_value quoted value) n v
 
 turned : (a b : List ℕ) → bytes_eq a b ≡ false → bytes_eq b a ≡ false
-turned a b h = false_from_ne_true _ (λ e. both_ways _ h ((bytes_eq-Decides a b).1 (sym ((bytes_eq-Decides b a).0 e))))
+turned a b h = grind (arith, false_from_ne_true, both_ways, bytes_eq-Decides)
 
 -- pairs that are apart are so after pairs of whose names they have none
 after_others : (before mid others : List Pair) → list_any is_key_attribute others ≡ false → ((pair : Pair) → IsOther pair → list_any (is_named pair.name) before ≡ false)
@@ -97,9 +92,6 @@ method_pair method = plain (codes "METHOD") method
 abbrev uri_pair : List ℕ → Pair
 uri_pair uri = in_quotes (codes "URI") uri
 
-abbrev iv_pair : ℕ → Pair
-iv_pair iv = plain (codes "IV") (iv_text iv)
-
 abbrev format_pair : List ℕ → Pair
 format_pair format = in_quotes (codes "KEYFORMAT") format
 
@@ -107,21 +99,11 @@ format_pair format = in_quotes (codes "KEYFORMAT") format
 after_iv : (b : Bool) (before : List Pair) (format : List ℕ) (others : List Pair) → is_value true format ≡ true → list_any is_key_attribute others ≡ false → are_attributes others ≡ true
     → list_any (is_named (codes "KEYFORMAT")) before ≡ false → ((pair : Pair) → IsOther pair → list_any (is_named pair.name) before ≡ false)
     → are_apart before (cond b [] (format_pair format ∷ []) ++ others) ≡ true
-after_iv true before format others v h d n f = others_apart before others h d f
-after_iv false before format others v h d n f =
-    more_apart before others (format_pair format) (pair_is (codes "KEYFORMAT") format true refl v) n
-    (others_apart (before ++ format_pair format ∷ []) others h d
-    (λ pair o. list_any-append (is_named pair.name) before (format_pair format ∷ []) ∙ or_from _ _ (f pair o) (or_from _ _ (turned (codes "KEYFORMAT") pair.name o.format) refl)))
+after_iv b before format others v h d n f = grind (arith, others_apart, more_apart, pair_is, list_any-append, or_from, turned)
 
 after_uri : (iv : Option ℕ) (b : Bool) (method uri format : List ℕ) (others : List Pair) → if_some iv_fits iv ≡ true → is_value true format ≡ true → list_any is_key_attribute others ≡ false → are_attributes others ≡ true
     → are_apart (method_pair method ∷ uri_pair uri ∷ []) (iv_pairs iv ++ (cond b [] (format_pair format ∷ []) ++ others)) ≡ true
-after_uri None b method uri format others i v h d =
-    after_iv b (method_pair method ∷ uri_pair uri ∷ []) format others v h d refl
-    (λ pair o. or_from _ _ (turned (codes "METHOD") pair.name o.method) (or_from _ _ (turned (codes "URI") pair.name o.uri) refl))
-after_uri (Some iv) b method uri format others i v h d =
-    more_apart (method_pair method ∷ uri_pair uri ∷ []) (cond b [] (format_pair format ∷ []) ++ others) (iv_pair iv) (pair_is (codes "IV") (iv_text iv) false refl (iv_is_value iv i)) refl
-    (after_iv b (method_pair method ∷ uri_pair uri ∷ iv_pair iv ∷ []) format others v h d refl
-    (λ pair o. or_from _ _ (turned (codes "METHOD") pair.name o.method) (or_from _ _ (turned (codes "URI") pair.name o.uri) (or_from _ _ (turned (codes "IV") pair.name o.iv) refl))))
+after_uri iv b method uri format others i v h d = grind (arith, after_iv, or_from, turned, more_apart, pair_is, iv_is_value)
 
 quoted_uri_is : (uri : List ℕ) → quoted_uri_fits uri ≡ true → is_value true uri ≡ true
 quoted_uri_is uri h = value_is true uri (and_parts _ _ h).0
@@ -131,10 +113,7 @@ abbrev pub key_pairs : Key → List Pair → List Pair
 key_pairs k others = method_pair k.method ∷ uri_pair k.uri ∷ (iv_pairs k.iv ++ (format_pairs k.format ++ others))
 
 pairs_apart : (k : Key) (others : List Pair) → KeyParts k → list_any is_key_attribute others ≡ false → are_attributes others ≡ true → are_attributes (key_pairs k others) ≡ true
-pairs_apart k others h n a =
-    more_apart [] (uri_pair k.uri ∷ (iv_pairs k.iv ++ (format_pairs k.format ++ others))) (method_pair k.method) (pair_is (codes "METHOD") k.method false refl (value_is false k.method h.method)) refl
-    (more_apart (method_pair k.method ∷ []) (iv_pairs k.iv ++ (format_pairs k.format ++ others)) (uri_pair k.uri) (pair_is (codes "URI") k.uri true refl (quoted_uri_is k.uri h.uri)) refl
-    (after_uri k.iv (bytes_eq k.format (codes "identity")) k.method k.uri k.format others h.iv (value_is true k.format h.format) n a))
+pairs_apart k others h n a = grind (arith, more_apart, pair_is, value_is, quoted_uri_is, after_uri)
 
 pub key_attributes : (k : Key) (h : KeyParts k) → are_attributes (key_pairs k h.others.pairs) ≡ true
 key_attributes k h = pairs_apart k h.others.pairs h h.others.none_own h.others.apart
@@ -153,8 +132,4 @@ key_text_is k h =
 -- ---- a section's attributes
 
 pub init_section_attributes : (uri : List ℕ) (part : Option ByteRange) → quoted_uri_fits uri ≡ true → if_some byte_range_fits part ≡ true → are_attributes (init_section_pairs uri part) ≡ true
-init_section_attributes uri None h g = more_apart [] [] (uri_pair uri) (pair_is (codes "URI") uri true refl (quoted_uri_is uri h)) refl refl
-init_section_attributes uri (Some part) h g =
-    let value = byte_range_text part.length part.offset in
-    more_apart [] (part_pairs (Some part)) (uri_pair uri) (pair_is (codes "URI") uri true refl (quoted_uri_is uri h)) refl
-    (more_apart (uri_pair uri ∷ []) [] (in_quotes (codes "BYTERANGE") value) (pair_is (codes "BYTERANGE") value true refl (byte_range_is_value part g)) refl refl)
+init_section_attributes uri part h g = grind (arith, more_apart, pair_is, quoted_uri_is, byte_range_is_value)

@@ -1,5 +1,5 @@
 -- Lines in the parts in which they are written.
-use Rattle.std.proofs.Common.{◌≡◌, ℕ, List, [], ◌∷◌, ◌++◌, ap, ◌∙◌, sym, append_assoc, append-nil, Some, false}
+use Rattle.std.proofs.Common.{◌≡◌, ℕ, List, [], ◌∷◌, ◌++◌, ap, ◌∙◌, sym, append_assoc, append-nil, Some, false, arith}
 use Rattle.std.specs.Prelude.{codes, bytes_eq, ℤ}
 use Rattle.attr_list.specs.Attributes.{pair_spelling}
 use Rattle.playlist_model.specs.declared.Key.{Key}
@@ -39,7 +39,7 @@ init_section_parts s =
     ∙ ap (λ t. with_feed (codes "#EXT-X-MAP:" ++ t)) (sym (attributes_are (in_quotes (codes "URI") s.uri) (part_pairs s.byte_range)))
 
 pub format_part : (format : List ℕ) → bytes_eq format (codes "identity") ≡ false → pair_spelling (in_quotes (codes ",KEYFORMAT") format) ≡ after_commas (format_pairs format)
-format_part format h = rw h (sym (append-nil (pair_spelling (in_quotes (codes ",KEYFORMAT") format))))
+format_part format h = grind (arith, append-nil)
 
 assoc2 : (a b c : List ℕ) → a ++ (b ++ c) ≡ (a ++ b) ++ c
 assoc2 a b c = simp append_assoc

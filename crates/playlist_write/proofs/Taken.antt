@@ -14,9 +14,7 @@ none_taken (Some old) text = (refl, omega arith)
 
 -- all was taken
 pub all_taken : (a b : Option (List ℕ)) (text : List ℕ) → Appends a b text → TookAllBut a b [] text
-all_taken None b text h = tt
-all_taken (Some old) None text h = absurd h
-all_taken (Some old) (Some new) text h = (append-nil new ∙ h, omega (arith, ap length h, length-append old text))
+all_taken a b text h = grind (arith, append-nil, length-append)
 
 pub took_all : (a b : Option (List ℕ)) (text : List ℕ) → TookAllBut a b [] text → Appends a b text
 took_all None b text h = tt
@@ -25,17 +23,11 @@ took_all (Some old) (Some new) text h = sym (append-nil new) ∙ h.0
 
 -- and then all but a rest of the rest
 pub then_taken : (a b c : Option (List ℕ)) (text rest last : List ℕ) → TookAllBut a b rest text → TookAllBut b c last rest → TookAllBut a c last text
-then_taken None b c text rest last h g = tt
-then_taken (Some old) None c text rest last h g = absurd h
-then_taken (Some old) (Some mid) None text rest last h g = absurd g
-then_taken (Some old) (Some mid) (Some new) text rest last h g = let l = h.1 in let m = g.1 in (g.0 ∙ h.0, omega arith)
+then_taken a b c text rest last h g = grind arith
 
 -- what comes later is left too
 pub with_later : (a b : Option (List ℕ)) (text rest later : List ℕ) → TookAllBut a b rest text → TookAllBut a b (rest ++ later) (text ++ later)
-with_later None b text rest later h = tt
-with_later (Some old) None text rest later h = absurd h
-with_later (Some old) (Some new) text rest later h =
-    (sym (append_assoc new rest later) ∙ ap (λ t. t ++ later) h.0 ∙ append_assoc old text later, h.1)
+with_later a b text rest later h = grind (arith, append_assoc)
 
 front_of : (old new rest text : List ℕ) (n : ℕ) → new ++ rest ≡ old ++ text → length new ≡ length old + n → new ≡ old ++ take n text
 front_of old new rest text n h l =
@@ -43,10 +35,7 @@ front_of old new rest text n h l =
 
 -- what was taken is a front
 pub front_taken : (a b : Option (List ℕ)) (text rest : List ℕ) → TookAllBut a b rest text → TookFront a b text
-front_taken None b text rest h = tt
-front_taken (Some old) None text rest h = absurd h
-front_taken (Some old) (Some new) text rest h =
-    let l = h.1 in front_of old new rest text (length new - length old) h.0 (omega arith)
+front_taken a b text rest h = grind (arith, front_of)
 
 -- and what isn't taken of a text is left of it
 rest_left : (a b : Option (List ℕ)) (text : List ℕ) → TookFront a b text → (rest : List ℕ) × TookAllBut a b rest text
@@ -74,12 +63,10 @@ front_of_longer a b text later h =
 -- the rest in two parts, of which the first is held: of that all but an end is taken, or a front
 pub taken_of_held : (a b c : Option (List ℕ)) (text rest held later last : List ℕ) → TookAllBut a b rest text → rest ≡ held ++ later → TookAllBut b c last held
     → TookAllBut a c (last ++ later) text
-taken_of_held a b c text rest held later last h e g =
-    then_taken a b c text (held ++ later) (last ++ later) (subst (λ r. TookAllBut a b r text) e h) (with_later b c held last later g)
+taken_of_held a b c text rest held later last h e g = grind (arith, then_taken, with_later)
 
 pub front_of_held : (a b c : Option (List ℕ)) (text rest held later : List ℕ) → TookAllBut a b rest text → rest ≡ held ++ later → TookFront b c held → TookFront a c text
-front_of_held a b c text rest held later h e g =
-    then_front a b c text (held ++ later) (subst (λ r. TookAllBut a b r text) e h) (front_of_longer b c held later g)
+front_of_held a b c text rest held later h e g = grind (arith, then_front, front_of_longer)
 
 -- what holds anyway holds of an error, and of success
 pub on_err : {A E : Type 0} (r : Result A E) (P : Type 0) → P → OnErr r P
@@ -102,11 +89,10 @@ two_parts a b c front date_ranges held segments last h g =
     then_taken a b c ((front ++ date_ranges) ++ segments) (held ++ segments) last (with_later a b (front ++ date_ranges) held segments h) g
 
 in_parts : (front date_ranges segments end : List ℕ) → ((front ++ date_ranges) ++ segments) ++ end ≡ front ++ (date_ranges ++ (segments ++ end))
-in_parts front date_ranges segments end = append_assoc (front ++ date_ranges) segments end ∙ append_assoc front date_ranges (segments ++ end)
+in_parts front date_ranges segments end = grind (arith, append_assoc)
 
 pub front_in_date_ranges : (a b : Option (List ℕ)) (front date_ranges later text : List ℕ) → front ++ (date_ranges ++ later) ≡ text → TookFront a b (front ++ date_ranges) → TookFront a b text
-front_in_date_ranges a b front date_ranges later text e h =
-    subst (λ t. TookFront a b t) (append_assoc front date_ranges later ∙ e) (front_of_longer a b (front ++ date_ranges) later h)
+front_in_date_ranges a b front date_ranges later text e h = grind (arith, append_assoc, front_of_longer)
 
 pub front_in_segments : (a b c : Option (List ℕ)) (front date_ranges held segments end text : List ℕ) → front ++ (date_ranges ++ (segments ++ end)) ≡ text
     → TookAllBut a b held (front ++ date_ranges) → TookFront b c (held ++ segments) → TookFront a c text
@@ -116,9 +102,7 @@ front_in_segments a b c front date_ranges held segments end text e h g =
 
 before_last : (a b c : Option (List ℕ)) (front date_ranges held segments last end text : List ℕ) → front ++ (date_ranges ++ (segments ++ end)) ≡ text
     → TookAllBut a b held (front ++ date_ranges) → TookAllBut b c last (held ++ segments) → TookAllBut a c (last ++ end) text
-before_last a b c front date_ranges held segments last end text e h g =
-    subst (λ t. TookAllBut a c (last ++ end) t) (in_parts front date_ranges segments end ∙ e)
-    (with_later a c ((front ++ date_ranges) ++ segments) last end (two_parts a b c front date_ranges held segments last h g))
+before_last a b c front date_ranges held segments last end text e h g = grind (arith, in_parts, with_later, two_parts)
 
 pub front_in_last : (a b c d : Option (List ℕ)) (front date_ranges held segments last end text : List ℕ) → front ++ (date_ranges ++ (segments ++ end)) ≡ text
     → TookAllBut a b held (front ++ date_ranges) → TookAllBut b c last (held ++ segments) → TookFront c d (last ++ end) → TookFront a d text
@@ -133,6 +117,4 @@ whole_text a b c d front date_ranges held segments last end text e h g f =
 -- a text in its four parts, each of which is told in other words
 pub as_parts : (front first header r date_ranges s segments end : List ℕ) → front ≡ first ++ header → r ≡ date_ranges → s ≡ segments
     → front ++ (r ++ (s ++ end)) ≡ first ++ (header ++ (date_ranges ++ (segments ++ end)))
-as_parts front first header r date_ranges s segments end h e f =
-    ap (λ t. t ++ (r ++ (s ++ end))) h ∙ append_assoc first header (r ++ (s ++ end))
-    ∙ ap (λ t. first ++ (header ++ (t ++ (s ++ end)))) e ∙ ap (λ t. first ++ (header ++ (date_ranges ++ (t ++ end)))) f
+as_parts front first header r date_ranges s segments end h e f = grind (arith, append_assoc)

@@ -1,24 +1,22 @@
 -- The text that is written denotes the playlist.
-use Rattle.std.proofs.Common.{◌≡◌, ℕ, ◌+◌, ◌-◌, ◌^◌, ◌<◌, ◌≤◌, Bool, true, false, cond, List, [], ◌∷◌, ◌++◌, map, length, refl, ap, sym, ◌∙◌, subst, arith, Ok, Some, None, inl, inr}
-use Rattle.std.specs.Prelude.{◌||◌, ◌==◌, Option, is_some, is_none, unwrap_or, nat_le, codes}
+use Rattle.std.proofs.Common.{◌≡◌, ℕ, ◌+◌, ◌^◌, ◌<◌, Bool, true, false, cond, List, [], ◌∷◌, ◌++◌, map, length, refl, ap, sym, ◌∙◌, subst, arith, Ok, Some, None, inl, inr}
+use Rattle.std.specs.Prelude.{◌||◌, ◌==◌, Option, is_some, is_none, unwrap_or, codes}
 use Rattle.std.specs.List.{list_any, list_all, flat_map}
 use Rattle.std.proofs.lemmas.Bool.{and_parts, and_from, or_parts, or_cases, not-true, ltb-true, eqb-true, not_from_true, cond-false, and_left, and_right, leb-true, eq-eqb}
 use Rattle.std.proofs.lemmas.List.{append-nil, append_assoc}
 use Rattle.std.proofs.lemmas.Str.{is_utf8-from_IsUtf8}
 use Rattle.url.specs.Parts.{Parts}
-use Rattle.playlist_model.specs.declared.PlaylistKind.{PlaylistKind}
 use Rattle.playlist_model.specs.declared.DateRange.{DateRange}
 use Rattle.playlist_model.specs.declared.Playlist.{Playlist}
 use Rattle.playlist_model.specs.declared.InitSection.{InitSection}
 use Rattle.playlist_model.specs.Said.{Said, nothing, date_range, date_range_said}
-use Rattle.playlist_model.specs.LookBack.{latest, the_target, is_media, segments_of}
-use Rattle.playlist_model.specs.Reading.{unlimited, whole, whole_fault, and_whole, of_lines, reading, are_mixed, has_init_section, Denotes, has}
+use Rattle.playlist_model.specs.Reading.{unlimited, whole, whole_fault, and_whole, of_lines, reading, are_mixed, has_init_section, Denotes}
 use Rattle.playlist_model.specs.Numbering.{follows, all_follow}
 use Rattle.playlist_model.proofs.SaidCounts.{counted_some}
 use Rattle.stitcher.specs.declared.OutSegment.{OutSegment}
 use Rattle.playlist_write.specs.declared.OutPlaylist.{OutPlaylist}
 use Rattle.playlist_write.specs.Spelling.{spelled, date_range_line}
-use Rattle.playlist_write.specs.Owed.{none_yet, header_owed, type_owed, independent_owed, ended_owed, segments_owed, first_media_sequence, stated_discontinuity_sequence, line_of, said_text, ended_date_range_line, date_ranges_text, playlist_text}
+use Rattle.playlist_write.specs.Owed.{none_yet, header_owed, ended_owed, segments_owed, first_media_sequence, stated_discontinuity_sequence, line_of, said_text, ended_date_range_line, date_ranges_text, playlist_text}
 use Rattle.writable.specs.Fitting.{is_clean, says_date_range, date_range_fits}
 use Rattle.playlist_write.specs.WellFormed.{is_word, version_fits, segment_fits, out_numbers, numbers_fit, out_has_init_section, init_sections_agree, well_formed}
 use Rattle.playlist_write.specs.Denoted.{denoted, denoted_segment, denoted_date_range, date_range_told}
@@ -26,7 +24,7 @@ use Rattle.playlist_write.specs.Laws.{TextDenotes}
 use Rattle.playlist_write.proofs.CleanTexts.{text, AllClean, clean_printable, lines_of_text, utf8_text}
 use Rattle.playlist_write.proofs.DateRangeReads.{few, one_date_range, is_kept}
 use Rattle.playlist_write.proofs.Machine.{Known, known_at, onto, known_onto, said_onto}
-use Rattle.playlist_write.proofs.Groups.{numbers_go_on, init_sections_alike, Goes, goes-append, ready, goes_segments, segment_parts}
+use Rattle.playlist_write.proofs.Groups.{numbers_go_on, init_sections_alike, Goes, goes-append, ready, goes_segments}
 
 -- what the lines of the date ranges say, and what all lines say
 abbrev date_ranges_owed : List (List ℕ) → List Said
@@ -39,10 +37,7 @@ owed p = header_owed p ++ (date_ranges_owed p.date_ranges ++ (segments_owed none
 
 date_ranges_step : (text : List ℕ) (date_ranges : List DateRange) (r : DateRange) → date_ranges ≡ r ∷ [] → r.attributes ≡ text → is_clean text ≡ true → date_range_said unlimited text ≡ Ok (date_range r) → (k : Known) (rest : List Said) (to : Known)
     → Goes (record k { date_ranges = k.date_ranges ++ date_ranges }) rest to → Goes k (map date_range date_ranges ++ rest) to
-date_ranges_step text date_ranges r e t c says k rest to next =
-    let fits : (is_clean r.attributes ≡ true) × (date_range_said unlimited r.attributes ≡ Ok (date_range r)) = (ap is_clean t ∙ c, ap (date_range_said unlimited) t ∙ says) in
-    let here : Goes (record k { date_ranges = k.date_ranges ++ r ∷ [] }) rest to = subst (λ x. Goes (record k { date_ranges = k.date_ranges ++ x }) rest to) e next in
-    rw e (record { allowed = (fits, tt, here.allowed); leads = here.leads })
+date_ranges_step text date_ranges r e t c says k rest to next = grind arith
 
 map_joined : (xs ys : List DateRange) → map date_range (xs ++ ys) ≡ map date_range xs ++ map date_range ys
 map_joined [] ys = refl
@@ -77,34 +72,17 @@ header_known p = record (numbers_known p) {
   heading = record (numbers_known p).heading { playlist_type = p.playlist_type; independent_segments = p.independent_segments };
 }
 
-goes_type : (kind : Option PlaylistKind) (k : Known) → k.heading.playlist_type ≡ None → Goes k (type_owed kind) (record k { heading = record k.heading { playlist_type = kind } })
-goes_type None k e = record { allowed = tt; leads = ap (λ x. record k { heading = record k.heading { playlist_type = x } }) e }
-goes_type (Some kind) k e = record { allowed = (tt, ap is_some e, tt); leads = refl }
-
-goes_independent : (b : Bool) (k : Known) → k.heading.independent_segments ≡ false → Goes k (independent_owed b) (record k { heading = record k.heading { independent_segments = b } })
-goes_independent false k e = record { allowed = tt; leads = ap (λ x. record k { heading = record k.heading { independent_segments = x } }) e }
-goes_independent true k e = record { allowed = (tt, tt, tt); leads = refl }
-
 goes_ended : (b : Bool) (k : Known) → k.heading.end_list ≡ false → Goes k (ended_owed b) (record k { heading = record k.heading { end_list = b } })
-goes_ended false k e = record { allowed = tt; leads = ap (λ x. record k { heading = record k.heading { end_list = x } }) e }
-goes_ended true k e = record { allowed = (tt, e, tt); leads = refl }
+goes_ended b k e = grind arith
 
 goes_header : (p : OutPlaylist) → (p.version == 6 || p.version == 7) ≡ true → p.target_duration < 2 ^ 64 → first_media_sequence p.segments < 2 ^ 64 → stated_discontinuity_sequence p.segments < 2 ^ 64 → Goes start (header_owed p) (header_known p)
 unfolding start numbers_known header_known
-goes_header p v t s d =
-    let numbers = numbers_known p in
-    let rest = goes-append _ _ numbers _ _ (goes_type p.playlist_type numbers refl) (goes_independent p.independent_segments (record numbers { heading = record numbers.heading { playlist_type = p.playlist_type } }) refl) in
-    record { allowed = (v, refl, (t, refl, (s, (refl, refl), (d, (refl, refl, refl), rest.allowed)))); leads = rest.leads }
+goes_header p v t s d = grind arith
 
 -- ---- the whole
 
 init_section_alike : (with_init_sections : Bool) (out : OutSegment) → cond with_init_sections (is_some out.segment.init_section) (is_none out.segment.init_section) ≡ true → has_init_section (denoted_segment out) ≡ with_init_sections
-init_section_alike true out h = h
-init_section_alike false out h = by out.segment.init_section h
-  where
-    by : (s : Option InitSection) → is_none s ≡ true → is_some s ≡ false
-    by None h = refl
-    by (Some s) h = cc
+init_section_alike with_init_sections out h = grind arith
 
 alike_any : (outs : List OutSegment) → init_sections_alike false outs ≡ true → list_any has_init_section (map denoted_segment outs) ≡ false
 alike_any [] h = refl
@@ -132,11 +110,7 @@ playlist_known k = record {
 
 whole_reads : (said : List Said) (k : Known) → known_at said ≡ k → is_some k.heading.target_duration ≡ true → 0 < k.standing.media_count → are_mixed k.segments ≡ false → whole (whole_fault said) said ≡ Ok (playlist_known k)
 unfolding playlist_known
-whole_reads said k e t n m =
-    let a : is_some (latest the_target said) ≡ true = ap (λ x. is_some x.heading.target_duration) e ∙ t in
-    let b : has is_media said ≡ true = counted_some is_media said (subst (λ x. 0 < x.standing.media_count) (sym e) n) in
-    let c : are_mixed (segments_of said) ≡ false = ap (λ x. are_mixed x.segments) e ∙ m in
-    rw (a, b, c) (ap (λ x. Ok (playlist_known x)) e)
+whole_reads said k e t n m = grind (arith, counted_some, playlist_known)
 
 numbers_after : (previous : OutSegment) (outs : List OutSegment) → all_follow out_numbers previous outs ≡ true → numbers_go_on (previous.media_sequence + 1) previous.discontinuity_sequence outs ≡ true
 numbers_after previous [] h = refl
@@ -147,17 +121,10 @@ numbers_after previous (out ∷ outs) h =
     and_from _ _ a.0 (subst (λ n. numbers_go_on (n + 1) out.discontinuity_sequence outs ≡ true) m (numbers_after out outs a.1))
 
 numbers_start : (outs : List OutSegment) → numbers_fit outs ≡ true → numbers_go_on (first_media_sequence outs) (stated_discontinuity_sequence outs) outs ≡ true
-numbers_start [] h = refl
-numbers_start (out ∷ outs) h =
-    let a : (nat_le out.discontinuities out.discontinuity_sequence ≡ true) × (all_follow out_numbers out outs ≡ true) = and_parts _ _ h in
-    let l : out.discontinuities ≤ out.discontinuity_sequence = leb-true _ _ a.0 in
-    let d : (out.discontinuity_sequence == out.discontinuity_sequence - out.discontinuities + out.discontinuities) ≡ true = eq-eqb out.discontinuity_sequence (out.discontinuity_sequence - out.discontinuities + out.discontinuities) (omega arith) in
-    and_from _ _ (and_from _ _ (eq-eqb out.media_sequence out.media_sequence refl) d) (numbers_after out outs a.1)
+numbers_start outs h = grind (arith, and_parts, leb-true, eq-eqb, and_from, numbers_after)
 
 first_fits : (outs : List OutSegment) → list_all segment_fits outs ≡ true → (first_media_sequence outs < 2 ^ 64) × (stated_discontinuity_sequence outs < 2 ^ 64)
-first_fits [] h = (omega arith, omega arith)
-first_fits (out ∷ outs) h =
-    let p = segment_parts out (and_parts _ _ h).0 in let ms = p.media_sequence in let ds = p.discontinuity_sequence in (ms, omega arith)
+first_fits outs h = grind arith
 
 some_segments : (outs : List OutSegment) → numbers_fit outs ≡ true → 0 < length outs
 some_segments [] h = cc
@@ -188,9 +155,7 @@ alike (out ∷ outs) h =
 joined_text : (says : List Said) (rest : List (List ℕ)) → said_text says ++ text rest ≡ text (map spelled says ++ rest)
 unfolding line_of
 joined_text [] rest = refl
-joined_text (s ∷ says) rest =
-    append_assoc (spelled s ++ 10 ∷ []) (said_text says) (text rest) ∙ append_assoc (spelled s) (10 ∷ []) (said_text says ++ text rest)
-    ∙ ap (λ t. spelled s ++ 10 ∷ t) (joined_text says rest)
+joined_text (s ∷ says) rest = grind (arith, append_assoc, text, joined_text says rest)
 
 joined_date_ranges : (texts : List (List ℕ)) (rest : List (List ℕ)) → list_all date_range_fits texts ≡ true → date_ranges_text texts ++ text rest ≡ text (map spelled (date_ranges_owed texts) ++ rest)
 unfolding ended_date_range_line

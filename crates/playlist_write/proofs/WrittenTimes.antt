@@ -1,5 +1,5 @@
 -- The text of an instant stands on a line.
-use Rattle.std.proofs.Common.{◌≡◌, ℕ, zero, suc, ◌+◌, ◌/◌, ◌%◌, ◌<◌, Bool, true, false, cond, List, [], ◌∷◌, ◌++◌, refl, ◌∙◌, arith}
+use Rattle.std.proofs.Common.{◌≡◌, ℕ, zero, suc, ◌+◌, ◌/◌, ◌%◌, ◌<◌, Bool, true, false, cond, List, [], ◌∷◌, ◌++◌, refl, arith}
 use Rattle.std.specs.Prelude.{◌==◌, ℤ}
 use Rattle.std.specs.List.{list_all}
 use Rattle.std.specs.Fmt.{digit_glyph}
@@ -17,10 +17,10 @@ glyph_printable d h = grind (arith, nat_tests)
 fixed_printable : (k n : ℕ) → list_all is_printable (fixed_digits 10 k n) ≡ true
 unfolding fixed_digits
 fixed_printable zero n = refl
-fixed_printable (suc k) n = list_all-append is_printable (fixed_digits 10 k (n / 10)) (digit_glyph true (n % 10) ∷ []) ∙ and_from _ _ (fixed_printable k (n / 10)) (and_from _ _ (glyph_printable (n % 10) (omega arith)) refl)
+fixed_printable (suc k) n = grind (arith, list_all-append, and_from, glyph_printable, fixed_printable k (n / 10))
 
 then_printable : (k n : ℕ) (rest : List ℕ) → list_all is_printable rest ≡ true → list_all is_printable (fixed_digits 10 k n ++ rest) ≡ true
-then_printable k n rest h = list_all-append is_printable (fixed_digits 10 k n) rest ∙ and_from _ _ (fixed_printable k n) h
+then_printable k n rest h = grind (arith, list_all-append, and_from, fixed_printable)
 
 decimals_printable : (b : Bool) (n m : ℕ) → list_all is_printable (cond b (fixed_digits 10 3 n) (fixed_digits 10 9 m) ++ 90 ∷ []) ≡ true
 decimals_printable true n m = then_printable 3 n (90 ∷ []) refl
@@ -32,8 +32,7 @@ stamp year month day hour minute second rest =
     date_text year month day (84 ∷ (fixed_digits 10 2 hour ++ 58 ∷ (fixed_digits 10 2 minute ++ 58 ∷ (fixed_digits 10 2 second ++ rest))))
 
 stamp_printable : (year month day hour minute second : ℕ) (rest : List ℕ) → list_all is_printable rest ≡ true → list_all is_printable (stamp year month day hour minute second rest) ≡ true
-stamp_printable year month day hour minute second rest h =
-    then_printable 4 year _ (and_from true _ refl (then_printable 2 month _ (and_from true _ refl (then_printable 2 day _ (and_from true _ refl (then_printable 2 hour _ (and_from true _ refl (then_printable 2 minute _ (and_from true _ refl (then_printable 2 second rest h))))))))))
+stamp_printable year month day hour minute second rest h = grind (arith, then_printable, and_from)
 
 pub times_are_clean : (t : ℤ) → Clean (time_text t)
 times_are_clean t =

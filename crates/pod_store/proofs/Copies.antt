@@ -1,5 +1,5 @@
 -- Copies of the fallback stand after what was there.
-use Rattle.std.proofs.Common.{◌≡◌, ℕ, Bool, true, false, cond, ◌||◌, List, [], ◌∷◌, ◌++◌, map, length, take, refl, ap, sym, ◌∙◌, Some, None}
+use Rattle.std.proofs.Common.{◌≡◌, ℕ, Bool, true, false, cond, ◌||◌, List, [], ◌∷◌, ◌++◌, map, length, take, refl, ap, sym, ◌∙◌, Some, None, arith}
 use Rattle.std.specs.Prelude.{Option, is_some, find, option_map, bytes_eq}
 use Rattle.std.proofs.lemmas.Slice.Eq.{bytes_eq-Decides}
 use Rattle.std.proofs.lemmas.Bool.{or_parts}
@@ -30,85 +30,35 @@ none_there (Some e) h = absurd (cc)
 
 entry_last : (id : List ℕ) (entries : List Entry) (x : Entry) → entry_in (entries ++ (x ∷ [])) id ≡ or_earlier (entry_in entries id) (cond (bytes_eq id x.id) (Some x) None)
 entry_last id [] x = refl
-entry_last id (e ∷ entries) x = by (bytes_eq id e.id) (entry_last id entries x)
-  where
-    by : (b : Bool) → entry_in (entries ++ (x ∷ [])) id ≡ or_earlier (entry_in entries id) (cond (bytes_eq id x.id) (Some x) None)
-        → cond b (Some e) (entry_in (entries ++ (x ∷ [])) id) ≡ or_earlier (cond b (Some e) (entry_in entries id)) (cond (bytes_eq id x.id) (Some x) None)
-    by true rec = refl
-    by false rec = rec
+entry_last id (e ∷ entries) x = grind (arith, entry_last id entries x)
 
 or_nothing : (o : Option Entry) → or_earlier o None ≡ o
 or_nothing None = refl
 or_nothing (Some e) = refl
 
 pub copy_other : (id other : List ℕ) (entries : List Entry) (pod : Option Pod) → bytes_eq id other ≡ false → entry_in (copied_last entries other pod) id ≡ entry_in entries id
-copy_other id other entries None h = refl
-copy_other id other entries (Some pod) h =
-    let x : Entry = record { id = other; pod = pod; used = true; copied = true } in
-    entry_last id entries x ∙ (ap (λ b. or_earlier (entry_in entries id) (cond b (Some x) None)) h ∙ or_nothing (entry_in entries id))
+copy_other id other entries pod h = grind (arith, entry_last)
 
 pub copy_own : (id : List ℕ) (entries : List Entry) (pod : Option Pod) → entry_in entries id ≡ None → pod_at (copied_last entries id pod) id ≡ pod
-copy_own id entries None h = ap pod_if h
-copy_own id entries (Some pod) h =
-    let x : Entry = record { id = id; pod = pod; used = true; copied = true } in
-    ap pod_if (entry_last id entries x ∙ (ap (λ o. or_earlier o (cond (bytes_eq id id) (Some x) None)) h ∙ ap (λ b. cond b (Some x) None) ((bytes_eq-Decides id id).1 refl)))
+copy_own id entries pod h = grind (arith, bytes_eq-Decides, entry_last)
 
 -- what stands stays
 copy_keeps : (id other : List ℕ) (entries : List Entry) (pod : Option Pod) (e : Entry) → entry_in entries id ≡ Some e → entry_in (copied_last entries other pod) id ≡ Some e
-copy_keeps id other entries None e h = h
-copy_keeps id other entries (Some pod) e h =
-    let x : Entry = record { id = other; pod = pod; used = true; copied = true } in
-    entry_last id entries x ∙ ap (λ o. or_earlier o (cond (bytes_eq id other) (Some x) None)) h
+copy_keeps id other entries pod e h = grind (arith, entry_last)
 
 entry_stays_copy : (store : Store) (other id : List ℕ) (e : Entry) → entry_for store id ≡ Some e → entry_for (with_copy store other) id ≡ Some e
-entry_stays_copy store other id e h = by (has_own store other)
-  where
-    by : (b : Bool) → entry_for (cond b store (with_entries store (copied_last store.entries other store.fallback))) id ≡ Some e
-    by true = h
-    by false = copy_keeps id other store.entries store.fallback e h
+entry_stays_copy store other id e h = grind (arith, copy_keeps)
 
 fallback_stays : (store : Store) (other : List ℕ) → (with_copy store other).fallback ≡ store.fallback
-fallback_stays store other = by (has_own store other)
-  where
-    by : (b : Bool) → (cond b store (with_entries store (copied_last store.entries other store.fallback))).fallback ≡ store.fallback
-    by true = refl
-    by false = refl
-
-some_first : (o : Option Entry) (pod : Option Pod) → is_some o ≡ true → pod_if o ≡ or_earlier (pod_if o) pod
-some_first None pod h = absurd (cc)
-some_first (Some e) pod h = refl
+fallback_stays store other = grind arith
 
 -- a break has the pod that it is filled with of its own then
 own_copy : (store : Store) (id : List ℕ) → own_pod (with_copy store id) id ≡ pod_for store id
-own_copy store id = by (has_own store id) refl
-  where
-    by : (b : Bool) → has_own store id ≡ b → own_pod (cond b store (with_entries store (copied_last store.entries id store.fallback))) id ≡ pod_for store id
-    by true h = some_first (entry_for store id) store.fallback h
-    by false h =
-        let none : entry_for store id ≡ None = none_there _ h in
-        copy_own id store.entries store.fallback none ∙ sym (ap (λ o. or_earlier (pod_if o) store.fallback) none)
-
-or_again : (a b : Option Pod) → or_earlier (or_earlier a b) b ≡ or_earlier a b
-or_again None None = refl
-or_again None (Some x) = refl
-or_again (Some x) b = refl
+own_copy store id = grind (arith, copy_own)
 
 -- and no break is filled with another pod
 pod_stays_copy : (store : Store) (other id : List ℕ) → pod_for (with_copy store other) id ≡ pod_for store id
-pod_stays_copy store other id = by (bytes_eq id other) refl
-  where
-    apart : bytes_eq id other ≡ false → (b : Bool) → own_pod (cond b store (with_entries store (copied_last store.entries other store.fallback))) id ≡ own_pod store id
-    apart e true = refl
-    apart e false = ap pod_if (copy_other id other store.entries store.fallback e)
-
-    by : (t : Bool) → bytes_eq id other ≡ t → pod_for (with_copy store other) id ≡ pod_for store id
-    by true e =
-        let same = (bytes_eq-Decides id other).0 e in
-        ap (λ f. or_earlier (own_pod (with_copy store other) id) f) (fallback_stays store other)
-        ∙ (ap (λ i. or_earlier (own_pod (with_copy store i) id) store.fallback) (sym same)
-        ∙ (ap (λ o. or_earlier o store.fallback) (own_copy store id) ∙ or_again (own_pod store id) store.fallback))
-    by false e =
-        ap (λ f. or_earlier (own_pod (with_copy store other) id) f) (fallback_stays store other) ∙ ap (λ o. or_earlier o store.fallback) (apart e (has_own store other))
+pod_stays_copy store other id = grind (arith, bytes_eq-Decides, copy_other, own_copy)
 
 -- ---- copies for some breaks
 
@@ -144,28 +94,11 @@ fallback_stands store (x ∷ ids) = fallback_stands (with_copy store x) ids ∙ 
 
 -- a break has the pod then that it is filled with, if it is one of these, and else what it had
 copy_pod : (id other : List ℕ) (store : Store) → own_pod (with_copy store other) id ≡ cond (bytes_eq id other) (pod_for store id) (own_pod store id)
-copy_pod id other store = by (bytes_eq id other) refl
-  where
-    apart : bytes_eq id other ≡ false → (b : Bool) → own_pod (cond b store (with_entries store (copied_last store.entries other store.fallback))) id ≡ own_pod store id
-    apart e true = refl
-    apart e false = ap pod_if (copy_other id other store.entries store.fallback e)
-
-    by : (t : Bool) → bytes_eq id other ≡ t → own_pod (with_copy store other) id ≡ cond t (pod_for store id) (own_pod store id)
-    by true e = ap (λ i. own_pod (with_copy store i) id) (sym ((bytes_eq-Decides id other).0 e)) ∙ own_copy store id
-    by false e = apart e (has_own store other)
+copy_pod id other store = grind (arith, bytes_eq-Decides, copy_other, own_copy)
 
 pub copies_pod : (store : Store) (ids : List (List ℕ)) (id : List ℕ) → own_pod (with_copies store ids) id ≡ cond (is_one_of ids id) (pod_for store id) (own_pod store id)
 copies_pod store [] id = refl
-copies_pod store (x ∷ ids) id =
-    copies_pod (with_copy store x) ids id
-    ∙ (ap (λ p. cond (is_one_of ids id) p (own_pod (with_copy store x) id)) (pod_stays_copy store x id)
-    ∙ (ap (λ p. cond (is_one_of ids id) (pod_for store id) p) (copy_pod id x store) ∙ by (bytes_eq id x) (is_one_of ids id)))
-  where
-    by : (t u : Bool) → cond u (pod_for store id) (cond t (pod_for store id) (own_pod store id)) ≡ cond (t || u) (pod_for store id) (own_pod store id)
-    by true true = refl
-    by true false = refl
-    by false true = refl
-    by false false = refl
+copies_pod store (x ∷ ids) id = grind (arith, copies_pod (with_copy store x) ids id, copy_pod)
 
 -- one that is none of these stands as it did
 pub other_stands : (store : Store) (ids : List (List ℕ)) (id : List ℕ) → is_one_of ids id ≡ false → entry_for (with_copies store ids) id ≡ entry_for store id

@@ -1,5 +1,5 @@
 -- Texts by their references, as a set of IDs keeps them.
-use Rattle.std.proofs.Common.{◌≡◌, ℕ, Bool, true, false, cond, not, ◌||◌, List, [], ◌∷◌, ◌++◌, Bor, refl, ap, sym, ◌∙◌}
+use Rattle.std.proofs.Common.{◌≡◌, ℕ, Bool, true, false, cond, not, ◌||◌, List, [], ◌∷◌, ◌++◌, Bor, refl, ap, sym, ◌∙◌, arith}
 use Rattle.std.specs.Prelude.{bytes_eq}
 use Rattle.std.specs.List.{list_any}
 use Rattle.std.proofs.lemmas.List.Folds.{list_any-append}
@@ -35,21 +35,9 @@ or_false false = refl
 -- an ID is one of those after an insertion if it was one of those before, or is the one that was inserted
 pub one_more : (old new : List (List ℕ)) (id : List ℕ) (first : Bool) → first ≡ not (is_one_of old id) → new ≡ cond first (old ++ id ∷ []) old
     → (other : List ℕ) → is_one_of new other ≡ (is_one_of old other || bytes_eq other id)
-one_more old new id first f n other = ap (λ xs. is_one_of xs other) (n ∙ ap (λ b. cond b (old ++ id ∷ []) old) f) ∙ by (is_one_of old id) refl
-  where
-    there : (b : Bool) → bytes_eq other id ≡ b → is_one_of old id ≡ true → is_one_of old other ≡ (is_one_of old other || b)
-    there true e h = let k : is_one_of old other ≡ true = ap (is_one_of old) ((bytes_eq-Decides other id).0 e) ∙ h in rw k refl
-    there false e h = sym (or_false (is_one_of old other))
-
-    by : (b : Bool) → is_one_of old id ≡ b → is_one_of (cond (not b) (old ++ id ∷ []) old) other ≡ (is_one_of old other || bytes_eq other id)
-    by true h = there (bytes_eq other id) refl h
-    by false h = list_any-append (bytes_eq other) old (id ∷ []) ∙ ap (λ b. is_one_of old other || b) (or_false (bytes_eq other id))
+one_more old new id first f n other = grind (arith, bytes_eq-Decides, list_any-append)
 
 -- what stands after an ID is inserted into the IDs of a set
 pub after_insert : (texts new : List (Bor (List ℕ))) (id : Bor (List ℕ)) (old : List (List ℕ)) (first : Bool) → texts_of texts ≡ old → new ≡ insert_key same_text texts id
     → first ≡ not (is_one_of old id.now) → texts_of new ≡ cond first (old ++ id.now ∷ []) old
-after_insert texts new id old first view_is new_is first_is =
-    ap texts_of new_is
-    ∙ (inserted texts id
-    ∙ (ap (λ xs. cond (not (is_one_of xs id.now)) (xs ++ id.now ∷ []) xs) view_is
-    ∙ ap (λ b. cond b (old ++ id.now ∷ []) old) (sym first_is)))
+after_insert texts new id old first view_is new_is first_is = grind (arith, inserted)

@@ -1,12 +1,12 @@
 -- A break that a list of breaks in use names again adds nothing.
-use Rattle.std.proofs.Common.{◌≡◌, ℕ, Bool, true, false, cond, ◌||◌, List, [], ◌∷◌, ◌++◌, refl, ap, sym, ◌∙◌, Some, None}
+use Rattle.std.proofs.Common.{◌≡◌, ℕ, Bool, true, false, cond, ◌||◌, List, [], ◌∷◌, ◌++◌, refl, ap, ◌∙◌, Some, None, arith}
 use Rattle.std.specs.Prelude.{Option, bytes_eq, is_some}
 use Rattle.std.proofs.lemmas.List.Folds.{list_any-append}
 use Rattle.std.proofs.lemmas.List.Sums.{fold-append}
 use Rattle.std.proofs.lemmas.Slice.Eq.{bytes_eq-Decides}
 use Rattle.playlist_model.specs.LookBack.{or_earlier}
 use Rattle.pod_store.specs.Pods.{Pod}
-use Rattle.pod_store.specs.Store.{Store, with_entries, has_own, own_pod, is_one_of, copied_last, with_copy, with_copies, held_in_use, kept_in_use}
+use Rattle.pod_store.specs.Store.{Store, with_entries, has_own, own_pod, is_one_of, copied_last, with_copy, with_copies, kept_in_use}
 use Rattle.pod_store.specs.Inner.Store.{NameTheSame}
 use Rattle.pod_store.proofs.Copies.{all_own, fallback_stands}
 use Rattle.pod_store.proofs.InUse.{held_alike}
@@ -20,10 +20,7 @@ pub and_then : (a b c : List (List ℕ)) → NameTheSame a b → NameTheSame b c
 and_then a b c h k = record { ids = λ id. h.ids id ∙ k.ids id; copies = λ store. h.copies store ∙ k.copies store }
 
 pub with_more : (a b more : List (List ℕ)) → NameTheSame a b → NameTheSame (a ++ more) (b ++ more)
-with_more a b more h = record {
-  ids = λ id. list_any-append (bytes_eq id) a more ∙ (ap (λ t. t || is_one_of more id) (h.ids id) ∙ sym (list_any-append (bytes_eq id) b more));
-  copies = λ store. fold-append with_copy store a more ∙ (ap (λ s. with_copies s more) (h.copies store) ∙ sym (fold-append with_copy store b more));
-}
+with_more a b more h = grind (arith, fold-append, list_any-append)
 
 -- ---- one that is named already
 
@@ -32,11 +29,7 @@ or_false true = refl
 or_false false = refl
 
 named_again : (ids : List (List ℕ)) (id : List ℕ) → is_one_of ids id ≡ true → (other : List ℕ) → is_one_of ids other ≡ is_one_of (ids ++ id ∷ []) other
-named_again ids id h other = sym (list_any-append (bytes_eq other) ids (id ∷ []) ∙ by (bytes_eq other id) refl)
-  where
-    by : (b : Bool) → bytes_eq other id ≡ b → (is_one_of ids other || (b || false)) ≡ is_one_of ids other
-    by true e = let k : is_one_of ids other ≡ true = ap (is_one_of ids) ((bytes_eq-Decides other id).0 e) ∙ h in rw k refl
-    by false e = or_false (is_one_of ids other)
+named_again ids id h other = grind (arith, bytes_eq-Decides, list_any-append)
 
 filled : (own fallback : Option Pod) (pod : Pod) → fallback ≡ Some pod → (p : Pod) × (or_earlier own fallback ≡ Some p)
 filled None fallback pod e = (pod, e)
@@ -64,23 +57,13 @@ copied_once store ids id h = by (has_own (with_copies store ids) id) refl
         ∙ without k store.fallback refl
 
 pub once : (ids : List (List ℕ)) (id : List ℕ) → is_one_of ids id ≡ true → NameTheSame ids (ids ++ id ∷ [])
-once ids id h = record {
-  ids = named_again ids id h;
-  copies = λ store. sym (fold-append with_copy store ids (id ∷ []) ∙ copied_once store ids id h);
-}
+once ids id h = grind (arith, copied_once, fold-append, named_again)
 
 -- the last one of a list is one of it
 pub last_named : (ids front : List (List ℕ)) (last id : List ℕ) → ids ≡ front ++ last ∷ [] → bytes_eq last id ≡ true → is_one_of ids id ≡ true
-last_named ids front last id e h =
-    let same = (bytes_eq-Decides last id).0 h in
-    ap (λ xs. is_one_of xs id) e ∙ (ap (λ x. is_one_of (front ++ x ∷ []) id) same ∙ (list_any-append (bytes_eq id) front (id ∷ []) ∙ (ap (λ b. is_one_of front id || (b || false)) ((bytes_eq-Decides id id).1 refl) ∙ or_true (is_one_of front id))))
-  where
-    or_true : (b : Bool) → (b || (true || false)) ≡ true
-    or_true true = refl
-    or_true false = refl
+last_named ids front last id e h = grind (arith, bytes_eq-Decides, list_any-append)
 
 -- ---- what a store keeps of them
 
 pub kept_alike : (short long : List (List ℕ)) (store : Store) → NameTheSame short long → kept_in_use short store ≡ kept_in_use long store
-kept_alike short long store h =
-    ap (λ es. with_entries store es) (ap (λ (s : Store). held_in_use short s.entries) (h.copies store) ∙ held_alike short long h.ids (with_copies store long).entries)
+kept_alike short long store h = grind (arith, held_alike)

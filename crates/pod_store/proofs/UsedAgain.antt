@@ -1,5 +1,5 @@
 -- If exactly the used breaks are in use again, the store stays as it is.
-use Rattle.std.proofs.Common.{◌≡◌, ℕ, Bool, true, false, cond, not, ◌||◌, List, [], ◌∷◌, map, filter, refl, sym, ap, ◌∙◌, true≢false, String, string_bytes, Some}
+use Rattle.std.proofs.Common.{◌≡◌, ℕ, Bool, true, false, cond, ◌||◌, List, [], ◌∷◌, map, refl, sym, ap, ◌∙◌, true≢false, String, string_bytes, Some, arith}
 use Rattle.std.specs.Prelude.{Option, bytes_eq, string_eq, is_some, find}
 use Rattle.std.specs.List.{AllByRecursion, IsDistinct}
 use Rattle.std.specs.Map.{keys_of}
@@ -7,7 +7,7 @@ use Rattle.std.specs.declared.alloc.Global.{Global}
 use Rattle.std.proofs.lemmas.Slice.Eq.{bytes_eq-Decides}
 use Rattle.pod_store.specs.Pods.{Pod}
 use Rattle.pod_store.specs.declared.kept.StoredPod.{StoredPod}
-use Rattle.pod_store.specs.Store.{Entry, Store, with_entries, has_id, has_own, is_one_of, is_held, held_in_use, copied_last, with_copy, with_copies, kept_in_use}
+use Rattle.pod_store.specs.Store.{Entry, Store, has_id, has_own, is_one_of, held_in_use, with_copies, kept_in_use}
 use Rattle.pod_store.specs.Kept.{entry_of}
 use Rattle.pod_store.specs.Inner.Kept.{Pairs, used_ids}
 use Rattle.pod_store.proofs.KeptLaws.{store_of}
@@ -16,11 +16,7 @@ itself : (a : List ℕ) → bytes_eq a a ≡ true
 itself a = (bytes_eq-Decides a a).1 refl
 
 turned : (a b : List ℕ) → bytes_eq a b ≡ false → bytes_eq b a ≡ false
-turned a b e = step (bytes_eq b a) refl
-  where
-    step : (c : Bool) → bytes_eq b a ≡ c → c ≡ false
-    step true f = let same : bytes_eq a b ≡ true = (bytes_eq-Decides a b).1 (sym ((bytes_eq-Decides b a).0 f)) in absurd (true≢false (sym same ∙ e))
-    step false f = refl
+turned a b e = grind (arith, bytes_eq-Decides)
 
 -- ---- no copy is made
 
@@ -32,12 +28,7 @@ own_cond : (pair : String Global × StoredPod) (later : Pairs) (id : List ℕ) (
     → (is_one_of (used_ids later) id ≡ true → is_some (find (has_id id) (map entry_of later)) ≡ true)
     → is_one_of (cond used (string_bytes pair.0 ∷ used_ids later) (used_ids later)) id ≡ true
     → is_some (cond (bytes_eq id (string_bytes pair.0)) (Some (entry_of pair)) (find (has_id id) (map entry_of later))) ≡ true
-own_cond pair later id false rec h = some_cond (bytes_eq id (string_bytes pair.0)) (entry_of pair) (find (has_id id) (map entry_of later)) (rec h)
-own_cond pair later id true rec h = by (bytes_eq id (string_bytes pair.0)) h
-  where
-    by : (b : Bool) → (b || is_one_of (used_ids later) id) ≡ true → is_some (cond b (Some (entry_of pair)) (find (has_id id) (map entry_of later))) ≡ true
-    by true k = refl
-    by false k = rec k
+own_cond pair later id used rec h = grind arith
 
 own_there : (pairs : Pairs) (id : List ℕ) → is_one_of (used_ids pairs) id ≡ true → is_some (find (has_id id) (map entry_of pairs)) ≡ true
 own_there [] id h = absurd (true≢false (sym h))
@@ -50,9 +41,7 @@ either_true false = refl
 copies_none : (store : Store) (ids : List (List ℕ)) → ((id : List ℕ) → is_one_of ids id ≡ true → has_own store id ≡ true) → with_copies store ids ≡ store
 copies_none store [] own = refl
 copies_none store (x ∷ ids) own =
-    let here : has_own store x ≡ true = own x (ap (λ b. b || is_one_of ids x) (itself x)) in
-    let same : with_copy store x ≡ store = ap (λ b. cond b store (with_entries store (copied_last store.entries x store.fallback))) here in
-    ap (λ s. with_copies s ids) same ∙ copies_none store ids (λ id h. own id (ap (λ b. bytes_eq id x || b) h ∙ either_true (bytes_eq id x)))
+    grind (arith, copies_none store ids (λ id h. own id (ap (λ b. bytes_eq id x || b) h ∙ either_true (bytes_eq id x))), itself)
 
 -- ---- each break is used as it was
 
@@ -77,8 +66,7 @@ more_told : (pair : String Global × StoredPod) (ids : List (List ℕ)) (used : 
     → AllByRecursion (IsTold ids) pairs → AllByRecursion (IsTold (cond used (string_bytes pair.0 ∷ ids) ids)) pairs
 more_told pair ids false pairs apart h = h
 more_told pair ids true [] apart h = tt
-more_told pair ids true (p ∷ later) apart h =
-    (ap (λ b. b || is_one_of ids (string_bytes p.0)) (turned (string_bytes pair.0) (string_bytes p.0) apart.0) ∙ h.0, more_told pair ids true later apart.1 h.1)
+more_told pair ids true (p ∷ later) apart h = grind (arith, more_told pair ids true later apart.1 h.1, turned)
 
 all_told : (pairs : Pairs) → IsDistinct string_eq (keys_of pairs) → AllByRecursion (IsTold (used_ids pairs)) pairs
 unfolding IsDistinct
@@ -87,22 +75,14 @@ all_told (pair ∷ later) d = (own_told pair later pair.1.used (none_of (string_
 
 held_cond : (ids : List (List ℕ)) (e : Entry) (later : List Entry) (used : Bool) → is_one_of ids e.id ≡ used → e.used ≡ used → held_in_use ids later ≡ later
     → held_in_use ids (e ∷ later) ≡ e ∷ later
-held_cond ids e later used told is rec =
-    ap (λ b. map (λ (x : Entry). record x { used = is_one_of ids x.id }) (cond b (e ∷ filter (is_held ids) later) (filter (is_held ids) later))) (held used told is)
-    ∙ (ap (λ (u : Bool). record e { used = u } ∷ held_in_use ids later) (told ∙ sym is) ∙ ap (λ es. e ∷ es) rec)
-  where
-    held : (u : Bool) → is_one_of ids e.id ≡ u → e.used ≡ u → is_held ids e ≡ true
-    held true p q = ap (λ b. not e.used || b) p ∙ either_true (not e.used)
-    held false p q = ap (λ b. not b || is_one_of ids e.id) q
+held_cond ids e later used told is rec = grind arith
 
 held_same : (ids : List (List ℕ)) (pairs : Pairs) → AllByRecursion (IsTold ids) pairs → held_in_use ids (map entry_of pairs) ≡ map entry_of pairs
 held_same ids [] h = refl
 held_same ids (pair ∷ later) h = held_cond ids (entry_of pair) (map entry_of later) pair.1.used h.0 refl (held_same ids later h.1)
 
 stays : (pairs : Pairs) (fallback : Option Pod) → IsDistinct string_eq (keys_of pairs) → kept_in_use (used_ids pairs) (store_of pairs fallback) ≡ store_of pairs fallback
-stays pairs fallback d =
-    ap (λ (s : Store). with_entries (store_of pairs fallback) (held_in_use (used_ids pairs) s.entries)) (copies_none (store_of pairs fallback) (used_ids pairs) (own_there pairs))
-    ∙ ap (with_entries (store_of pairs fallback)) (held_same (used_ids pairs) pairs (all_told pairs d))
+stays pairs fallback d = grind (arith, all_told, copies_none, held_same, own_there)
 
 pub used_again : (pairs : Pairs) (fallback : Option Pod) (store : Store) (ids : List (List ℕ)) → store_of pairs fallback ≡ store → IsDistinct string_eq (keys_of pairs) → ids ≡ used_ids pairs
     → store ≡ kept_in_use ids store

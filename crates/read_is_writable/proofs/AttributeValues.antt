@@ -4,7 +4,7 @@ use Rattle.std.specs.Prelude.{Ok, Err, Option, Some, None, ◌&&◌}
 use Rattle.std.specs.List.{list_any, list_all, find, AllByRecursion}
 use Rattle.std.proofs.lemmas.Bool.{and_from, and_parts}
 use Rattle.std.proofs.lemmas.Bool.Decides.{nat_tests}
-use Rattle.attr_list.specs.Attributes.{Pair, is_named, is_name, is_name_byte, is_value, is_pair, are_apart, attribute, attributes_of, pieces, pair_spelling, value_spelling}
+use Rattle.attr_list.specs.Attributes.{Pair, is_named, is_name, is_name_byte, is_pair, are_apart, attribute, attributes_of, pieces, pair_spelling, value_spelling}
 use Rattle.attr_list.proofs.Elements.{all_from}
 use Rattle.attr_list.proofs.Grammar.{pairs_are, pieces_joined}
 use Rattle.playlist_model.specs.declared.FaultKind.TheVariants as fault
@@ -32,10 +32,7 @@ spelled_clean true value c = (clean_cut value 34 [] (omega arith) (clean_cut [] 
 spelled_clean false value c = c
 
 pair_is_fit : (pair : Pair) → is_pair pair ≡ true → Clean (pair_spelling pair) → pair_fits pair ≡ true
-pair_is_fit pair h c =
-    let a : (is_name pair.name ≡ true) × (is_value pair.quoted pair.value ≡ true) = and_parts _ _ h in
-    let value = spelled_clean pair.quoted pair.value (clean_cut pair.name 61 (value_spelling pair.quoted pair.value) (omega arith) c).1 in
-    and_from _ _ a.0 (and_from _ _ (clean_is pair.value value) a.1)
+pair_is_fit pair h c = grind (arith, and_parts, spelled_clean, clean_cut, and_from, clean_is)
 
 each_fits : (before new : List Pair) → are_apart before new ≡ true → AllByRecursion Clean (map pair_spelling new) → list_all pair_fits new ≡ true
 each_fits before [] h c = refl
@@ -52,7 +49,7 @@ pairs_are_fit rest pairs c h =
     subst (λ ps. pairs_fit ps ≡ true) (sym r.whole) new
 
 pub attributes_fit : (rest : List ℕ) → Clean rest → Gives pairs_fit (attributes unlimited rest)
-attributes_fit rest c = told pairs_fit fault.BadAttributes (attributes_of None rest) (λ pairs h. pairs_are_fit rest pairs c h)
+attributes_fit rest c = grind (arith, told, pairs_are_fit)
 
 -- ---- one attribute
 
@@ -65,7 +62,7 @@ finds {A = A} p q (x ∷ xs) h = let a = and_parts _ _ h in step (q x) x (find q
     step false x o h g = g
 
 pub attribute_fits : (pairs : List Pair) (name : List ℕ) → pairs_fit pairs ≡ true → if_some pair_fits (attribute pairs name) ≡ true
-attribute_fits pairs name h = finds pair_fits (is_named name) pairs (and_parts (list_all pair_fits pairs) (are_apart [] pairs) h).0
+attribute_fits pairs name h = grind (arith, finds, and_parts)
 
 pub value_if_fits : (wanted quoted : Bool) (value : List ℕ) → value_fits quoted value ≡ true → Gives (value_fits wanted) (value_if wanted quoted value)
 value_if_fits true true value h = answers (value_fits true) value h
@@ -120,6 +117,4 @@ carried_clean (pair ∷ pairs) h =
     step false kept c g = g
 
 pub carried_fit : (pairs : List Pair) → pairs_fit pairs ≡ true → others_fit (after_commas (carried pairs)) ≡ true
-carried_fit pairs h =
-    let a : (list_all pair_fits pairs ≡ true) × (are_apart [] pairs ≡ true) = and_parts _ _ h in
-    and_from _ _ (clean_is (after_commas (carried pairs)) (carried_clean pairs a.0)) (others_are pairs a.1)
+carried_fit pairs h = grind (arith, and_parts, and_from, clean_is, carried_clean, others_are)

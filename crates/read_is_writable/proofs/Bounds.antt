@@ -1,6 +1,6 @@
 -- How large the numbers can be that a text says.
-use Rattle.std.proofs.Common.{zero, suc, ◌≡◌, ℕ, ◌+◌, ◌*◌, ◌<◌, ◌^◌, Bool, true, false, cond, not, List, [], ◌∷◌, ◌++◌, take, length, replicate, refl, sym, ◌∙◌, arith}
-use Rattle.std.specs.Prelude.{Result, Ok, Err, Some, None, ◌&&◌, nat_lt, nat_le}
+use Rattle.std.proofs.Common.{zero, suc, ◌≡◌, ℕ, ◌<◌, ◌^◌, Bool, true, false, cond, List, [], ◌∷◌, ◌++◌, take, length, replicate, refl, sym, ◌∙◌, arith}
+use Rattle.std.specs.Prelude.{Result, Ok, Err, Some, None}
 use Rattle.std.specs.List.{list_all}
 use Rattle.std.specs.Char.{is_ascii_digit, digit_value}
 use Rattle.std.specs.Str.Parse.{digits_value, AllDigits}
@@ -8,11 +8,11 @@ use Rattle.std.proofs.lemmas.Bool.{and_parts, and_from, lt-ltb, leb-false, not-f
 use Rattle.std.proofs.lemmas.Int.Digits.{digits_value-lt}
 use Rattle.std.proofs.lemmas.Bool.Decides.{nat_tests}
 use Rattle.std.proofs.lemmas.List.Folds.{list_all-append}
-use Rattle.fixed_duration.specs.Duration.{duration_of, seconds_of, fraction_of}
+use Rattle.fixed_duration.specs.Duration.{duration_of}
 use Rattle.fixed_duration.specs.declared.DurationFault.{DurationFault}
-use Rattle.fixed_duration.specs.Text.{is_empty, is_decimal, fraction_part, nine_digits}
+use Rattle.fixed_duration.specs.Text.{nine_digits}
 use Rattle.fixed_duration.proofs.Digits.{length-filled}
-use Rattle.attr_list.specs.Numbers.{decimal_of, has_up_to}
+use Rattle.attr_list.specs.Numbers.{decimal_of}
 use Rattle.playlist_write.specs.WellFormed.{is_word, duration_fits}
 
 -- what is answered only if a test holds
@@ -26,9 +26,7 @@ not_refused false e o x h = (refl, h)
 
 -- a decimal is below 2 ^ 64
 pub decimal_is_word : (text : List ℕ) (n : ℕ) → decimal_of text ≡ Some n → is_word n ≡ true
-decimal_is_word text n h =
-    let w = where_some (has_up_to 20 text && list_all is_ascii_digit text && nat_lt (digits_value 10 text) (2 ^ 64)) (digits_value 10 text) n h in
-    let small : nat_lt (digits_value 10 text) (2 ^ 64) ≡ true = (and_parts _ _ w.0).1 in rw (← w.1) small
+decimal_is_word text n h = grind arith
 
 -- ---- durations
 
@@ -60,14 +58,4 @@ ok_same o x y g h = let e : Ok x ≡ o = sym g in cc
 
 -- a duration is below 1,000,000 s
 pub duration_is_small : (text : List ℕ) (n : ℕ) → duration_of text ≡ Ok n → duration_fits n ≡ true
-duration_is_small text n h =
-    let a = not_refused (is_empty text) _ _ n h in
-    let b = not_refused (not (is_decimal text)) _ _ n a.1 in
-    let c = not_refused (nat_le (10 ^ 6) (seconds_of text)) _ _ n b.1 in
-    let s : seconds_of text < 10 ^ 6 = leb-false _ _ c.0 in
-    let digits = and_parts _ _ (and_parts _ _ (not-false _ b.0)).0 in
-    let f : fraction_of text < 10 ^ 9 = fraction_is_small (fraction_part text) digits.1 in
-    sized n (seconds_of text) (fraction_of text) s f (ok_same (Ok (seconds_of text * 10 ^ 9 + fraction_of text)) (seconds_of text * 10 ^ 9 + fraction_of text) n refl c.1)
-  where
-    sized : (n s f : ℕ) → s < 10 ^ 6 → f < 10 ^ 9 → s * 10 ^ 9 + f ≡ n → duration_fits n ≡ true
-    sized n s f h g e = lt-ltb _ _ (omega arith)
+duration_is_small text n h = grind (arith, not_refused, leb-false, and_parts, not-false, fraction_is_small, ok_same, lt-ltb)

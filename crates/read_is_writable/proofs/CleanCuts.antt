@@ -12,7 +12,6 @@ use Rattle.std.proofs.lemmas.List.Splits.{join_with_byte-slice_split}
 use Rattle.std.proofs.lemmas.Str.{IsUtf8-take, IsUtf8-drop, IsUtf8-nil, chars-nil, IsUtf8-from_ascii, IsUtf8-from_is_utf8, is_utf8-from_IsUtf8, IsCharBoundary-before_ascii, IsCharBoundary-after_ascii, chars-append}
 use Rattle.std.proofs.lemmas.Str.Ascii.{IsAscii-nil, IsAscii-cons}
 use Rattle.attr_list.proofs.Cuts.{after_none}
-use Rattle.playlist_model.specs.Lines.{has_control}
 use Rattle.writable.specs.Fitting.{is_clean}
 use Rattle.playlist_write.proofs.CleanTexts.{Clean}
 
@@ -20,8 +19,7 @@ pub clean_is : (text : List ℕ) → Clean text → is_clean text ≡ true
 clean_is text c = and_from _ _ (is_utf8-from_IsUtf8 text c.utf8) (not_from_false _ c.free)
 
 pub is_is_clean : (text : List ℕ) → is_clean text ≡ true → Clean text
-is_is_clean text h =
-    let a : (is_utf8 text ≡ true) × (not (has_control text) ≡ true) = and_parts _ _ h in record { utf8 = IsUtf8-from_is_utf8 text a.0; free = not-true _ a.1 }
+is_is_clean text h = grind (arith, and_parts, IsUtf8-from_is_utf8, not-true)
 
 pub clean_nil : Clean []
 clean_nil = record { utf8 = IsUtf8-nil; free = ap (list_any is_control) chars-nil }
@@ -125,11 +123,7 @@ stripped (b ∷ line) u = by (length (b ∷ line) - 1) (omega arith) (get_or (b 
 
 lines_utf8 : (parts : List (List ℕ)) → AllByRecursion IsUtf8 parts → AllByRecursion IsUtf8 (lines_of_parts parts)
 lines_utf8 [] h = tt
-lines_utf8 (part ∷ []) h = by (length part == 0)
-  where
-    by : (b : Bool) → AllByRecursion IsUtf8 (cond b [] (part ∷ []))
-    by true = tt
-    by false = h
+lines_utf8 (part ∷ []) h = grind arith
 lines_utf8 (part ∷ next ∷ parts) h = (stripped part h.0, lines_utf8 (next ∷ parts) h.1)
 
 pub lines_are_utf8 : (bytes : List ℕ) → is_utf8 bytes ≡ true → AllByRecursion IsUtf8 (lines bytes)

@@ -1,8 +1,7 @@
 -- The keys in force, and the initialisation section (RFC 8216, sections 4.3.2.4 and 4.3.2.5).
-use Rattle.std.proofs.Common.{◌≡◌, ℕ, ◌<◌, ◌^◌, Bool, true, false, cond, List, [], ◌∷◌, map, refl, arith}
-use Rattle.std.specs.Prelude.{Some, ◌&&◌, codes, bytes_eq, is_none}
+use Rattle.std.proofs.Common.{◌≡◌, ℕ, Bool, true, false, cond, List, [], ◌∷◌, map, refl, arith}
 use Rattle.std.specs.List.{list_all}
-use Rattle.std.proofs.lemmas.Bool.{and_from, and_parts, lt-ltb, ltb-true}
+use Rattle.std.proofs.lemmas.Bool.{and_from, and_parts}
 use Rattle.std.specs.Ordering.{nat_cmp, is_lt}
 use Rattle.std.specs.Cmp.Lexicographic.{slice_cmp}
 use Rattle.playlist_model.specs.declared.Key.{Key}
@@ -11,9 +10,9 @@ use Rattle.playlist_model.specs.EffectiveKeys.{effective_key}
 use Rattle.playlist_model.specs.LookBack.{without_format, is_before, insert_key, keys_at, are_sorted, init_section_at}
 use Rattle.playlist_model.proofs.ListTests.{all_filter}
 use Rattle.playlist_model.proofs.KeyOrder.{keys_are_sorted}
-use Rattle.writable.specs.Fitting.{if_some, iv_fits, states_iv, value_fits, method_fits, others_fit}
+use Rattle.writable.specs.Fitting.{if_some, iv_fits, states_iv}
 use Rattle.playlist_write.specs.WellFormed.{is_word}
-use Rattle.read_is_writable.specs.Read.{key_reads, keys_read, quoted_uri_reads, init_section_reads, effective_keys_read}
+use Rattle.read_is_writable.specs.Read.{key_reads, keys_read, init_section_reads, effective_keys_read}
 use Rattle.read_is_writable.proofs.Lines.{is_fit, all_good, all_parts, good_parts, all_fit}
 
 module _ (p : Key → Bool) where
@@ -44,11 +43,7 @@ keys_are said h = and_from _ _ (keys_fit said h) (keys_are_sorted said)
 -- ---- keys that take effect
 
 same_format : (n : ℕ) (k : Key) → (effective_key n k).format ≡ k.format
-same_format n k = by (bytes_eq k.format (codes "identity") && is_none k.iv)
-  where
-    by : (b : Bool) → (cond b (record k { iv = Some n }) k).format ≡ k.format
-    by true = refl
-    by false = refl
+same_format n k = grind arith
 
 same_order : (a b c d : List ℕ) → a ≡ c → b ≡ d → is_lt (slice_cmp nat_cmp c d) ≡ true → is_lt (slice_cmp nat_cmp a b) ≡ true
 same_order a b c d e f h = rw (e, f) h
@@ -64,28 +59,13 @@ sorted_same n [] h = refl
 sorted_same n (k ∷ keys) h = let a = and_parts (list_all (is_before k) keys) (are_sorted keys) h in and_from _ _ (before_same n k keys a.0) (sorted_same n keys a.1)
 
 effective_reads : (n : ℕ) (k : Key) → iv_fits n ≡ true → key_reads k ≡ true → key_reads (effective_key n k) ≡ true
-effective_reads n k i h = by (bytes_eq k.format (codes "identity") && is_none k.iv)
-  where
-    with_iv : key_reads (record k { iv = Some n }) ≡ true
-    with_iv =
-        let a : ((value_fits true k.format && method_fits k.method && quoted_uri_reads k.uri && if_some iv_fits k.iv) ≡ true) × (others_fit k.other_attributes ≡ true) = and_parts _ _ h in
-        let b : ((value_fits true k.format && method_fits k.method && quoted_uri_reads k.uri) ≡ true) × (if_some iv_fits k.iv ≡ true) = and_parts _ _ a.0 in
-        and_from _ _ (and_from _ _ b.0 i) a.1
-
-    by : (b : Bool) → key_reads (cond b (record k { iv = Some n }) k) ≡ true
-    by true = with_iv
-    by false = h
+effective_reads n k i h = grind (arith, and_parts, and_from)
 
 effective_states : (n : ℕ) (k : Key) → states_iv (effective_key n k) ≡ true
-effective_states n k = by (bytes_eq k.format (codes "identity")) (is_none k.iv) refl refl
-  where
-    by : (b c : Bool) → bytes_eq k.format (codes "identity") ≡ b → is_none k.iv ≡ c → states_iv (cond (b && c) (record k { iv = Some n }) k) ≡ true
-    by true true e f = rw e refl
-    by true false e f = rw (e, f) refl
-    by false c e f = rw e refl
+effective_states n k = grind arith
 
 word_is_iv : (n : ℕ) → is_word n ≡ true → iv_fits n ≡ true
-word_is_iv n h = let small : n < 2 ^ 64 = ltb-true n (2 ^ 64) h in lt-ltb n (2 ^ 128) (omega (arith, small))
+word_is_iv n h = grind arith
 
 all_effective : (n : ℕ) (keys : List Key) → iv_fits n ≡ true → list_all key_reads keys ≡ true → list_all key_reads (map (effective_key n) keys) ≡ true
 all_effective n [] i h = refl
@@ -96,15 +76,11 @@ all_state n [] = refl
 all_state n (k ∷ keys) = and_from _ _ (effective_states n k) (all_state n keys)
 
 pub effective_fit : (n : ℕ) (said : List Said) → list_all is_fit said ≡ true → is_word n ≡ true → effective_keys_read (map (effective_key n) (keys_at said)) ≡ true
-effective_fit n said h w =
-    and_from _ _ (and_from _ _ (all_effective n (keys_at said) (word_is_iv n w) (keys_fit said h)) (sorted_same n (keys_at said) (keys_are_sorted said))) (all_state n (keys_at said))
+effective_fit n said h w = grind (arith, and_from, all_effective, word_is_iv, keys_fit, sorted_same, keys_are_sorted, all_state)
 
 -- ---- the initialisation section
 
 pub init_section_fits : (said : List Said) → all_good said ≡ true → if_some init_section_reads (init_section_at said) ≡ true
 init_section_fits [] h = refl
-init_section_fits (init_section uri part ∷ before) h =
-    let a = all_parts (init_section uri part) before h in
-    let here = good_parts before (init_section uri part) a.0 in
-    and_from _ _ (and_from _ _ here.0 (keys_are before (all_fit before a.1))) here.1
+init_section_fits (init_section uri part ∷ before) h = grind (arith, all_parts, good_parts, and_from, keys_are, all_fit)
 init_section_fits (said ∷ before) h = init_section_fits before (all_parts said before h).1

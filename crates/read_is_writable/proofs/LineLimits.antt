@@ -1,9 +1,9 @@
 -- One line, read with limits and without.
-use Rattle.std.proofs.Common.{◌≡◌, ℕ, ◌+◌, ◌≤◌, Bool, true, false, List, [], ◌∷◌, length, refl, ap, sym, ◌∙◌, subst}
+use Rattle.std.proofs.Common.{◌≡◌, ℕ, ◌+◌, ◌≤◌, Bool, true, false, List, [], ◌∷◌, length, refl, ap, sym, ◌∙◌, subst, arith}
 use Rattle.std.specs.Prelude.{Result, Ok, Err, Some, nat_le}
 use Rattle.std.proofs.lemmas.Bool.{false≢true, le-leb, leb-true, le-ltb, ltb-false}
 use Rattle.url.specs.Parts.{Parts}
-use Rattle.attr_list.specs.Attributes.{Pair, pieces, attributes_of}
+use Rattle.attr_list.specs.Attributes.{Pair}
 use Rattle.attr_list.proofs.Limits.{limited_is_read, within_is_same}
 use Rattle.playlist_model.specs.declared.Key.{Key}
 use Rattle.playlist_model.specs.declared.FaultKind.{FaultKind}
@@ -43,21 +43,19 @@ ok_same a b o p g h e = let s : Ok a ≡ o = sym g in cc
 -- ---- attributes
 
 few_when : (rest : List ℕ) (f : List Pair → Outcome Said) (x : Said) → (attributes limited rest >>= f) ≡ Ok x → has_few rest ≡ true
-few_when rest f x h =
-    let w = bind_was (attributes limited rest) f x h in
-    le-leb _ _ (limited_is_read 64 rest w.0 (told_was fault.BadAttributes (attributes_of (Some 64) rest) w.0 w.1)).1
+few_when rest f x h = grind (arith, bind_was, le-leb, limited_is_read, told_was)
 
 same_attributes : (rest : List ℕ) → has_few rest ≡ true → attributes limited rest ≡ attributes unlimited rest
-same_attributes rest h = ap (mended fault.BadAttributes) (within_is_same 64 rest (leb-true (length (pieces rest)) 64 h))
+same_attributes rest h = grind (arith, within_is_same, leb-true)
 
 same_keys : (base : Parts) (rest : List ℕ) → has_few rest ≡ true → key_said limited base rest ≡ key_said unlimited base rest
-same_keys base rest h = same_bind (attributes limited rest) (attributes unlimited rest) _ (same_attributes rest h)
+same_keys base rest h = grind (arith, same_bind, same_attributes)
 
 same_init_sections : (base : Parts) (rest : List ℕ) → has_few rest ≡ true → init_section_said limited base rest ≡ init_section_said unlimited base rest
-same_init_sections base rest h = same_bind (attributes limited rest) (attributes unlimited rest) _ (same_attributes rest h)
+same_init_sections base rest h = grind (arith, same_bind, same_attributes)
 
 same_date_ranges : (rest : List ℕ) → has_few rest ≡ true → date_range_said limited rest ≡ date_range_said unlimited rest
-same_date_ranges rest h = same_bind (attributes limited rest) (attributes unlimited rest) _ (same_attributes rest h)
+same_date_ranges rest h = grind (arith, same_bind, same_attributes)
 
 -- ---- tags
 

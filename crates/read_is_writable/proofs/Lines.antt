@@ -1,8 +1,8 @@
 -- What a line says, and where it may stand.
-use Rattle.std.proofs.Common.{◌≡◌, ℕ, ◌≢◌, ◌<◌, ◌≤◌, ◌+◌, ◌^◌, Bool, true, false, not, List, [], ◌∷◌, length, refl, ap, sym, ◌∙◌, arith, cond}
-use Rattle.std.specs.Prelude.{Result, Ok, Err, codes, bytes_eq, ◌||◌, ◌&&◌, ◌==◌, nat_lt, is_none, unwrap_or, drop}
+use Rattle.std.proofs.Common.{◌≡◌, ℕ, ◌<◌, ◌+◌, ◌^◌, Bool, true, false, not, List, [], ◌∷◌, length, refl, ap, sym, ◌∙◌, arith}
+use Rattle.std.specs.Prelude.{Result, Ok, Err, codes, bytes_eq, ◌||◌, ◌&&◌, ◌==◌, is_none, unwrap_or}
 use Rattle.std.specs.List.{list_any, before_first, after_first, AllByRecursion, list_all}
-use Rattle.std.proofs.lemmas.Bool.{and_parts, and_from, or_parts, not_from_false, le-leb, lt-ltb, ltb-false, leb-false, eqb-false, eqb-true}
+use Rattle.std.proofs.lemmas.Bool.{and_parts, and_from, or_parts, not_from_false, lt-ltb, leb-false, eqb-true}
 use Rattle.std.specs.Str.{IsUtf8}
 use Rattle.url.specs.Parts.{Parts}
 use Rattle.fixed_duration.specs.Duration.{duration_of}
@@ -10,7 +10,7 @@ use Rattle.attr_list.specs.Attributes.{attribute, Pair}
 use Rattle.attr_list.specs.Numbers.{decimal_of}
 use Rattle.date_times.specs.Instant.{instant_of, in_range}
 use Rattle.playlist_model.specs.declared.FaultKind.TheVariants as fault
-use Rattle.playlist_model.specs.Lines.{Kind, ignored, uri, tag, kind_of, has_control, is_blank, is_tag, is_comment, is_colon}
+use Rattle.playlist_model.specs.Lines.{Kind, ignored, uri, tag, kind_of, has_control}
 use Rattle.spec_words.specs.Outcomes.{or_fault, mended, optional}
 use Rattle.playlist_model.specs.Said.{Name, sequence_tag, version_tag, target_tag, discontinuity_sequence_tag, type_tag, ended_tag, independent_tag, frames_tag, master_tag, duration_tag, byte_range_tag, discontinuity_tag, key_tag, init_section_tag, time_tag, date_range_tag, unknown_tag, Said, nothing, version, target, sequence, discontinuity_sequence, playlist_type, ended, independent, duration, byte_range, discontinuity, no_keys, init_section, time, media, Outcome, number, version_of, playlist_type_of, byte_range_of, duration_said, key_said, init_section_said, date_range_said, attributes, required, iv_of, quoted_of, uri_of, init_section_byte_range, time_of, length_of, set_key, byte_range_end_fits, key, date_range}
 use Rattle.playlist_model.specs.LookBack.{the_version, the_target, the_sequence, the_discontinuity_sequence, the_type, is_media, is_discontinuity, is_ended, own_duration, byte_range_at, keys_at, discontinuity_at, media_sequence_at}
@@ -63,14 +63,7 @@ number_fits : (rest : List ℕ) → Gives is_word (number rest)
 number_fits rest = found is_word fault.BadValue (decimal_of rest) (λ n e. decimal_is_word rest n e)
 
 version_of_fits : (rest : List ℕ) → Gives version_reads (version_of rest)
-version_of_fits rest =
-    after version_reads (or_fault fault.BadVersion (decimal_of rest)) _ (λ v. guarded version_reads (v == 0 || nat_lt 7 v) _ _ (λ h. answers version_reads v (supported v h)))
-  where
-    some : (v : ℕ) → v ≢ 0 → 1 ≤ v
-    some v h = omega arith
-
-    supported : (v : ℕ) → (v == 0 || nat_lt 7 v) ≡ false → version_reads v ≡ true
-    supported v h = let a = or_parts (v == 0) (nat_lt 7 v) h in and_from _ _ (le-leb 1 v (some v (eqb-false v 0 a.0))) (le-leb v 7 (ltb-false 7 v a.1))
+version_of_fits rest = grind arith
 
 word_below : (n : ℕ) → passes n ≡ false → is_word n ≡ true
 word_below n h = lt-ltb _ _ (omega (arith, leb-false (2 ^ 64) n h))
@@ -94,14 +87,7 @@ KindClean (uri reference) = Clean reference
 KindClean (tag name rest colon) = Clean rest
 
 pub kind_clean : (line : List ℕ) → Clean line → KindClean (kind_of line)
-kind_clean line c = by (is_blank line) (is_tag line) (is_comment line) (before_first is_colon (drop 1 line)) (after_first is_colon (drop 1 line)) (list_any is_colon (drop 1 line))
-    (clean_after_first is_colon line (is_low 58 (omega arith)) c)
-  where
-    by : (blank tagged comment : Bool) (name rest : List ℕ) (colon : Bool) → Clean rest → KindClean (cond blank ignored (cond tagged (tag name rest colon) (cond comment ignored (uri line))))
-    by true tagged comment name rest colon r = tt
-    by false true comment name rest colon r = r
-    by false false true name rest colon r = tt
-    by false false false name rest colon r = c
+kind_clean line c = grind (arith, clean_after_first, is_low, Clean)
 
 module _ (before : List Said) where
   set_key_good : (base : Parts) (pairs : List Pair) (method : List ℕ) → pairs_fit pairs ≡ true → method_fits method ≡ true → Gives (is_good before) (set_key base pairs method)

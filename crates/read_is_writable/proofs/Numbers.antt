@@ -1,7 +1,7 @@
 -- The numbers of the segments that are read (RFC 8216, sections 4.3.3.2 and 4.3.3.3).
-use Rattle.std.proofs.Common.{◌≡◌, ℕ, ◌+◌, ◌<◌, ◌^◌, true, not, List, [], ◌∷◌, ◌++◌, length, refl, ap, ◌∙◌, arith, length-append}
-use Rattle.std.specs.Prelude.{unwrap_or, ◌&&◌}
-use Rattle.std.proofs.lemmas.Bool.{and_parts, and_from, lt-ltb, ltb-true, le-leb, eq-eqb, not-true}
+use Rattle.std.proofs.Common.{◌≡◌, ℕ, ◌+◌, ◌<◌, true, not, List, [], ◌∷◌, ◌++◌, length, refl, ap, ◌∙◌, arith, length-append}
+use Rattle.std.specs.Prelude.{unwrap_or}
+use Rattle.std.proofs.lemmas.Bool.{and_parts, and_from, lt-ltb, ltb-true, le-leb, not-true}
 use Rattle.playlist_model.specs.declared.Segment.{Segment}
 use Rattle.playlist_model.specs.Said.{Said, sequence, discontinuity_sequence, discontinuity, media}
 use Rattle.playlist_model.specs.LookBack.{latest, the_sequence, the_discontinuity_sequence, is_media, is_discontinuity, count, segments_of, segment_at, discontinuity_at, steps_at}
@@ -83,13 +83,11 @@ numbered (said ∷ before) h = let a = and_parts _ _ h in next before said (numb
 all_rise : (number : ℕ) (s : Segment) (later : List Segment) (last : ℕ) → number ≡ s.media_sequence + 1 → Runs number s.discontinuity_sequence later last → all_follow segment_numbers s later ≡ true
 unfolding Runs
 all_rise number s [] last h r = refl
-all_rise number s (t ∷ later) last h (a, b, rest) =
-    and_from _ _ (and_from _ _ (eq-eqb _ _ (a ∙ h)) (eq-eqb _ _ b)) (all_rise (number + 1) t later last (omega (arith, a)) rest)
+all_rise number s (t ∷ later) last h (a, b, rest) = grind (arith, all_rise (number + 1) t later last (omega (arith, a)) rest)
 
 rise : (number before : ℕ) (xs : List Segment) (last : ℕ) → 0 < length xs → Runs number before xs last → numbers_read xs ≡ true
 unfolding Runs
-rise number before [] last some r = absurd (omega arith)
-rise number before (s ∷ later) last some (a, b, rest) = and_from _ _ (le-leb _ _ (omega (arith, b))) (all_rise (number + 1) s later last (omega (arith, a)) rest)
+rise number before xs last some r = grind (arith, and_from, le-leb, all_rise)
 
 -- the numbers of what is said rise
 pub numbers_rise : (said : List Said) → all_good said ≡ true → has is_media said ≡ true → numbers_read (segments_of said) ≡ true
@@ -101,14 +99,7 @@ numbers_rise said h some =
 
 -- a discontinuity number is a word
 step_word : (before : List Said) (said : Said) → is_good before said ≡ true → is_word (discontinuity_at before) ≡ true → is_word (discontinuity_at (said ∷ before)) ≡ true
-step_word before (discontinuity_sequence k) h w =
-    let a : (is_word k ≡ true) × ((not (has is_media before) && not (has is_discontinuity before)) ≡ true) = and_parts _ _ h in
-    let apart : (not (has is_media before) ≡ true) × (not (has is_discontinuity before) ≡ true) = and_parts _ _ a.1 in
-    let none : count is_discontinuity before ≡ 0 = none_counted is_discontinuity before (not-true _ apart.1) in
-    let small : k < 2 ^ 64 = ltb-true k (2 ^ 64) a.0 in lt-ltb _ _ (omega (arith, none, small))
-step_word before discontinuity h w =
-    let small : discontinuity_at before + 1 < 2 ^ 64 = ltb-true _ _ h in lt-ltb _ _ (omega (arith, small))
-step_word before _ h w = w
+step_word before said h w = grind (arith, and_parts, none_counted, not-true, ltb-true, lt-ltb)
 
 pub discontinuity_word : (said : List Said) → all_good said ≡ true → is_word (discontinuity_at said) ≡ true
 discontinuity_word [] h = refl

@@ -1,6 +1,6 @@
 -- What each segment is that is read.
-use Rattle.std.proofs.Common.{◌≡◌, ℕ, Bool, true, false, cond, List, [], ◌∷◌, refl, ◌∙◌}
-use Rattle.std.specs.Prelude.{Option, Some, None, unwrap_or, ◌&&◌, ◌+◌, Ok, not, bytes_eq}
+use Rattle.std.proofs.Common.{◌≡◌, ℕ, Bool, true, false, cond, List, [], ◌∷◌, refl, ◌∙◌, arith}
+use Rattle.std.specs.Prelude.{Option, Some, None, unwrap_or, ◌&&◌, Ok, not}
 use Rattle.std.specs.List.{list_all}
 use Rattle.std.proofs.lemmas.Bool.{and_parts, and_from}
 use Rattle.std.proofs.lemmas.List.Folds.{list_all-append}
@@ -8,7 +8,7 @@ use Rattle.std.specs.Result.{result_unwrap_or}
 use Rattle.date_times.specs.Instant.{in_range}
 use Rattle.spec_words.specs.Outcomes.{refuse_if}
 use Rattle.playlist_model.specs.Said.{Said, duration, time, media, byte_range, date_range, byte_range_end_fits}
-use Rattle.playlist_model.specs.LookBack.{or_earlier, latest, the_duration, the_time, is_media, since_media, own_duration, segments_of, segment_at, the_byte_range, own_byte_range, Extent, byte_range_here, byte_range_from, last_extent, media_sequence_at, date_ranges_of}
+use Rattle.playlist_model.specs.LookBack.{or_earlier, latest, the_duration, the_time, is_media, since_media, own_duration, segments_of, segment_at, the_byte_range, own_byte_range, Extent, byte_range_from, last_extent, media_sequence_at, date_ranges_of}
 use Rattle.playlist_model.specs.declared.FaultKind.TheVariants as fault
 use Rattle.writable.specs.Fitting.{if_some, is_clean, byte_range_fits}
 use Rattle.playlist_write.specs.WellFormed.{duration_fits}
@@ -63,15 +63,8 @@ here_fits : (b : Bool) (size offset : ℕ) → byte_range_end_fits size offset �
 here_fits true size offset e = e
 here_fits false size offset e = refl
 
-after_fits : (b : Bool) (size offset : ℕ) → if_some byte_range_fits (result_unwrap_or (refuse_if (not b) fault.RangeNoStart (byte_range_here size offset)) None) ≡ true
-after_fits true size offset = here_fits (byte_range_end_fits size offset) size offset refl
-after_fits false size offset = refl
-
 byte_range_is : (own : Option (ℕ × Option ℕ)) (uri : List ℕ) (previous : Option Extent) → if_some byte_range_is_fit own ≡ true → if_some byte_range_fits (result_unwrap_or (byte_range_from own uri previous) None) ≡ true
-byte_range_is None uri previous h = refl
-byte_range_is (Some (size, Some offset)) uri previous h = h
-byte_range_is (Some (size, None)) uri None h = refl
-byte_range_is (Some (size, None)) uri (Some previous) h = after_fits (bytes_eq uri previous.uri) size (previous.byte_range.offset + previous.byte_range.length)
+byte_range_is own uri previous h = grind arith
 
 -- ---- one segment
 
@@ -97,9 +90,7 @@ segment_fits before u h =
 
 pub segments_fit : (said : List Said) → all_good said ≡ true → list_all segment_reads (segments_of said) ≡ true
 segments_fit [] h = refl
-segments_fit (media u ∷ before) h =
-    list_all-append segment_reads (segments_of before) (segment_at before u ∷ [])
-    ∙ and_from _ _ (segments_fit before (all_parts (media u) before h).1) (and_from _ _ (segment_fits before u h) refl)
+segments_fit (media u ∷ before) h = grind (arith, list_all-append, and_from, all_parts, segment_fits, segments_fit before (all_parts (media u) before h).1)
 segments_fit (said ∷ before) h = segments_fit before (all_parts said before h).1
 
 -- ---- date ranges

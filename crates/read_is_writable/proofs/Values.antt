@@ -1,22 +1,20 @@
 -- What the values of keys, sections, ranges and URIs are that are read.
-use Rattle.std.proofs.Common.{◌≡◌, ℕ, Bool, true, false, not, cond, List, refl, ap, sym, ◌∙◌}
-use Rattle.std.specs.Prelude.{Ok, Err, Option, Some, None, unwrap_or, codes, ◌==◌}
-use Rattle.std.specs.List.{list_any, before_first, after_first}
-use Rattle.std.proofs.lemmas.Bool.{and_from, and_parts, not_from_false, not-false}
+use Rattle.std.proofs.Common.{◌≡◌, ℕ, Bool, true, false, cond, List, refl, ap, sym, ◌∙◌, arith}
+use Rattle.std.specs.Prelude.{Ok, Err, Option, Some, unwrap_or, codes}
+use Rattle.std.proofs.lemmas.Bool.{and_from, and_parts, not_from_false}
 use Rattle.url.specs.Parts.{Parts, serialize}
 use Rattle.url.specs.Parser.{Parsed, parse_url}
 use Rattle.attr_list.specs.Attributes.{Pair, is_value}
-use Rattle.attr_list.specs.Numbers.{decimal_of, hex_of}
+use Rattle.attr_list.specs.Numbers.{hex_of}
 use Rattle.playlist_model.specs.declared.FaultKind.TheVariants as fault
 use Rattle.playlist_model.specs.Uri.{has_scheme, can_be_written, joined, resolved}
-use Rattle.spec_words.specs.Outcomes.{or_fault}
-use Rattle.playlist_model.specs.Said.{value_if, iv_of, quoted_of, uri_of, byte_range_of, init_section_byte_range, byte_range_end_fits}
+use Rattle.playlist_model.specs.Said.{value_if, iv_of, uri_of, byte_range_of, init_section_byte_range, byte_range_end_fits}
 use Rattle.playlist_model.specs.Carried.{after_commas, carried}
 use Rattle.writable.specs.Fitting.{if_some, is_clean, value_fits, method_fits, iv_fits, byte_range_fits}
 use Rattle.writable.proofs.Hexadecimal.{hex_is_iv}
 use Rattle.playlist_write.proofs.CleanTexts.{Clean, clean_printable}
 use Rattle.read_is_writable.specs.Read.{uri_reads, quoted_uri_reads, key_reads}
-use Rattle.read_is_writable.proofs.Gives.{Gives, answers, guarded, chosen, found, after}
+use Rattle.read_is_writable.proofs.Gives.{Gives, found, after}
 use Rattle.read_is_writable.proofs.Bounds.{where_some}
 use Rattle.read_is_writable.proofs.CleanCuts.{clean_is, is_is_clean}
 use Rattle.read_is_writable.proofs.AttributeValues.{pair_fits, pairs_fit, carried_fit}
@@ -32,17 +30,10 @@ abbrev pub byte_range_is_fit : ℕ × Option ℕ → Bool
 byte_range_is_fit r = if_some (byte_range_end_fits r.0) r.1
 
 pub byte_range_of_fits : (rest : List ℕ) → Gives byte_range_is_fit (byte_range_of rest)
-byte_range_of_fits rest =
-    after byte_range_is_fit (or_fault fault.BadRange (decimal_of (before_first (λ b. b == 64) rest))) _ (λ length.
-    chosen byte_range_is_fit (list_any (λ b. b == 64) rest) _ _
-    (λ _. after byte_range_is_fit (or_fault fault.BadRange (decimal_of (after_first (λ b. b == 64) rest))) _ (λ offset.
-    guarded byte_range_is_fit (not (byte_range_end_fits length offset)) _ _ (λ h. answers byte_range_is_fit (length, Some offset) (not-false _ h))))
-    (λ _. answers byte_range_is_fit (length, None) refl))
+byte_range_of_fits rest = grind arith
 
 pub init_section_byte_range_fits : (pair : Pair) → Gives byte_range_fits (init_section_byte_range pair)
-init_section_byte_range_fits pair =
-    after byte_range_fits (quoted_of pair) _ (λ value. after byte_range_fits (byte_range_of value) _ (λ r.
-    guarded byte_range_fits (not (byte_range_end_fits r.0 (unwrap_or r.1 0))) _ _ (λ h. answers byte_range_fits (record { length = r.0; offset = unwrap_or r.1 0 }) (not-false _ h))))
+init_section_byte_range_fits pair = grind arith
 
 -- ---- URIs
 
@@ -73,11 +64,9 @@ quoted_uri base reference v =
 -- ---- keys (4.3.2.4)
 
 pub or_identity : (format : Option (List ℕ)) → if_some (value_fits true) format ≡ true → value_fits true (unwrap_or format (codes "identity")) ≡ true
-or_identity None h = and_from _ _ (clean_is (codes "identity") (clean_printable (codes "identity") refl)) refl
-or_identity (Some f) h = h
+or_identity format h = grind (arith, and_from, clean_is, clean_printable)
 
 pub key_from : (format method resource : List ℕ) (iv : Option ℕ) (pairs : List Pair) → value_fits true format ≡ true → method_fits method ≡ true → quoted_uri_reads resource ≡ true
     → if_some iv_fits iv ≡ true → pairs_fit pairs ≡ true
     → key_reads (record { format = format; method = method; uri = resource; iv = iv; other_attributes = after_commas (carried pairs) }) ≡ true
-key_from format method resource iv pairs f m u i h =
-    and_from _ _ (and_from _ _ (and_from _ _ (and_from _ _ f m) u) i) (carried_fit pairs h)
+key_from format method resource iv pairs f m u i h = grind (arith, and_from, carried_fit)

@@ -1,15 +1,15 @@
 -- What a whole text is read as can be written again.
-use Rattle.std.proofs.Common.{◌≡◌, ℕ, Bool, true, false, not, cond, List, [], ◌∷◌, refl, subst}
-use Rattle.std.specs.Prelude.{Result, Ok, Err, Option, Some, None, codes, bytes_eq, length, ◌||◌, ◌&&◌}
+use Rattle.std.proofs.Common.{◌≡◌, ℕ, Bool, true, false, not, cond, List, [], ◌∷◌, refl, subst, arith}
+use Rattle.std.specs.Prelude.{Result, Ok, Err, Some, None, ◌||◌, ◌&&◌}
 use Rattle.std.specs.List.{list_any, list_all, AllByRecursion}
 use Rattle.std.specs.Str.{is_utf8, IsUtf8}
 use Rattle.std.specs.Str.Lines.{lines}
 use Rattle.url.specs.Parts.{Parts}
 use Rattle.playlist_model.specs.declared.FaultKind.{FaultKind}
 use Rattle.playlist_model.specs.declared.Playlist.{Playlist}
-use Rattle.playlist_model.specs.Said.{Said, nothing, version, target, Reader, over}
+use Rattle.playlist_model.specs.Said.{Said, nothing, version, target, Reader}
 use Rattle.playlist_model.specs.LookBack.{latest, the_version, the_target, is_media, segments_of}
-use Rattle.playlist_model.specs.Reading.{has, has_init_section, are_mixed, is_set, said_by, said_from, whole_fault, whole, playlist_of, and_whole, of_lines, reading, unlimited, Fault}
+use Rattle.playlist_model.specs.Reading.{has, has_init_section, are_mixed, is_set, said_by, said_from, whole_fault, whole, playlist_of, reading, unlimited}
 use Rattle.playlist_model.proofs.LimitLaws.{reads_what_is_denoted}
 use Rattle.playlist_write.specs.WellFormed.{is_word}
 use Rattle.writable.specs.Fitting.{if_some}
@@ -43,14 +43,6 @@ agreed false false h = refl
 
 -- ---- the whole text
 
-whole_was : (f : Option FaultKind) (said : List Said) (p : Playlist) → whole f said ≡ Ok p → (f ≡ None) × (playlist_of said ≡ p)
-whole_was None said p h = (refl, cc)
-whole_was (Some e) said p h = cc
-
-all_was : (o : Result (List Said) Fault) (p : Playlist) → and_whole o ≡ Ok p → (said : List Said) × (o ≡ Ok said) × (whole_fault said ≡ None) × (playlist_of said ≡ p)
-all_was (Ok said) p h = let w = whole_was (whole_fault said) said p h in (said, refl, w.0, w.1)
-all_was (Err e) p h = cc
-
 headed : {A E : Type 0} (b : Bool) (e : E) (o : Result A E) (x : A) → cond b o (Err e) ≡ Ok x → o ≡ Ok x
 headed true e o x h = h
 headed false e o x h = cc
@@ -64,21 +56,8 @@ record Lines (reader : Reader) (base : Parts) (texts : List (List ℕ)) (p : Pla
   faultless : whole_fault said ≡ None
   whole : playlist_of said ≡ p
 
-lines_was : (reader : Reader) (base : Parts) (texts : List (List ℕ)) (p : Playlist) → of_lines reader base texts ≡ Ok p → Lines reader base texts p
-lines_was reader base [] p h = cc
-lines_was reader base (first ∷ later) p h =
-    let w = all_was (said_from (said_by reader base) (nothing ∷ []) later) p (headed (bytes_eq first (codes "#EXTM3U")) _ _ p h) in
-    record { later = later; utf8 = λ u. u.1; said = w.0; from = w.1; faultless = w.2; whole = w.3 }
-
 text_was : (reader : Reader) (base : Parts) (bytes : List ℕ) (p : Playlist) → reading reader base bytes ≡ Ok p → (is_utf8 bytes ≡ true) × Lines reader base (lines bytes) p
-text_was reader base bytes p h =
-    let w = by (is_utf8 bytes) (over reader.bytes (length bytes)) _ _ (of_lines reader base (lines bytes)) h in
-    (w.0, lines_was reader base (lines bytes) p w.1)
-  where
-    by : {E : Type 0} (b long : Bool) (e f : E) (o : Result Playlist E) → cond (not b) (Err e) (cond long (Err f) o) ≡ Ok p → (b ≡ true) × (o ≡ Ok p)
-    by true true e f o h = cc
-    by true false e f o h = (refl, h)
-    by false long e f o h = cc
+text_was reader base bytes p h = grind arith
 
 -- what holds of the date ranges of a playlist
 date_ranges_are : (reader : Reader) (base : Parts) (texts : List (List ℕ)) (p : Playlist) → Lines reader base texts p → AllByRecursion (IsSaid reader) p.date_ranges

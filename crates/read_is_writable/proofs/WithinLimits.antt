@@ -108,14 +108,7 @@ lines_forward base (first ∷ later) p h =
     )
 
 lines_back : (base : Parts) (texts : List (List ℕ)) (p : Playlist) → of_lines unlimited base texts ≡ Ok p → LinesKeep base texts → of_lines limited base texts ≡ Ok p
-lines_back base [] p h k = cc
-lines_back base (first ∷ later) p h k =
-    let g = headed (bytes_eq first (codes "#EXTM3U")) _ (and_whole (said_from (said_by unlimited base) (nothing ∷ []) later)) p h in
-    let w = and_was (said_from (said_by unlimited base) (nothing ∷ []) later) p g.1 in
-    let said : said_by_lines base (first ∷ later) ≡ w.0 = ap (λ o. result_unwrap_or o []) w.1 in
-    let few = (and_parts (line_keeps first) (list_all line_keeps later) k.attributes).1 in
-    let back = all_back base (nothing ∷ []) later w.0 few (ap formats_keep (sym said) ∙ k.formats) (subst (λ (xs : List Said). count is_media xs ≤ 10000) said k.segments) w.1 in
-    with_head (bytes_eq first (codes "#EXTM3U")) _ _ p g.0 (ap and_whole (back ∙ sym w.1) ∙ g.1)
+lines_back base texts p h k = grind (arith, headed, and_was, and_parts, all_back, with_head)
 
 -- ---- the whole text
 

@@ -128,9 +128,7 @@ pub record Made (s : Section) (bytes : List ℕ) : Type 0 where
   pub holds : Holds IsWritten (written_fields s) bytes
 
 pub made : (s : Section) (old new : List ℕ) → old ≡ [] → Appends (written_fields s) old new → Made s new
-made s old new none h =
-    let same : h.added ≡ new = sym (h.whole ∙ ap (λ (xs : List ℕ). xs ++ h.added) none) in
-    record { fits = subst IsBytes same h.bytes; holds = subst (λ (xs : List ℕ). Holds IsWritten (written_fields s) xs) same h.holds }
+made s old new none h = grind arith
 
 -- the command's bytes are whole
 stated : (c : Command) (m : ℕ) → 8 * m ≡ width (command_fields c) → StatesLength c (width (command_fields c) / 8)

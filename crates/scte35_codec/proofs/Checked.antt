@@ -1,10 +1,9 @@
 -- A section that is written: its front, and then a CRC_32.
 use Rattle.std.proofs.Common.{◌≡◌, ℕ, ◌/◌, ◌^◌, ◌<◌, true, List, [], ◌∷◌, ◌++◌, refl, sym, ap, ◌∙◌, append_assoc, arith}
-use Rattle.std.specs.Prelude.{◌&&◌, nat_le}
 use Rattle.std.specs.Int.{bytes_high_first}
 use Rattle.scte35_codec.specs.Layout.{Field, Is}
 use Rattle.scte35_codec.specs.Section.{Section, start_fields, heading_fields, command_fields, after_length, section}
-use Rattle.scte35_codec.specs.Writing.{fits, command_fits, command_length, section_length, has_section, written_fields}
+use Rattle.scte35_codec.specs.Writing.{command_length, section_length, has_section, written_fields}
 use Rattle.scte35_codec.specs.Inner.Writing.{front_fields, tail_fields, Appends}
 use Rattle.scte35_codec.specs.Crc.{crc_of, with_crc, IsChecked}
 use Rattle.scte35_codec.proofs.Whole.{width-after}
@@ -22,9 +21,7 @@ middle s = heading_fields s (command_length s) ++ command_fields s.command
 
 front_then_crc : (s : Section) → front_fields s ++ crc_fields s.crc ≡ written_fields s
 unfolding section after_length
-front_then_crc s =
-    append_assoc (start s) (middle s ++ tail_fields s) (crc_fields s.crc)
-    ∙ ap (λ (fs : List Field). start s ++ fs) (append_assoc (middle s) (tail_fields s) (crc_fields s.crc))
+front_then_crc s = grind (arith, append_assoc)
 
 -- the front, and then the section's own CRC_32
 pub whole_made : (s : Section) (a b : List ℕ) → Appends (front_fields s) [] a → Appends (crc_fields s.crc) a b → Made s b
@@ -40,8 +37,7 @@ same_front s crc = ap (λ (n : ℕ). start_fields n ++ (middle s ++ tail_fields 
 
 still_has_section : (s : Section) (crc : ℕ) → has_section s ≡ true → has_section (with_crc s crc) ≡ true
 unfolding has_section
-still_has_section s crc fit =
-    ap (λ (n : ℕ). fits 33 s.pts_adjustment && fits 12 s.tier && command_fits s.command && nat_le n 4093) (same_length s crc) ∙ fit
+still_has_section s crc fit = grind (arith, same_length)
 
 crc_appends : (crc : ℕ) (a b : List ℕ) → crc < 2 ^ 32 → b ≡ a ++ bytes_high_first 4 crc → Appends (crc_fields crc) a b
 crc_appends crc a b below whole = group_appends 4 (crc_fields crc) crc a b whole refl below (omega arith, omega arith)

@@ -1,15 +1,14 @@
 -- Which faults reading the parts of a section can give.
-use Rattle.std.proofs.Common.{◌≡◌, ◌≢◌, ℕ, zero, suc, ◌+◌, ◌%◌, ◌^◌, Bool, true, false, cond, not, eqb, ltb, List, length, drop, Result, Ok, Err, refl, subst, ◌∙◌}
+use Rattle.std.proofs.Common.{◌≡◌, ◌≢◌, ℕ, zero, suc, Bool, true, false, cond, ltb, List, length, Result, Ok, Err, refl, subst, arith}
 use Rattle.std.specs.Prelude.{IfErr}
-use Rattle.std.proofs.lemmas.Bool.{and_parts}
 use Rattle.scte35_codec.specs.declared.info.SpliceInfo.{SpliceInfo}
 use Rattle.scte35_codec.specs.Section.{Section, section_of}
-use Rattle.scte35_codec.specs.Hexadecimal.{is_marked, are_pairs, is_hex_text, hex_bytes, reading_hex}
+use Rattle.scte35_codec.specs.Hexadecimal.{is_hex_text, hex_bytes, reading_hex}
 use Rattle.scte35_codec.proofs.Hexadecimals.{pairs_decode}
 use Rattle.scte35_codec.specs.declared.fault.SpliceFault.{SpliceFault}
-use Rattle.scte35_codec.specs.declared.fault.SpliceFault.TheVariants.{NotHex, TooShort, TableId, Length, Protocol, Encrypted, CommandLength, OutOfMemory, TooLarge}
+use Rattle.scte35_codec.specs.declared.fault.SpliceFault.TheVariants.{NotHex, CommandLength, OutOfMemory, TooLarge}
 use Rattle.spec_words.specs.Outcomes.{◌>>=◌, Refuses}
-use Rattle.scte35_codec.specs.Reading.{Gives, number_at, bytes_at, bit, specified_time_at, time_at, optional_time_at, component_at, components_at, target_at, optional_duration_at, body_at, optional_body_at, insert_at, whole_insert_at, unmeasured_at, measured_of, command_at, ending_at, tail_at, contents_of, number_in, reading}
+use Rattle.scte35_codec.specs.Reading.{Gives, number_at, bit, specified_time_at, time_at, optional_time_at, component_at, components_at, target_at, optional_duration_at, body_at, optional_body_at, insert_at, whole_insert_at, unmeasured_at, measured_of, command_at, ending_at, tail_at, contents_of, reading}
 
 -- a reading fails by the lengths alone
 abbrev pub ByLength : {A : Type 0} → Result A SpliceFault → Type 0
@@ -26,9 +25,6 @@ by_test false x y h g = g
 
 by_number : (count : ℕ) (bytes : List ℕ) → ByLength (number_at count bytes)
 by_number count bytes = by_test (ltb (length bytes) count) _ _ refl tt
-
-by_bytes : (count : ℕ) (bytes : List ℕ) → ByLength (bytes_at count bytes)
-by_bytes count bytes = by_test (ltb (length bytes) count) _ _ refl tt
 
 by_time : (bytes : List ℕ) → ByLength (time_at bytes)
 unfolding time_at specified_time_at
@@ -49,9 +45,7 @@ by_components immediate (suc n) bytes =
 
 by_target : (program immediate : Bool) (bytes : List ℕ) → ByLength (target_at program immediate bytes)
 unfolding target_at
-by_target true immediate bytes = by_then (optional_time_at immediate bytes) _ (by_optional_time immediate bytes) (λ _. tt)
-by_target false immediate bytes =
-    by_then (number_at 1 bytes) _ (by_number 1 bytes) (λ count. by_then (components_at immediate count.0 count.1) _ (by_components immediate count.0 count.1) (λ _. tt))
+by_target program immediate bytes = grind (arith, by_components, by_optional_time)
 
 by_duration : (stated : Bool) (bytes : List ℕ) → ByLength (optional_duration_at stated bytes)
 unfolding optional_duration_at
@@ -60,11 +54,7 @@ by_duration true bytes = by_then (number_at 5 bytes) _ (by_number 5 bytes) (λ _
 
 by_body : (bytes : List ℕ) → ByLength (body_at bytes)
 unfolding body_at
-by_body bytes =
-    by_then (number_at 1 bytes) _ (by_number 1 bytes) (λ flags.
-    by_then (target_at (bit 6 flags.0) (bit 4 flags.0) flags.1) _ (by_target (bit 6 flags.0) (bit 4 flags.0) flags.1) (λ target.
-    by_then (optional_duration_at (bit 5 flags.0) target.1) _ (by_duration (bit 5 flags.0) target.1) (λ duration.
-    by_then (number_at 4 duration.1) _ (by_number 4 duration.1) (λ _. tt))))
+by_body bytes = grind (arith, by_duration, by_target)
 
 by_optional_body : (cancelled : Bool) (bytes : List ℕ) → ByLength (optional_body_at cancelled bytes)
 unfolding optional_body_at
@@ -73,34 +63,19 @@ by_optional_body false bytes = by_then (body_at bytes) _ (by_body bytes) (λ _. 
 
 by_insert : (bytes : List ℕ) → ByLength (insert_at bytes)
 unfolding insert_at
-by_insert bytes =
-    by_then (number_at 4 bytes) _ (by_number 4 bytes) (λ event.
-    by_then (number_at 1 event.1) _ (by_number 1 event.1) (λ flags.
-    by_then (optional_body_at (bit 7 flags.0) flags.1) _ (by_optional_body (bit 7 flags.0) flags.1) (λ _. tt)))
+by_insert bytes = grind (arith, by_optional_body)
 
 by_command : (n kind : ℕ) (bytes : List ℕ) → ByLength (command_at n kind bytes)
 unfolding command_at unmeasured_at measured_of whole_insert_at
-by_command n kind bytes =
-    by_test (eqb n 0xFFF) _ _
-    (by_test (not (eqb kind 5)) _ _ refl (by_then (insert_at bytes) _ (by_insert bytes) (λ _. tt)))
-    (by_then (bytes_at n bytes) _ (by_bytes n bytes) (λ front.
-    by_then (measured_of kind front.0) _
-    (by_test (eqb kind 5) _ _
-    (by_then (whole_insert_at front.0) _ (by_then (insert_at front.0) _ (by_insert front.0) (λ insert. by_test (eqb (length insert.1) 0) _ _ tt refl)) (λ _. tt))
-    tt)
-    (λ _. tt)))
+by_command n kind bytes = grind (arith, by_insert)
 
 by_tail : (bytes : List ℕ) → ByLength (tail_at bytes)
 unfolding tail_at ending_at
-by_tail bytes =
-    by_then (number_at 2 bytes) _ (by_number 2 bytes) (λ count.
-    by_then (bytes_at count.0 count.1) _ (by_bytes count.0 count.1) (λ descriptors.
-    by_then (ending_at descriptors.1) _ (by_test (ltb (length descriptors.1) 4) _ _ refl tt) (λ _. tt)))
+by_tail bytes = grind arith
 
 by_contents : (bytes : List ℕ) → ByLength (contents_of bytes)
 unfolding contents_of
-by_contents bytes =
-    by_then (command_at _ _ (drop 14 bytes)) _ (by_command _ _ (drop 14 bytes)) (λ command. by_then (tail_at command.1) _ (by_tail command.1) (λ _. tt))
+by_contents bytes = grind (arith, by_command, by_tail)
 
 -- what follows the first 14 bytes fails by the lengths alone
 pub contents_fail : (bytes : List ℕ) (e : SpliceFault) → contents_of bytes ≡ Err e → e ≡ CommandLength
@@ -117,42 +92,13 @@ OfBytes (Err fault) = Unit {0}
 abbrev failed : SpliceFault → Result Section SpliceFault
 failed e = Err e
 
-by_length : {A : Type 0} (r : Result A SpliceFault) → ByLength r → OfBytes r
-by_length (Ok x) h = tt
-by_length (Err CommandLength) h = tt
-by_length (Err NotHex) h = cc h
-by_length (Err OutOfMemory) h = cc h
-by_length (Err TooLarge) h = cc h
-by_length (Err TooShort) h = tt
-by_length (Err TableId) h = tt
-by_length (Err Length) h = tt
-by_length (Err Protocol) h = tt
-by_length (Err Encrypted) h = tt
-
-of_test : {A : Type 0} (b : Bool) (x y : Result A SpliceFault) → OfBytes x → OfBytes y → OfBytes (cond b x y)
-of_test true x y h g = h
-of_test false x y h g = g
-
-of_bytes : (d e : SpliceFault) → OfBytes (failed d) → d ≡ e → (e ≢ NotHex) × (e ≢ TooLarge)
-of_bytes d e h same = (λ f. subst (λ (x : SpliceFault). OfBytes (failed x)) (same ∙ f) h, λ f. subst (λ (x : SpliceFault). OfBytes (failed x)) (same ∙ f) h)
-
 pub reading_faults : (bytes : List ℕ) → OfBytes (reading bytes)
 unfolding reading
-reading_faults bytes =
-    of_test (ltb (length bytes) 20) _ _ tt
-    (of_test (not (eqb (number_in 0 1 bytes) 0xFC)) _ _ tt
-    (of_test (not (eqb (number_in 1 2 bytes % 2 ^ 12 + 3) (length bytes))) _ _ tt
-    (of_test (not (eqb (number_in 3 1 bytes) 0)) _ _ tt
-    (of_test (bit 39 (number_in 4 5 bytes)) _ _ tt (by_length (contents_of bytes) (by_contents bytes))))))
-
-no_other : (e : SpliceFault) (r : Result Section SpliceFault) → OfBytes r → r ≡ Err e → (e ≢ NotHex) × (e ≢ TooLarge)
-no_other e (Ok s) h is = absurd cc
-no_other e (Err d) h is = of_bytes d e h cc
+reading_faults bytes = grind (arith, by_contents)
 
 -- neither is a failed allocation
 other_than : (e : SpliceFault) (r : Result Section SpliceFault) → OfBytes r → Refuses OutOfMemory e r → (e ≢ NotHex) × (e ≢ TooLarge)
-other_than e r h refused =
-    (λ f. (no_other e r h (refused (λ m. cc))).0 f, λ f. (no_other e r h (refused (λ m. cc))).1 f)
+other_than e r h refused = grind arith
 
 pub read_faults : (bytes : List ℕ) (result : Result SpliceInfo SpliceFault) → Gives section_of result (reading bytes) → IfErr result (λ e. (e ≢ NotHex) × (e ≢ TooLarge))
 read_faults bytes (Ok info) gives = tt
@@ -161,10 +107,7 @@ read_faults bytes (Err e) gives = other_than e (reading bytes) (reading_faults b
 -- text that is hexadecimal has bytes, and so another fault
 pub hex_is_read : (text : List ℕ) → is_hex_text text ≡ true → OfBytes (reading_hex text)
 unfolding reading_hex hex_bytes
-hex_is_read text is =
-    let both = and_parts (is_marked text) (are_pairs (drop 2 text)) is in
-    let d = pairs_decode (drop 2 text) both.1 in
-    rw (is, d.1) (reading_faults d.0)
+hex_is_read text is = grind (arith, pairs_decode, reading_faults)
 
 pub not_hex_is : (text : List ℕ) → is_hex_text text ≡ false → reading_hex text ≡ Err NotHex
 unfolding reading_hex hex_bytes

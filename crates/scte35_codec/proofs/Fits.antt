@@ -1,11 +1,11 @@
 -- What a value that fits has.
-use Rattle.std.proofs.Common.{◌≡◌, ℕ, ◌^◌, ◌<◌, ◌≤◌, Bool, true, List, [], ◌∷◌, length, Option, Some, None, refl}
-use Rattle.std.specs.Prelude.{IsTrue, ◌&&◌, nat_le}
+use Rattle.std.proofs.Common.{◌≡◌, ℕ, ◌^◌, ◌<◌, ◌≤◌, Bool, true, List, [], ◌∷◌, length, Option, Some, None, refl, arith}
+use Rattle.std.specs.Prelude.{IsTrue}
 use Rattle.std.specs.List.{list_all}
-use Rattle.std.proofs.lemmas.Bool.{and_parts, and_from, leb-true, ltb-true, eqb-false, not-true}
+use Rattle.std.proofs.lemmas.Bool.{and_parts, and_from, leb-true, eqb-false, not-true}
 use Rattle.scte35_codec.specs.declared.info.SpliceTime.{SpliceTime}
 use Rattle.scte35_codec.specs.Section.{Target, Program, Components, Body, Command, Insert, Other, Section, is_timed, target_is_timed, BodyIsTimed, IsProper}
-use Rattle.scte35_codec.specs.Writing.{time_fits, place_fits, target_fits, duration_fits, body_fits, command_fits, fits, section_length, has_section}
+use Rattle.scte35_codec.specs.Writing.{time_fits, place_fits, target_fits, duration_fits, body_fits, command_fits, section_length, has_section}
 use Rattle.scte35_codec.specs.Inner.Writing.{TargetFits}
 
 abbrev Component : Type 0
@@ -47,11 +47,7 @@ pub record Kept (s : Section) : Type 0 where
 
 pub kept : (s : Section) → has_section s ≡ true → Kept s
 unfolding has_section
-kept s h =
-    let a = and_parts (fits 33 s.pts_adjustment && fits 12 s.tier && command_fits s.command) (nat_le (section_length s) 4093) h in
-    let b = and_parts (fits 33 s.pts_adjustment && fits 12 s.tier) (command_fits s.command) a.0 in
-    let c = and_parts (fits 33 s.pts_adjustment) (fits 12 s.tier) b.0 in
-    record { adjustment = ltb-true _ _ c.0; tier = ltb-true _ _ c.1; command = b.1; length = leb-true _ _ a.1 }
+kept s h = grind arith
 
 pub adjustment_fits : (s : Section) → has_section s ≡ true → s.pts_adjustment < 2 ^ 33
 adjustment_fits s h = (kept s h).adjustment

@@ -1,46 +1,30 @@
 -- Sections of hexadecimal text.
-use Rattle.std.proofs.Common.{◌≡◌, ℕ, zero, suc, ◌+◌, ◌*◌, ◌/◌, ◌%◌, ◌^◌, ◌≤◌, true, false, cond, not, eqb, ltb, leb, List, [], ◌∷◌, length, take, drop, Result, Ok, Err, refl, sym, ap, ◌∙◌, inl, inr, arith}
+use Rattle.std.proofs.Common.{◌≡◌, ℕ, zero, suc, ◌+◌, ◌*◌, ◌/◌, ◌%◌, ◌≤◌, true, cond, not, eqb, List, [], ◌∷◌, length, take, drop, Result, Ok, Err, refl, sym, ap, ◌∙◌, inl, inr, arith}
 use Rattle.std.specs.List.{list_all}
 use Rattle.std.specs.Char.{is_ascii_hexdigit}
-use Rattle.std.specs.Int.{is_in_range}
-use Rattle.std.specs.Prelude.{◌||◌, ◌&&◌, ◌⊎◌, MatchResult, IfOk, min}
-use Rattle.std.proofs.lemmas.Bool.{cases_lt, le-ltb, ne_eqb, and_parts, and_from, or_cases, eqb-true, eq-eqb, leb-true, le-leb, lt-leb}
+use Rattle.std.specs.Prelude.{◌&&◌, ◌⊎◌, MatchResult, IfOk, min}
+use Rattle.std.proofs.lemmas.Bool.{cases_lt, and_parts, and_from, eqb-true, eq-eqb}
 use Rattle.std.proofs.lemmas.List.Folds.{list_all-append}
-use Rattle.std.proofs.lemmas.List.{length-take, take-append-drop, take-take, take_all}
+use Rattle.std.proofs.lemmas.List.{length-take, take-append-drop, take_all}
 use Rattle.std.proofs.lemmas.List.Sums.{AllPass-from_list_all}
+use Rattle.std.proofs.lemmas.Grind.{common_steps}
 use Rattle.hex.specs.declared.error.FromHexError.{FromHexError}
 use Rattle.hex.specs.Hex.{◌>>=◌, decode_pairs, decode_of, decode_sized, pair_value, is_hex_digit}
-use Rattle.hex.proofs.HexLemmas.{decode_of-ok, decode_of-digits, decode_of-even, decode_sized-twice}
+use Rattle.hex.proofs.HexLemmas.{decode_of-ok, decode_of-digits}
 use Rattle.scte35_codec.specs.declared.fault.SpliceFault.{SpliceFault}
 use Rattle.scte35_codec.specs.declared.fault.SpliceFault.TheVariants.{TableId, Length}
 use Rattle.scte35_codec.specs.declared.info.SpliceInfo.{SpliceInfo}
 use Rattle.scte35_codec.specs.Section.{Section, section_of, IsSection}
 use Rattle.scte35_codec.proofs.Takes.{bind_ok}
 use Rattle.scte35_codec.proofs.Whole.{reading_is, is_read}
-use Rattle.scte35_codec.specs.Layout.{IsBytes, number}
+use Rattle.scte35_codec.specs.Layout.{IsBytes}
 use Rattle.scte35_codec.specs.Reading.{Gives, number_in, reading}
-use Rattle.scte35_codec.specs.Hexadecimal.{are_pairs, digits_of, decoded, hex_bytes, reading_hex}
+use Rattle.scte35_codec.specs.Hexadecimal.{are_pairs, hex_bytes, reading_hex}
 use Rattle.scte35_codec.specs.Inner.Hexadecimal.{reading_digits}
 
 -- a digit in the sense of `u8::is_ascii_hexdigit` is one in the sense of `hex`
 digit-same : (c : ℕ) → is_ascii_hexdigit c ≡ true → is_hex_digit c ≡ true
-digit-same c h =
-    elim (or_cases (is_in_range 48 57 c || is_in_range 65 70 c) (is_in_range 97 102 c) h) [
-      | inl first ↦ elim (or_cases (is_in_range 48 57 c) (is_in_range 65 70 c) first) [
-        | inl decimal ↦
-            let p = and_parts (leb 48 c) (leb c 57) decimal in
-            let low = leb-true 48 c p.0 in
-            let high = leb-true c 57 p.1 in
-            rw (lt-leb 65 c (omega arith), lt-leb 97 c (omega arith), p.0, p.1) refl
-        | inr upper ↦
-            let p = and_parts (leb 65 c) (leb c 70) upper in
-            rw (p.0, p.1) refl
-      ]
-      | inr lower ↦
-          let p = and_parts (leb 97 c) (leb c 102) lower in
-          let low = leb-true 97 c p.0 in
-          rw (le-leb 65 c (omega arith), lt-leb c 70 (omega arith), p.0, p.1) refl
-    ]
+digit-same c h = grind arith
 
 pub all_digits : (digits : List ℕ) → list_all is_ascii_hexdigit digits ≡ true → list_all is_hex_digit digits ≡ true
 all_digits [] h = refl
@@ -51,16 +35,10 @@ all_digits (c ∷ cs) h =
 -- more bytes than a section can have are refused for what is in the first three
 long_reading : (xs : List ℕ) → 4099 ≤ length xs → reading xs ≡ cond (not (eqb (number_in 0 1 xs) 0xFC)) (Err TableId) (Err Length)
 unfolding reading
-long_reading xs long =
-    let some : ltb (length xs) 20 ≡ false = le-ltb _ _ (omega arith) in
-    let other : eqb (number_in 1 2 xs % 2 ^ 12 + 3) (length xs) ≡ false = ne_eqb _ _ (λ e. omega arith) in
-    rw (some, other) refl
+long_reading xs long = grind arith
 
 pub front_reading : (xs : List ℕ) (n : ℕ) → 4099 ≤ n → n ≤ length xs → reading (take n xs) ≡ reading xs
-front_reading xs n le long =
-    let len : length (take n xs) ≡ n = omega (arith, length-take n xs) in
-    let first : number_in 0 1 (take n xs) ≡ number_in 0 1 xs = ap number (take-take 1 n xs (omega arith)) in
-    long_reading (take n xs) (omega arith) ∙ ap (λ (k : ℕ). cond (not (eqb k 0xFC)) (Err TableId) (Err Length)) first ∙ sym (long_reading xs (omega arith))
+front_reading xs n le long = grind (arith, length-take, long_reading)
 
 step_ok : {A B : Type 0} (r : Result A FromHexError) (f : A → Result B FromHexError) (y : B) → (r >>= f) ≡ Ok y → (x : A) × (r ≡ Ok x) × (f x ≡ Ok y)
 step_ok (Ok x) f y e = (x, refl, e)
@@ -84,8 +62,7 @@ two_more k = omega arith
 pairs_front : (i k : ℕ) (s bytes : List ℕ) → decode_pairs i s ≡ Ok bytes → decode_pairs i (take (2 * k) s) ≡ Ok (take k bytes)
 unfolding decode_pairs
 pairs_front i zero s bytes e = refl
-pairs_front i (suc k) [] bytes e =
-    rw two_more (ap (λ (bs : List ℕ). done (take (suc k) bs)) (ok_is [] bytes e))
+pairs_front i (suc k) [] bytes e = grind (arith, common_steps)
 pairs_front i (suc k) (a ∷ []) bytes e = absurd cc
 pairs_front i (suc k) (a ∷ b ∷ s) bytes e =
     let first = step_ok (pair_value a b i) (λ byte. decode_pairs (i + 2) s >>= λ bs. Ok (byte ∷ bs)) bytes e in
@@ -95,19 +72,11 @@ pairs_front i (suc k) (a ∷ b ∷ s) bytes e =
 
 -- the bytes of a front of some digits
 pub front_of : (digits bytes : List ℕ) (k : ℕ) → decode_of digits ≡ Ok bytes → 2 * k ≤ length digits → decode_of (take (2 * k) digits) ≡ Ok (take k bytes)
-front_of digits bytes k e long =
-    let len : length (take (2 * k) digits) ≡ 2 * k = omega (arith, length-take (2 * k) digits) in
-    let even : length digits % 2 ≡ 0 = (decode_of-ok digits bytes e).0 in
-    let pairs : decode_pairs 0 digits ≡ Ok bytes = sym (decode_of-even digits even) ∙ e in
-    decode_of-even (take (2 * k) digits) (omega arith) ∙ pairs_front 0 k digits bytes pairs
+front_of digits bytes k e long = grind (arith, length-take, pairs_front)
 
 -- pairs of digits have bytes
 pub pairs_decode : (digits : List ℕ) → are_pairs digits ≡ true → (bytes : List ℕ) × (decode_of digits ≡ Ok bytes) × (length digits ≡ 2 * length bytes)
-pairs_decode digits h =
-    let both = and_parts (eqb (length digits % 2) 0) (list_all is_ascii_hexdigit digits) h in
-    let even = eqb-true (length digits % 2) 0 both.0 in
-    let d = decode_of-digits digits even (AllPass-from_list_all is_hex_digit digits (all_digits digits both.1)) in
-    (d.0, d.1, (decode_of-ok digits d.0 d.1).2)
+pairs_decode digits h = grind (arith, AllPass-from_list_all, decode_of-digits, decode_of-ok, eqb-true)
 
 -- so many of the bytes that none is missed, or that they are too many
 pub front_says : (digits bytes : List ℕ) (k : ℕ) → decode_of digits ≡ Ok bytes → (k ≡ length bytes) ⊎ ((4099 ≤ k) × (k ≤ length bytes)) → reading_digits digits ≡ reading (take k bytes)
@@ -117,11 +86,7 @@ front_says digits bytes k e (inr many) = rw e (sym (front_reading bytes k many.0
 -- decoding pairs of digits into room for each byte
 pub decodes : (digits : List ℕ) (room : ℕ) (r : Result (Unit {0}) FromHexError) (out : List ℕ) → are_pairs digits ≡ true → length digits ≡ 2 * room
     → MatchResult (decode_sized digits room) (λ bytes. (r ≡ Ok tt) × (out ≡ bytes)) (λ e. r ≡ Err e) → (r ≡ Ok tt) × (decode_of digits ≡ Ok out)
-decodes digits room r out pairs len is =
-    let d = pairs_decode digits pairs in
-    let sized : decode_sized digits room ≡ Ok d.0 = decode_sized-twice digits room len ∙ d.1 in
-    let h : (r ≡ Ok tt) × (out ≡ d.0) = rw sized at is in
-    (h.0, d.1 ∙ ap done (sym h.1))
+decodes digits room r out pairs len is = grind (arith, pairs_decode)
 
 pub pairs_in_front : (digits : List ℕ) (k : ℕ) → are_pairs digits ≡ true → 2 * k ≤ length digits → are_pairs (take (2 * k) digits) ≡ true
 pairs_in_front digits k pairs long =
@@ -140,24 +105,16 @@ decoded_says digits k out pairs count is =
     let whole : (k ≡ length d.0) ⊎ ((4099 ≤ k) × (k ≤ length d.0)) = elim (cases_lt (length d.0) 4099) [ inl few ↦ inl (omega (arith, d.2)) | inr many ↦ inr (omega (arith, d.2), omega (arith, d.2)) ] in
     ap reading (ok_is out (take k d.0) (sym is ∙ front)) ∙ sym (front_says digits d.0 k d.1 whole)
 
-decoded_ok : (r : Result (List ℕ) FromHexError) (bytes : List ℕ) → decoded r ≡ Ok bytes → r ≡ Ok bytes
-decoded_ok (Ok xs) bytes e = ap done (is_same xs bytes e)
-decoded_ok (Err d) bytes e = absurd cc
-
 hex_bytes_fit : (text bytes : List ℕ) → hex_bytes text ≡ Ok bytes → IsBytes bytes
 unfolding hex_bytes
-hex_bytes_fit text bytes e =
-    let b = bind_ok (digits_of text) (λ digits. decoded (decode_of digits)) bytes e in
-    (decode_of-ok b.0 bytes (decoded_ok (decode_of b.0) bytes b.2)).3
+hex_bytes_fit text bytes e = grind (arith, common_steps, bind_ok, decode_of-ok)
 
 abbrev pub Says : List ℕ → Section → Type 0
 Says text s = (bytes : List ℕ) × (hex_bytes text ≡ Ok bytes) × IsSection s bytes
 
 pub hex_is : (text : List ℕ) (s : Section) → reading_hex text ≡ Ok s → Says text s
 unfolding reading_hex
-hex_is text s e =
-    let b = bind_ok (hex_bytes text) reading s e in
-    (b.0, b.1, reading_is b.0 s (hex_bytes_fit text b.0 b.1) b.2)
+hex_is text s e = grind (arith, hex_bytes_fit, reading_is)
 
 pub hex_found : (text : List ℕ) (result : Result SpliceInfo SpliceFault) → Gives section_of result (reading_hex text) → IfOk result (λ info. Says text (section_of info))
 hex_found text (Ok info) gives = hex_is text (section_of info) gives

@@ -13,7 +13,7 @@ use Rattle.scte35_codec.specs.Writing.{place_fits, target_fits, duration_fits, b
 use Rattle.spec_words.specs.Outcomes.{◌>>=◌}
 use Rattle.scte35_codec.specs.Reading.{number_at, bit, optional_time_at, components_at, target_at, optional_duration_at, body_at, optional_body_at, insert_at}
 use Rattle.scte35_codec.specs.Layout.{IsBytes}
-use Rattle.scte35_codec.proofs.Takes.{bind_ok, ok_is, flag-test, test-flag, Takes, Takes-none, Takes-then, number_takes, group_takes, Lies, Again, group_again}
+use Rattle.scte35_codec.proofs.Takes.{bind_ok, ok_is, flag-test, test-flag, Takes, Takes-then, number_takes, group_takes, Lies, Again, group_again}
 use Rattle.scte35_codec.proofs.Times.{optional_time_takes, optional_time_again, components_takes, components_again, optional_duration_takes, optional_duration_again}
 
 -- ---- The target
@@ -138,8 +138,7 @@ record TakesBodies (cancelled : Bool) (b : Option Body) (bytes rest : List ℕ) 
 
 optional_body_takes : (cancelled : Bool) (bytes : List ℕ) (b : Option Body) (rest : List ℕ) → IsBytes bytes → optional_body_at cancelled bytes ≡ Ok (b, rest) → TakesBodies cancelled b bytes rest
 unfolding optional_body_at
-optional_body_takes true bytes b rest fits e =
-    subst (λ (x : Option Body × List ℕ). TakesBodies true x.0 bytes x.1) {x = (None, bytes)} (ok_is (None, bytes) (b, rest) e) (record { takes = Takes-none bytes fits; kind = refl; small = refl })
+optional_body_takes true bytes b rest fits e = grind arith
 optional_body_takes false bytes b rest fits e =
     let a = bind_ok (body_at bytes) (λ body. Ok (Some body.0, body.1)) (b, rest) e in
     let body = body_takes bytes a.0.0 a.0.1 fits a.1 in

@@ -4,17 +4,13 @@ use Rattle.std.specs.List.{flat_map}
 use Rattle.std.proofs.lemmas.List.{take_more, flat_map_more}
 use Rattle.scte35_codec.specs.declared.info.SpliceTime.{SpliceTime}
 use Rattle.scte35_codec.specs.Layout.{width}
-use Rattle.scte35_codec.specs.Section.{Body, Section, optional, component, target_fields, break_duration, body_flags, body_ids, body_fields, command_fields, after_length}
+use Rattle.scte35_codec.specs.Section.{Body, Section, optional, component, target_fields, break_duration, body_fields, command_fields, after_length}
 use Rattle.scte35_codec.proofs.Fields.{width-append}
 use Rattle.scte35_codec.proofs.Whole.{width-after}
 
 pub width_of_body : (b : Body) → width (body_fields b) ≡ 40 + width (target_fields b.target) + width (optional break_duration b.duration)
 unfolding body_fields
-width_of_body b =
-    let f = body_flags b in
-    let t = target_fields b.target in
-    let d = optional break_duration b.duration in
-    omega (arith, width-append (f ++ t ++ d) (body_ids b), width-append (f ++ t) d, width-append f t)
+width_of_body b = grind (arith, width-append)
 
 -- one component more
 pub components_more : (cs : List (ℕ × Option SpliceTime)) (i : ℕ) (c : ℕ × Option SpliceTime) → i < length cs

@@ -29,15 +29,8 @@ goes_on immediate front count i bytes c after total lt h so_far =
 pub stops : (immediate : Bool) (fault : SpliceFault) (front : List Component) (count i : ℕ) (bytes : List ℕ) (total : Result (List Component × List ℕ) SpliceFault) → i < count → Refuses OutOfMemory fault (component_at immediate bytes)
     → with_front front (components_at immediate (count - i) bytes) ≡ total → Refuses OutOfMemory fault total
 unfolding components_at
-stops immediate fault front count i bytes total lt refused so_far = λ other.
-    let h : component_at immediate bytes ≡ Err fault = refused other in
-    let k : count - i ≡ suc (count - (i + 1)) = omega arith in
-    let one : with_front front (components_at immediate (count - i) bytes) ≡ Err fault = rw (k, h) refl in
-    sym so_far ∙ one
+stops immediate fault front count i bytes total lt refused so_far = grind arith
 
 pub is_done : (immediate : Bool) (front : List Component) (count i : ℕ) (bytes : List ℕ) (total : Result (List Component × List ℕ) SpliceFault) → count ≤ i → with_front front (components_at immediate (count - i) bytes) ≡ total → total ≡ Ok (front, bytes)
 unfolding components_at
-is_done immediate front count i bytes total le so_far =
-    let k : count - i ≡ 0 = omega arith in
-    let one : with_front front (components_at immediate (count - i) bytes) ≡ Ok (front, bytes) = rw k (ap (λ (cs : List Component). Ok (cs, bytes)) (append-nil front)) in
-    sym so_far ∙ one
+is_done immediate front count i bytes total le so_far = grind (arith, append-nil)

@@ -1,9 +1,10 @@
 -- The number of some bytes, the first byte the highest.
-use Rattle.std.proofs.Common.{◌≡◌, ℕ, suc, ◌+◌, ◌*◌, ◌^◌, ◌<◌, ◌≤◌, List, [], ◌∷◌, ◌++◌, length, take, drop, ap, ◌∙◌, inl, inr, arith}
+use Rattle.std.proofs.Common.{◌≡◌, ℕ, suc, ◌+◌, ◌*◌, ◌^◌, ◌<◌, ◌≤◌, List, [], ◌∷◌, ◌++◌, length, take, drop, ap, inl, inr, arith}
 use Rattle.std.proofs.Math.Nat.{pow-suc, pow-le-pow_right}
 use Rattle.std.proofs.lemmas.Bool.{cases_lt}
 use Rattle.std.proofs.lemmas.Nat.{pow-add, mul-le}
 use Rattle.std.proofs.lemmas.List.{length-append, length-take, take_all, get_or-drop, get_or-take, get_or_past}
+use Rattle.std.proofs.lemmas.Grind.{common_steps}
 use Rattle.scte35_codec.specs.Layout.{IsBytes, number}
 
 pub IsBytes-drop : (n : ℕ) (bytes : List ℕ) → IsBytes bytes → IsBytes (drop n bytes)
@@ -21,9 +22,7 @@ IsBytes-rest b bytes h i = h (suc i)
 
 pub number-append : (xs ys : List ℕ) → number (xs ++ ys) ≡ number xs * 256 ^ length ys + number ys
 number-append [] ys = omega arith
-number-append (x ∷ xs) ys =
-    let e : 256 ^ length (xs ++ ys) ≡ 256 ^ length xs * 256 ^ length ys = ap (λ (k : ℕ). 256 ^ k) (length-append xs ys) ∙ pow-add 256 (length xs) (length ys) in
-    rw (e, number-append xs ys) (grind arith)
+number-append (x ∷ xs) ys = grind (arith, number-append xs ys, length-append, pow-add)
 
 pub number_below : (xs : List ℕ) → IsBytes xs → number xs < 256 ^ length xs
 number_below [] fits = omega arith
@@ -35,17 +34,11 @@ number_below (x ∷ xs) fits =
     omega arith
 
 pub number_below_take : (xs : List ℕ) (i : ℕ) → i ≤ length xs → IsBytes xs → number (take i xs) < 256 ^ i
-number_below_take xs i le fits =
-    let len : length (take i xs) ≡ i = omega (arith, length-take i xs) in
-    rw len at (number_below (take i xs) (IsBytes-take i xs fits))
+number_below_take xs i le fits = grind (arith, common_steps, number_below)
 
 -- a byte more still fits 64 bits
 pub more_fits : (n b i : ℕ) → n < 256 ^ i → b < 256 → i < 8 → n * 256 + b < 2 ^ 64
-more_fits n b i below byte few =
-    let p : 256 ^ suc i ≡ 256 ^ i * 256 = pow-suc 256 i in
-    let base : 0 < 256 = omega arith in
-    let q : 256 ^ suc i ≤ 256 ^ 8 = pow-le-pow_right base few in
-    omega arith
+more_fits n b i below byte few = grind (arith, pow-le-pow_right)
 
 pub product_fits : (n i : ℕ) → n < 256 ^ i → i < 8 → n * 256 < 2 ^ 64
 product_fits n i below few = omega (arith, more_fits n 0 i below (omega arith) few)

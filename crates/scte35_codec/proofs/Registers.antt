@@ -5,7 +5,7 @@ use Rattle.std.specs.Int.{byte_at, bytes_high_first}
 use Rattle.std.proofs.lemmas.List.Sums.{fold-append}
 use Rattle.std.proofs.lemmas.Nat.{shr-shr, shl-shr, field_of, mod_below, mul-mod_first, xor_lt}
 use Rattle.std.proofs.lemmas.Grind.{flat_map-append}
-use Rattle.std.proofs.Math.Nat.{mod-eq_of_lt, mul-mod_left, mul_assoc, pow-suc}
+use Rattle.std.proofs.Math.Nat.{mod-eq_of_lt, mul_assoc, pow-suc}
 use Rattle.std.proofs.Math.Pow.{mod-mod-pow}
 use Rattle.scte35_codec.specs.Reading.{bit}
 use Rattle.scte35_codec.proofs.Fields.{bytes-bits}
@@ -19,8 +19,7 @@ after_byte register b = fold after_bit register (lowest_bits 8 b)
 after_all : (register : ℕ) (bytes : List ℕ) → fold after_byte register bytes ≡ fold after_bit register (bits_of bytes)
 unfolding bits_of
 after_all register [] = refl
-after_all register (b ∷ bytes) =
-    after_all (after_byte register b) bytes ∙ sym (fold-append after_bit register (lowest_bits 8 b) (bits_of bytes))
+after_all register (b ∷ bytes) = grind (arith, after_all (after_byte register b) bytes, fold-append)
 
 pub crc_by_bytes : (bytes : List ℕ) → crc_of bytes ≡ fold (λ register b. fold after_bit register (lowest_bits 8 b)) 0xFFFFFFFF bytes
 unfolding crc_of
@@ -30,10 +29,7 @@ crc_by_bytes bytes = sym (after_all 0xFFFFFFFF bytes)
 pub bit_goes : (register left b : ℕ) → 0 < left
     → fold after_bit register (lowest_bits left b) ≡ fold after_bit (after_bit register (bit (left - 1) b)) (lowest_bits (left - 1) b)
 unfolding lowest_bits
-bit_goes register zero b some = absurd (omega arith)
-bit_goes register (suc k) b some =
-    let less : suc k - 1 ≡ k = omega arith in
-    rw less refl
+bit_goes register left b some = grind arith
 
 pub no_bits : (register left b : ℕ) → left ≡ 0 → fold after_bit register (lowest_bits left b) ≡ register
 unfolding lowest_bits
@@ -125,12 +121,8 @@ goes_up n j = mul-mod_first (n * 2 ^ j) 2 (2 ^ 32) ∙ ap (λ (m : ℕ). m % 2 ^
 -- the bits of the register itself push it out
 pushed_out : (n j k : ℕ) → j + k ≡ 32 → fold after_bit (n * 2 ^ j % 2 ^ 32) (lowest_bits k n) ≡ 0
 unfolding lowest_bits
-pushed_out n j zero e =
-    let all : j ≡ 32 = omega arith in
-    ap (λ (m : ℕ). n * 2 ^ m % 2 ^ 32) all ∙ mul-mod_left n (2 ^ 32)
-pushed_out n j (suc k) e =
-    let moves = just_moves (n * 2 ^ j % 2 ^ 32) (bit k n) (highest n j k e) ∙ goes_up n j in
-    ap (λ (r : ℕ). fold after_bit r (lowest_bits k n)) moves ∙ pushed_out n (suc j) k (omega arith)
+pushed_out n j zero e = grind arith
+pushed_out n j (suc k) e = grind (arith, pushed_out n (suc j) k (omega arith), goes_up, highest, just_moves)
 
 its_bits : (n : ℕ) → n < 2 ^ 32 → fold after_bit n (bits_of (bytes_high_first 4 n)) ≡ 0
 its_bits n below =
@@ -139,8 +131,4 @@ its_bits n below =
 
 pub crc_is_zero : (bytes : List ℕ) → crc_of (bytes ++ bytes_high_first 4 (crc_of bytes)) ≡ 0
 unfolding crc_of bits_of
-crc_is_zero bytes =
-    let crc = crc_of bytes in
-    let added = bytes_high_first 4 crc in
-    ap (fold after_bit 0xFFFFFFFF) (flat_map-append (λ b. lowest_bits 8 b) bytes added)
-    ∙ fold-append after_bit 0xFFFFFFFF (bits_of bytes) (bits_of added) ∙ its_bits crc (crc_below bytes)
+crc_is_zero bytes = grind (arith, crc_below, flat_map-append, fold-append, its_bits)

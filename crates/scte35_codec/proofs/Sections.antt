@@ -1,6 +1,6 @@
 -- The section: what is read lies there, and what lies there is read.
 use Rattle.std.proofs.Common.{◌≡◌, ℕ, ◌*◌, ◌<◌, ◌≤◌, Bool, true, false, not, cond, eqb, ltb, List, [], ◌∷◌, ◌++◌, length, take, drop, Result, Ok, Err, refl, sym, ap, subst, ◌∙◌, inl, inr, arith}
-use Rattle.std.proofs.lemmas.Bool.{ltb-false, le-ltb, eqb-true, eq-eqb, ne_eqb, not-false, not_from_false}
+use Rattle.std.proofs.lemmas.Bool.{ltb-false, le-ltb, eqb-true, eq-eqb, ne_eqb, not-false}
 use Rattle.std.proofs.lemmas.List.{length-append, length-take, take-append-drop, append-nil, nil_from_length}
 use Rattle.scte35_codec.specs.declared.fault.SpliceFault.{SpliceFault}
 use Rattle.scte35_codec.specs.declared.fault.SpliceFault.TheVariants.{CommandLength}
@@ -88,13 +88,7 @@ whole_width fields bytes t = omega (arith, t.holds.count, ap length t.whole, len
 
 -- what takes a front of some bytes whole
 front_takes : (fields : List Field) (count : ℕ) (bytes : List ℕ) → IsBytes bytes → Takes fields (take count bytes) [] → Takes fields bytes (drop count bytes)
-front_takes fields count bytes fits t = record {
-  front = t.front;
-  whole = sym (take-append-drop count bytes) ∙ ap (λ (x : List ℕ). x ++ drop count bytes) (t.whole ∙ append-nil t.front);
-  front_fits = t.front_fits;
-  rest_fits = IsBytes-drop count bytes fits;
-  holds = t.holds;
-}
+front_takes fields count bytes fits t = grind (arith, IsBytes-drop, append-nil, take-append-drop)
 
 measured_by : (is_insert : Bool) (command_length kind : ℕ) (bytes : List ℕ) (c : Command) → eqb kind 5 ≡ is_insert → command_length ≤ length bytes → IsBytes bytes
     → cond is_insert (whole_insert_at (take command_length bytes) >>= λ insert. Ok (Insert insert)) (Ok (Other kind (take command_length bytes))) ≡ Ok c → TakesCommand command_length kind c bytes (drop command_length bytes)
@@ -106,10 +100,7 @@ measured_by true command_length kind bytes c is long fits e =
     let size : 8 * command_length ≡ width (splice_insert b.0) = ap (λ (k : ℕ). 8 * k) (sym len) ∙ whole_width (splice_insert b.0) (take command_length bytes) t.0 in
     subst (λ (x : Command). TakesCommand command_length kind x bytes (drop command_length bytes)) {x = (Insert b.0)} (ok_is (Insert b.0) c b.2)
     (record { takes = front_takes (splice_insert b.0) command_length bytes fits t.0; type_is = sym (eqb-true kind 5 is); stated = inl size; small = t.1.small })
-measured_by false command_length kind bytes c is long fits e =
-    let len : command_length ≡ length (take command_length bytes) = omega (arith, length-take command_length bytes) in
-    subst (λ (x : Command). TakesCommand command_length kind x bytes (drop command_length bytes)) {x = (Other kind (take command_length bytes))} (ok_is (Other kind (take command_length bytes)) c e)
-    (record { takes = bytes_taken command_length bytes fits; type_is = refl; stated = len; small = not_from_false (eqb kind 5) is })
+measured_by false command_length kind bytes c is long fits e = grind (arith, bytes_taken, length-take)
 
 command_by : (unsaid : Bool) (command_length kind : ℕ) (bytes : List ℕ) (c : Command) (rest : List ℕ) → eqb command_length 0xFFF ≡ unsaid → IsBytes bytes
     → cond unsaid (unmeasured_at kind bytes) (bytes_at command_length bytes >>= λ front. measured_of kind front.0 >>= λ command. Ok (command, front.1)) ≡ Ok (c, rest) → TakesCommand command_length kind c bytes rest
@@ -147,9 +138,7 @@ whole_again i bytes proper lies =
 measured_insert_again : (unsaid : Bool) (i : SpliceEvent) (command_length : ℕ) (after : List Field) (bytes : List ℕ) → eqb command_length 0xFFF ≡ unsaid → IsProper (Insert i) → 8 * command_length ≡ width (splice_insert i) → Lies (splice_insert i ++ after) bytes
     → Again (command_at command_length 5 bytes) (Insert i) after
 unfolding command_at measured_of
-measured_insert_again true i command_length after bytes is proper size lies =
-    let a = unmeasured_again i after bytes proper lies in
-    record { rest = a.rest; is = rw is a.is; lies = a.lies }
+measured_insert_again true i command_length after bytes is proper size lies = grind (arith, unmeasured_again)
 measured_insert_again false i command_length after bytes is proper size lies =
     let p = parts command_length (splice_insert i) after bytes size lies in
     let short : ltb (length bytes) command_length ≡ false = le-ltb _ _ p.0 in
@@ -160,10 +149,7 @@ pub command_again : (c : Command) (command_length : ℕ) (after : List Field) (b
     → Again (command_at command_length (command_type c) bytes) c after
 unfolding command_at measured_of
 command_again (Insert i) command_length after bytes (inl size) proper small lies = measured_insert_again (eqb command_length 0xFFF) i command_length after bytes refl proper size lies
-command_again (Insert i) command_length after bytes (inr said) proper small lies =
-    let a = unmeasured_again i after bytes proper lies in
-    let is : eqb command_length 0xFFF ≡ true = eq-eqb _ _ said in
-    record { rest = a.rest; is = rw is a.is; lies = a.lies }
+command_again (Insert i) command_length after bytes (inr said) proper small lies = grind (arith, unmeasured_again)
 command_again (Other kind bs) command_length after bytes stated proper small lies =
     let size : 8 * command_length ≡ width (bytes_of bs) = omega (arith, width_of_bytes bs) in
     let p = parts command_length (bytes_of bs) after bytes size lies in

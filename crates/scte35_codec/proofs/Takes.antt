@@ -1,6 +1,6 @@
 -- What a reader took from the front of some bytes, and what it reads of fields that lie there.
-use Rattle.std.proofs.Common.{◌≡◌, ℕ, ◌+◌, ◌-◌, ◌*◌, ◌/◌, ◌%◌, ◌^◌, ◌<◌, ◌≤◌, Bool, true, false, cond, eqb, ltb, List, [], ◌++◌, length, take, drop, Result, Ok, Err, refl, sym, ap, subst, ◌∙◌, inl, inr, append_assoc, arith}
-use Rattle.std.proofs.lemmas.Bool.{cases_lt, ltb-false, le-ltb, eqb-true, eqb-false}
+use Rattle.std.proofs.Common.{◌≡◌, ℕ, ◌+◌, ◌-◌, ◌*◌, ◌/◌, ◌%◌, ◌^◌, ◌<◌, ◌≤◌, Bool, true, false, cond, eqb, ltb, List, ◌++◌, length, take, drop, Result, Ok, Err, refl, sym, ap, subst, ◌∙◌, inl, inr, append_assoc, arith}
+use Rattle.std.proofs.lemmas.Bool.{cases_lt, ltb-false, le-ltb}
 use Rattle.std.proofs.lemmas.List.{length-take, length-drop, take-append-drop, take-take, get_or_append_left, get_or-append_right}
 use Rattle.scte35_codec.specs.declared.fault.SpliceFault.{SpliceFault}
 use Rattle.scte35_codec.specs.declared.fault.SpliceFault.TheVariants.{CommandLength}
@@ -31,10 +31,7 @@ ok_is x y e = cc
 -- ---- Flags
 
 flag_by : (m k : ℕ) (b : Bool) → eqb (k % 2) 1 ≡ b → m < 2 → k % 2 ≡ m → m ≡ flag b
-flag_by m k true e lt same = omega (arith, eqb-true (k % 2) 1 e)
-flag_by m k false e lt same =
-    let other : k % 2 ≡ 1 → ⊥ = eqb-false (k % 2) 1 e in
-    elim (cases_lt m 1) [ inl zero_bit ↦ omega arith | inr set ↦ absurd (other (omega arith)) ]
+flag_by m k b e lt same = grind arith
 
 -- a bit as the test of it
 pub flag-test : (m k : ℕ) → m < 2 → k % 2 ≡ m → m ≡ flag (eqb (k % 2) 1)
@@ -61,15 +58,6 @@ pub record Takes (fields : List Field) (bytes rest : List ℕ) : Type 0 where
   pub rest_fits : IsBytes rest
   pub holds : Holds IsRead fields front
 
-pub Takes-none : (bytes : List ℕ) → IsBytes bytes → Takes [] bytes bytes
-Takes-none bytes fits = record {
-  front = [];
-  whole = refl;
-  front_fits = λ i. omega arith;
-  rest_fits = fits;
-  holds = record { count = refl; split = refl };
-}
-
 pub Takes-then : (fs gs : List Field) (a b c : List ℕ) → Takes fs a b → Takes gs b c → Takes (fs ++ gs) a c
 Takes-then fs gs a b c p q = record {
   front = p.front ++ q.front;
@@ -91,31 +79,11 @@ pub record IsNumber (count : ℕ) (bytes : List ℕ) (n : ℕ) (rest : List ℕ)
 
 pub number_takes : (count : ℕ) (bytes : List ℕ) (n : ℕ) (rest : List ℕ) → IsBytes bytes → number_at count bytes ≡ Ok (n, rest) → IsNumber count bytes n rest
 number_takes count bytes n rest fits e =
-    let g = guard_ok (ltb (length bytes) count) CommandLength (number (take count bytes), drop count bytes) (n, rest) e in
-    let long : count ≤ length bytes = ltb-false _ _ g.0 in
-    let n-is : number (take count bytes) ≡ n = ap (λ (p : ℕ × List ℕ). p.0) g.1 in
-    let rest-is : drop count bytes ≡ rest = ap (λ (p : ℕ × List ℕ). p.1) g.1 in
-    let front_fits = IsBytes-take count bytes fits in
-    let len : length (take count bytes) ≡ count = omega (arith, length-take count bytes) in
-    record {
-      front = take count bytes;
-      whole = rw (← rest-is) (sym (take-append-drop count bytes));
-      len = len;
-      value = n-is;
-      below = rw (← n-is) (number_fits (take count bytes) (8 * count) front_fits (omega arith));
-      front_fits = front_fits;
-      rest_fits = rw (← rest-is) (IsBytes-drop count bytes fits);
-    }
+    grind (arith, IsBytes-drop, IsBytes-take, length-take, number_fits, take-append-drop)
 
 -- a number that the fields take apart
 pub group_takes : (count : ℕ) (fields : List Field) (bytes : List ℕ) (n : ℕ) (rest : List ℕ) → IsNumber count bytes n rest → 8 * count ≡ width fields → Splits IsRead fields n → Takes fields bytes rest
-group_takes count fields bytes n rest read size split = record {
-  front = read.front;
-  whole = read.whole;
-  front_fits = read.front_fits;
-  rest_fits = read.rest_fits;
-  holds = record { count = ap (λ (k : ℕ). 8 * k) read.len ∙ size; split = subst (λ (k : ℕ). Splits IsRead fields k) (sym read.value) split };
-}
+group_takes count fields bytes n rest read size split = grind arith
 
 -- ---- Read again
 

@@ -11,7 +11,7 @@ use Rattle.scte35_codec.specs.Writing.{pts_fits, place_fits, duration_fits}
 use Rattle.spec_words.specs.Outcomes.{◌>>=◌}
 use Rattle.scte35_codec.specs.Reading.{number_at, bit, time_at, specified_time_at, optional_time_at, component_at, components_at, optional_duration_at}
 use Rattle.scte35_codec.specs.Layout.{IsBytes}
-use Rattle.scte35_codec.proofs.Takes.{bind_ok, ok_is, flag-test, test-flag, Takes, Takes-none, Takes-then, number_takes, group_takes, Lies, Again, group_again, first_of_five}
+use Rattle.scte35_codec.proofs.Takes.{bind_ok, ok_is, flag-test, test-flag, Takes, Takes-then, number_takes, group_takes, Lies, Again, group_again, first_of_five}
 use Rattle.std.proofs.lemmas.Bool.{eqb-true, eqb-false, cases_lt, lt-ltb}
 use Rattle.std.proofs.lemmas.Nat.{mod_below, pow_pos}
 use Rattle.std.proofs.Common.{inl, inr}
@@ -56,8 +56,7 @@ chosen false x y z e = (λ f. absurd cc, λ _. e)
 
 time_takes_by : (b : Bool) (bytes : List ℕ) (m : ℕ) (after : List ℕ) (t : SpliceTime) (rest : List ℕ) → IsBytes bytes → number_at 1 bytes ≡ Ok (m, after) → bit 7 m ≡ b → cond b (specified_time_at bytes) (Ok (record { pts = None }, after)) ≡ Ok (t, rest) → TakesTime t bytes rest
 time_takes_by true bytes m after t rest fits one is e = specified_takes bytes m after t rest fits one is e
-time_takes_by false bytes m after t rest fits one is e =
-    subst (λ (x : SpliceTime × List ℕ). TakesTime x.0 bytes x.1) {x = (record { pts = None }, after)} (ok_is (record { pts = None }, after) (t, rest) e) (record { takes = unspecified_takes bytes m after fits one is; small = refl })
+time_takes_by false bytes m after t rest fits one is e = grind (arith, unspecified_takes)
 
 time_takes : (bytes : List ℕ) (t : SpliceTime) (rest : List ℕ) → IsBytes bytes → time_at bytes ≡ Ok (t, rest) → TakesTime t bytes rest
 unfolding time_at
@@ -85,8 +84,7 @@ time_again t after bytes lies = time_again_by t.pts after bytes lies
 
 pub optional_time_takes : (immediate : Bool) (bytes : List ℕ) (t : Option SpliceTime) (rest : List ℕ) → IsBytes bytes → optional_time_at immediate bytes ≡ Ok (t, rest) → Takes (optional splice_time t) bytes rest × (place_fits immediate t ≡ true)
 unfolding optional_time_at
-optional_time_takes true bytes t rest fits e =
-    subst (λ (x : Option SpliceTime × List ℕ). Takes (optional splice_time x.0) bytes x.1 × (place_fits true x.0 ≡ true)) {x = (None, bytes)} (ok_is (None, bytes) (t, rest) e) (Takes-none bytes fits, refl)
+optional_time_takes true bytes t rest fits e = grind arith
 optional_time_takes false bytes t rest fits e =
     let b = bind_ok (time_at bytes) (λ time. Ok (Some time.0, time.1)) (t, rest) e in
     let time = time_takes bytes b.0.0 b.0.1 fits b.1 in
@@ -131,8 +129,7 @@ component_again immediate c after bytes timed lies =
 pub components_takes : (immediate : Bool) (count : ℕ) (bytes : List ℕ) (cs : List Component) (rest : List ℕ) → IsBytes bytes → components_at immediate count bytes ≡ Ok (cs, rest)
     → Takes (flat_map component cs) bytes rest × (list_all (λ c. place_fits immediate c.1) cs ≡ true) × (length cs ≡ count)
 unfolding components_at
-components_takes immediate zero bytes cs rest fits e =
-    subst (λ (x : List Component × List ℕ). Takes (flat_map component x.0) bytes x.1 × (list_all (λ c. place_fits immediate c.1) x.0 ≡ true) × (length x.0 ≡ 0)) {x = ([], bytes)} (ok_is ([], bytes) (cs, rest) e) (Takes-none bytes fits, refl, refl)
+components_takes immediate zero bytes cs rest fits e = grind arith
 components_takes immediate (suc n) bytes cs rest fits e =
     let a = bind_ok (component_at immediate bytes) (λ first. components_at immediate n first.1 >>= λ others. Ok (first.0 ∷ others.0, others.1)) (cs, rest) e in
     let b = bind_ok (components_at immediate n a.0.1) (λ others. Ok (a.0.0 ∷ others.0, others.1)) (cs, rest) a.2 in
@@ -156,8 +153,7 @@ components_again immediate (c ∷ cs) after bytes timed lies =
 
 pub optional_duration_takes : (stated : Bool) (bytes : List ℕ) (d : Option BreakDuration) (rest : List ℕ) → IsBytes bytes → optional_duration_at stated bytes ≡ Ok (d, rest) → Takes (optional break_duration d) bytes rest × (is_some d ≡ stated) × (duration_fits d ≡ true)
 unfolding optional_duration_at
-optional_duration_takes false bytes d rest fits e =
-    subst (λ (x : Option BreakDuration × List ℕ). Takes (optional break_duration x.0) bytes x.1 × (is_some x.0 ≡ false) × (duration_fits x.0 ≡ true)) {x = (None, bytes)} (ok_is (None, bytes) (d, rest) e) (Takes-none bytes fits, refl, refl)
+optional_duration_takes false bytes d rest fits e = grind arith
 optional_duration_takes true bytes d rest fits e =
     let b = bind_ok (number_at 5 bytes) (λ duration. Ok (Some (record { auto_return = bit 39 duration.0; ticks = duration.0 % 2 ^ 33 }), duration.1)) (d, rest) e in
     let n = b.0.0 in

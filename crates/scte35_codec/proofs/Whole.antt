@@ -1,12 +1,14 @@
 -- The whole section: what is read lies there, and what lies there is read.
 use Rattle.std.proofs.Common.{◌≡◌, ℕ, ◌+◌, ◌-◌, ◌*◌, ◌/◌, ◌%◌, ◌^◌, ◌<◌, ◌≤◌, true, false, not, eqb, ltb, List, [], ◌∷◌, ◌++◌, length, take, drop, Result, Ok, Err, refl, sym, ap, subst, ◌∙◌, inl, inr, append_assoc, arith}
-use Rattle.std.proofs.lemmas.Bool.{ltb-false, le-ltb, eqb-true, eqb-false, eq-eqb, not-false, cases_lt, lt-ltb, le-leb, and_from}
+use Rattle.std.proofs.lemmas.Bool.{ltb-false, le-ltb, eqb-true, eqb-false, not-false, cases_lt, lt-ltb, le-leb, and_from}
 use Rattle.std.proofs.lemmas.List.{length-take, length-drop, take-append-drop, drop-drop, append-nil}
 use Rattle.scte35_codec.specs.declared.fault.SpliceFault.{SpliceFault}
 use Rattle.scte35_codec.specs.declared.fault.SpliceFault.TheVariants.{CommandLength}
 use Rattle.scte35_codec.specs.Layout.{Field, Is, Reserved, width, bytes_of, number, Splits, Holds, IsRead}
-use Rattle.scte35_codec.specs.Section.{Command, Section, command_fields, command_type, heading_fields, ending_fields, after_length, section, IsProper, StatesLength, IsSection}
+use Rattle.scte35_codec.specs.Section.{Command, Section, command_fields, command_type, after_length, section, IsProper, StatesLength, IsSection}
 use Rattle.std.specs.Prelude.{IfOk, ◌&&◌, nat_le}
+use Rattle.std.proofs.lemmas.Grind.{common_steps}
+use Rattle.std.proofs.lemmas.Bool.Decides.{nat_tests}
 use Rattle.scte35_codec.specs.declared.info.SpliceInfo.{SpliceInfo}
 use Rattle.scte35_codec.specs.Section.{section_of}
 use Rattle.scte35_codec.specs.Writing.{fits, command_fits, command_length, section_length, has_section}
@@ -159,16 +161,10 @@ after-regrouped s n = refl
 
 pub width-after : (s : Section) (n : ℕ) → width (after_length s n) ≡ 136 + width (command_fields s.command) + 8 * length s.descriptors + 8 * length s.stuffing
 unfolding after_length
-width-after s n =
-    let h = heading_fields s n in
-    let c = command_fields s.command in
-    let d : List Field = (16, Is (length s.descriptors)) ∷ bytes_of s.descriptors in
-    let t = bytes_of s.stuffing in
-    omega (arith, width-append (h ++ c) (ending_fields s), width-append h c, width-append (d ++ t) (crc_fields s.crc), width-append d t, width_of_bytes s.descriptors, width_of_bytes s.stuffing)
+width-after s n = grind (arith, width-append, width_of_bytes)
 
 below_at : (start count : ℕ) (bytes : List ℕ) → IsBytes bytes → start + count ≤ length bytes → number_in start count bytes < 2 ^ (8 * count)
-below_at start count bytes fits long =
-    number_fits (take count (drop start bytes)) (8 * count) (IsBytes-take count (drop start bytes) (IsBytes-drop start bytes fits)) (omega (arith, length-take count (drop start bytes), length-drop start bytes))
+below_at start count bytes fits long = grind (arith, common_steps, nat_tests, length-drop, length-take, number_fits)
 
 abbrev made_of : List ℕ → Command → Tail → Section
 made_of bytes command tail = record {
@@ -255,11 +251,7 @@ what_follows s n = begins s n ++ (command_fields s.command ++ tail_fields s.desc
 
 section-regrouped : (s : Section) (n : ℕ) → section s n ≡ table_fields ++ (length_fields (width (after_length s n) / 8) ++ what_follows s n)
 unfolding section
-section-regrouped s n =
-    let b = begins s n in
-    let c = command_fields s.command in
-    let t = tail_fields s.descriptors s.stuffing s.crc in
-    ap (λ (fs : List Field). table_fields ++ (length_fields (width (after_length s n) / 8) ++ fs)) (sym (after-regrouped s n) ∙ append_assoc b c t)
+section-regrouped s n = grind (arith, after-regrouped)
 
 pub width-section : (s : Section) (n : ℕ) → width (section s n) ≡ 24 + width (after_length s n)
 unfolding section
@@ -326,13 +318,7 @@ contents_again s n bytes stated proper h =
 
 pub is_read : (bytes : List ℕ) (s : Section) → IsBytes bytes → IsSection s bytes → reading bytes ≡ Ok s
 unfolding reading
-is_read bytes s fits is =
-    let h = heads_are s is.command_length bytes (record { fits = fits; holds = is.fields }) in
-    let short : ltb (length bytes) 20 ≡ false = le-ltb _ _ h.long in
-    let table : eqb (number_in 0 1 bytes) 0xFC ≡ true = eq-eqb _ _ h.table in
-    let said : eqb (number_in 1 2 bytes % 2 ^ 12 + 3) (length bytes) ≡ true = eq-eqb _ _ h.said in
-    let protocol : eqb (number_in 3 1 bytes) 0 ≡ true = eq-eqb _ _ h.protocol in
-    rw (short, table, said, protocol, h.clear) (contents_again s is.command_length bytes is.stated is.proper h)
+is_read bytes s fits is = grind (arith, contents_again, heads_are)
 
 pub one_value : (bytes : List ℕ) (s t : Section) → IsBytes bytes → IsSection s bytes → IsSection t bytes → s ≡ t
 one_value bytes s t fits p q = ok_is s t (sym (is_read bytes s fits p) ∙ is_read bytes t fits q)

@@ -21,26 +21,22 @@ length_kept n [] = refl
 length_kept n (m ∷ later) = omega (arith, length_kept (numbers_on n m later) later)
 
 pub length_stretch : (s : Stretch) → length (stretch_items s) ≡ length s.ads + length s.kept.now
-length_stretch s = omega (arith, length-append (map ad_item s.ads) (kept_items s.numbers s.kept.now), length-map s.ads ad_item, length_kept s.numbers s.kept.now)
+length_stretch s = grind (arith, length-append, length-map, length_kept)
 
 -- ---- a stretch more
 
 pub stretches_append : (before : List Stretch) (s : Stretch) → stretches_items (before ++ s ∷ []) ≡ stretches_items before ++ stretch_items s
 stretches_append [] s = append-nil (stretch_items s)
-stretches_append (b ∷ before) s = ap (λ t. stretch_items b ++ t) (stretches_append before s) ∙ sym (append_assoc (stretch_items b) (stretches_items before) (stretch_items s))
+stretches_append (b ∷ before) s = grind (arith, append_assoc, stretches_append before s)
 
 -- the segments of ads that stood after the stretches are in the new one
 pub ads_moved : (before after : List Stretch) (s : Stretch) (ads : List Segment) → after ≡ before ++ s ∷ [] → s.ads ≡ ads
     → stretches_items after ≡ (stretches_items before ++ map ad_item ads) ++ kept_items s.numbers s.kept.now
-ads_moved before after s ads e f =
-    ap stretches_items e ∙ (stretches_append before s
-    ∙ (ap (λ (a : List Segment). stretches_items before ++ (map ad_item a ++ kept_items s.numbers s.kept.now)) f
-    ∙ sym (append_assoc (stretches_items before) (map ad_item ads) (kept_items s.numbers s.kept.now))))
+ads_moved before after s ads e f = grind (arith, stretches_append, append_assoc)
 
 pub stretch_ended : (before after : List Stretch) (s : Stretch) (ads none : List Segment) → after ≡ before ++ s ∷ [] → s.ads ≡ ads → none ≡ []
     → stretches_items after ++ map ad_item none ≡ (stretches_items before ++ map ad_item ads) ++ kept_items s.numbers s.kept.now
-stretch_ended before after s ads none e f g =
-    ap (λ (a : List Segment). stretches_items after ++ map ad_item a) g ∙ (append-nil (stretches_items after) ∙ ads_moved before after s ads e f)
+stretch_ended before after s ads none e f g = grind (arith, append-nil, ads_moved)
 
 pub last_stretch : (before after : List Stretch) (s : Stretch) (ads : List Segment) → after ≡ before ++ s ∷ [] → s.ads ≡ ads → s.kept.now ≡ []
     → stretches_items after ≡ stretches_items before ++ map ad_item ads

@@ -26,7 +26,7 @@ puts_twice old mid new front back kept e p q =
     (walked old new (map plain front ++ map plain back) (walks_on old mid new (map plain front ++ map plain back) (map plain back) [] (half_way old mid (map plain front) (map plain back) p) q))
 
 pub passes_first : (old : Made) (front back kept : List MarkedSegment) → kept ≡ front ++ back → Passes old (map plain front) → Passes old (map plain kept)
-passes_first old front back kept e p = subst (λ ps. Passes old ps) (sym (ap (map plain) e ∙ map-append plain front back)) (passes_longer old (map plain front) (map plain back) p)
+passes_first old front back kept e p = grind (arith, map-append, passes_longer)
 
 pub passes_second : (old mid : Made) (front back kept : List MarkedSegment) → kept ≡ front ++ back → Puts old mid (map plain front) → Passes mid (map plain back) → Passes old (map plain kept)
 passes_second old mid front back kept e p q =

@@ -1,5 +1,5 @@
 -- Kept segments that follow each other.
-use Rattle.std.proofs.Common.{◌≡◌, ℕ, Bool, true, false, ◌&&◌, List, [], ◌∷◌, ◌++◌, map, refl, ap, sym, subst, ◌∙◌, append_assoc, take, drop, add-one}
+use Rattle.std.proofs.Common.{◌≡◌, ℕ, Bool, true, false, ◌&&◌, List, [], ◌∷◌, ◌++◌, map, refl, ap, ◌∙◌, append_assoc, take, drop, arith}
 use Rattle.std.specs.Prelude.{ℤ, Option, Some, None}
 use Rattle.std.specs.List.{list_all}
 use Rattle.std.proofs.lemmas.List.Folds.{list_all-append}
@@ -24,9 +24,7 @@ counted_run first n m (next ∷ later) more = ap (λ t. kept_item n m ∷ t) (co
 comes_run : (made : Made) (n : Numbers) (m : MarkedSegment) (later : List MarkedSegment) (more : List Piece) → n ≡ numbers_after made.first made.last (plain m)
     → comes_to made (map plain (m ∷ later) ++ more)
     ≡ made.items ++ (kept_items n (m ∷ later) ++ map written_item (counted made.first (Some (last_of_run n m later)) more))
-comes_run made n m later more same =
-    ap (λ k. made.items ++ map written_item (record { piece = plain m; numbers = k } ∷ counted made.first (Some (last_of (plain m) k)) (map plain later ++ more))) (sym same)
-    ∙ ap (λ t. made.items ++ t) (counted_run made.first n m later more)
+comes_run made n m later more same = grind (arith, counted_run)
 
 both_true : (a b : Bool) → a ≡ true → b ≡ true → (a && b) ≡ true
 both_true true b p q = q
@@ -40,12 +38,7 @@ middle_false false b c q = refl
 -- they are put, if their numbers fit
 pub puts_run : (made : Made) (n : Numbers) (m : MarkedSegment) (later : List MarkedSegment) → n ≡ numbers_after made.first made.last (plain m)
     → list_all item_fits (kept_items n (m ∷ later)) ≡ true → Puts made (kept_on made (m ∷ later) n (last_of_run n m later)) (map plain (m ∷ later))
-puts_run made n m later same fits = record {
-  first = refl;
-  comes = λ more. comes_run made n m later more same
-      ∙ sym (append_assoc made.items (kept_items n (m ∷ later)) (map written_item (counted made.first (Some (last_of_run n m later)) more)));
-  fit = λ h. list_all-append item_fits made.items (kept_items n (m ∷ later)) ∙ both_true _ _ h fits;
-}
+puts_run made n m later same fits = grind (arith, comes_run, append_assoc, list_all-append, both_true)
 
 pub passes_run : (made : Made) (n : Numbers) (m : MarkedSegment) (later : List MarkedSegment) → n ≡ numbers_after made.first made.last (plain m)
     → list_all item_fits (kept_items n (m ∷ later)) ≡ false → Passes made (map plain (m ∷ later))
@@ -63,8 +56,7 @@ unmarked_more : (store : Store) (so_far : Option ℕ) (s : Segment) (instant : O
     → let m : MarkedSegment = record { segment = s; instant = instant; mark = mark; goes_on = goes } in
     pieces_on store so_far None (m ∷ later)
     ≡ map plain (take (unmarked_front (m ∷ later)) (m ∷ later)) ++ pieces_on store so_far None (drop (unmarked_front (m ∷ later)) (m ∷ later))
-unmarked_more store so_far s instant goes None later h = rw add-one (ap (λ t. plain (record { segment = s; instant = instant; mark = None; goes_on = goes }) ∷ t) h)
-unmarked_more store so_far s instant goes (Some id) later h = refl
+unmarked_more store so_far s instant goes mark later h = grind arith
 
 unmarked_pieces : (store : Store) (so_far : Option ℕ) (list : List MarkedSegment)
     → pieces_on store so_far None list ≡ map plain (take (unmarked_front list) list) ++ pieces_on store so_far None (drop (unmarked_front list) list)
@@ -74,16 +66,14 @@ unmarked_pieces store so_far (m ∷ later) = unmarked_more store so_far m.segmen
 front_with : (store : Store) (so_far : Option ℕ) (previous : Option (List ℕ)) (s : Segment) (instant : Option ℤ) (goes : Bool) (mark : Option (List ℕ)) (later : List MarkedSegment)
     → let m : MarkedSegment = record { segment = s; instant = instant; mark = mark; goes_on = goes } in
     pieces_on store so_far previous (m ∷ later) ≡ front_pieces store so_far previous (m ∷ later) ++ pieces_on store so_far mark (after_front (m ∷ later))
-front_with store so_far previous s instant goes None later = unmarked_pieces store so_far (record { segment = s; instant = instant; mark = None; goes_on = goes } ∷ later)
+front_with store so_far previous s instant goes None later = grind (arith, unmarked_pieces)
 front_with store so_far previous s instant goes (Some id) later = refl
 
 pieces_front : (store : Store) (so_far : Option ℕ) (previous : Option (List ℕ)) (m : MarkedSegment) (later : List MarkedSegment)
     → pieces_on store so_far previous (m ∷ later) ≡ front_pieces store so_far previous (m ∷ later) ++ pieces_on store so_far m.mark (after_front (m ∷ later))
-pieces_front store so_far previous m later = front_with store so_far previous m.segment m.instant m.goes_on m.mark later
+pieces_front store so_far previous m later = grind (arith, front_with)
 
 -- what stands for segments begins with what stands for those in front
 pub pieces_front_at : (store : Store) (so_far : Option ℕ) (previous : Option (List ℕ)) (list : List MarkedSegment) (m : MarkedSegment) (later : List MarkedSegment) → list ≡ m ∷ later
     → pieces_on store so_far previous list ≡ front_pieces store so_far previous list ++ pieces_on store so_far m.mark (after_front list)
-pieces_front_at store so_far previous list m later e =
-    subst (λ (l : List MarkedSegment). pieces_on store so_far previous l ≡ front_pieces store so_far previous l ++ pieces_on store so_far m.mark (after_front l)) (sym e)
-    (pieces_front store so_far previous m later)
+pieces_front_at store so_far previous list m later e = grind (arith, pieces_front)

@@ -1,7 +1,6 @@
 -- The part of a pod that is shown.
 use Rattle.std.proofs.Common.{◌≡◌, ℕ, ◌-◌, Bool, true, false, cond, not, ◌&&◌, ◌||◌, zero, suc, List, [], ◌∷◌, ◌++◌, refl, ap, sym, ◌∙◌, append_assoc, drop, arith}
 use Rattle.std.specs.Prelude.{nat_le}
-use Rattle.std.proofs.lemmas.Bool.{eqb-true}
 use Rattle.stitcher.specs.Stitched.{Piece}
 use Rattle.stitcher.specs.Paced.{due}
 use Rattle.stitcher.specs.declared.making.Part.{Part}
@@ -44,27 +43,12 @@ all_of left (p ∷ pieces) = ap (λ t. p ∷ t) (all_of (left - p.segment.durati
 
 pub due_is_part : (length : ℕ) (pieces : List Piece) → part_of (with_parts 0 false length false) pieces ≡ due length pieces
 due_is_part length [] = refl
-due_is_part length (p ∷ pieces) = ap (λ t. p ∷ t) (step (nat_le length p.segment.duration) (due_is_part (length - p.segment.duration) pieces))
-  where
-    step : (b : Bool) → part_of (with_parts 0 false (length - p.segment.duration) false) pieces ≡ due (length - p.segment.duration) pieces
-        → part_of (with_parts 0 false (length - p.segment.duration) b) pieces ≡ cond b [] (due (length - p.segment.duration) pieces)
-    step true e = none_of false (length - p.segment.duration) pieces
-    step false e = e
-
-not_nothing : (n : ℕ) → is_nothing (suc n) ≡ false
-not_nothing n = step (is_nothing (suc n)) refl
-  where
-    step : (b : Bool) → is_nothing (suc n) ≡ b → b ≡ false
-    step true e = absurd (omega (arith, eqb-true (suc n) 0 e))
-    step false e = refl
+due_is_part length (p ∷ pieces) = grind (arith, none_of, due_is_part (length - p.segment.duration) pieces)
 
 rest_of : (skip left : ℕ) (pieces : List Piece) → part_of (with_parts skip true left false) pieces ≡ drop skip pieces
 rest_of zero left pieces = all_of left pieces
 rest_of (suc skip) left [] = refl
-rest_of (suc skip) left (p ∷ pieces) =
-    let e = not_nothing skip in
-    let k : suc skip - 1 ≡ skip = omega arith in
-    rw (e, k) (rest_of skip left pieces)
+rest_of (suc skip) left (p ∷ pieces) = grind (arith, rest_of skip left pieces)
 
 pub rest_is_part : (place : ℕ) (pieces : List Piece) → part_of (whole_from place) pieces ≡ drop place pieces
 rest_is_part place pieces = rest_of place 0 pieces

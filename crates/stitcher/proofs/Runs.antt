@@ -1,12 +1,12 @@
 -- The stitched list in the order of a playlist.
-use Rattle.std.proofs.Common.{◌≡◌, ℕ, Bool, true, false, cond, ◌&&◌, List, [], ◌∷◌, ◌++◌, map, refl, ap, sym, ◌∙◌, append_assoc}
+use Rattle.std.proofs.Common.{◌≡◌, ℕ, Bool, true, false, cond, ◌&&◌, List, [], ◌∷◌, ◌++◌, map, refl, ap, sym, ◌∙◌, append_assoc, arith}
 use Rattle.std.specs.Prelude.{reverse, Option, Some, None, is_none, option_map, IsSome, bytes_eq}
 use mathlib.Core.List.{reverse_aux}
 use Rattle.std.proofs.lemmas.Grind.{reverse_onto}
 use Rattle.std.proofs.lemmas.List.{reverse-reverse, reverse-append}
 use Rattle.pod_store.specs.Pods.{Pod}
 use Rattle.pod_store.specs.Marks.{Mark, newest_mark, are_one, continues, Marked as Meant}
-use Rattle.stitcher.specs.Stitched.{Piece, Numbers, stitched, run_pieces, pod_pieces, numbered}
+use Rattle.stitcher.specs.Stitched.{Piece, Numbers, stitched, run_pieces}
 use Rattle.stitcher.specs.Paced.{newest_pieces, due_with, or_zero, rest_pieces, stitched_with}
 use Rattle.pod_store.specs.Store.{Store, pod_for}
 use Rattle.stitcher.specs.declared.marked.MarkedSegment.{MarkedSegment}
@@ -21,9 +21,7 @@ use Rattle.stitcher.proofs.Parts.{whole_is_part, due_is_part, rest_is_part}
 
 reverse_aux-append : {A : Type 0} (xs ys acc : List A) → reverse_aux (xs ++ ys) acc ≡ reverse_aux ys (reverse xs ++ acc)
 reverse_aux-append [] ys acc = refl
-reverse_aux-append (x ∷ xs) ys acc =
-    reverse_aux-append xs ys (x ∷ acc)
-    ∙ ap (reverse_aux ys) (sym (ap (λ t. t ++ acc) (reverse_onto xs x []) ∙ append_assoc (reverse xs) (x ∷ []) acc))
+reverse_aux-append (x ∷ xs) ys acc = grind (arith, reverse_onto, append_assoc, reverse_aux-append xs ys (x ∷ acc))
 
 -- ---- one break
 
@@ -38,15 +36,12 @@ both id other (Some pod) (Some q) h k = refl
 
 same_run : (store : Store) (mark previous : Option (List ℕ)) → IsDecided store mark → IsDecided store previous
     → are_one (mark_in store mark) (mark_in store previous) ≡ is_same_run mark previous
-same_run store None previous h k = refl
-same_run store (Some id) None h k = alone id (pod_for store id) h
-same_run store (Some id) (Some other) h k = both id other (pod_for store id) (pod_for store other) h k
+same_run store mark previous h k = grind arith
 
 -- ---- what stands for a run
 
 pod_stands : (store : Store) (m : MarkedSegment) (id : List ℕ) (o : Option Pod) → IsSome o → run_pieces (meant store m) (mark_with id o) ≡ reverse (part_of (whole_from 0) (pod_with id o))
-pod_stands store m id None h = absurd (cc)
-pod_stands store m id (Some pod) h = ap reverse (sym (whole_is_part (pod_pieces (record { id = id; pod = pod }))))
+pod_stands store m id o h = grind (arith, whole_is_part)
 
 stands : (store : Store) (m : MarkedSegment) (mark : Option (List ℕ)) → IsDecided store mark → run_pieces (meant store m) (mark_in store mark) ≡ reverse (begun_with store (whole_from 0) m mark)
 stands store m None h = refl
@@ -56,9 +51,7 @@ abbrev newest : Option ℕ → Meant → Option Mark → List Piece
 newest so_far s mark = newest_pieces (is_none so_far) (or_zero so_far) s mark
 
 pod_due : (store : Store) (so_far : Option ℕ) (m : MarkedSegment) (id : List ℕ) (o : Option Pod) → IsSome o → newest so_far (meant store m) (mark_with id o) ≡ reverse (part_of (part_due so_far) (pod_with id o))
-pod_due store so_far m id None h = absurd (cc)
-pod_due store None m id (Some pod) h = ap reverse (sym (whole_is_part (pod_pieces (record { id = id; pod = pod }))))
-pod_due store (Some length) m id (Some pod) h = ap reverse (sym (due_is_part length (pod_pieces (record { id = id; pod = pod }))))
+pod_due store so_far m id o h = grind (arith, whole_is_part, due_is_part)
 
 stands_due : (store : Store) (so_far : Option ℕ) (m : MarkedSegment) (mark : Option (List ℕ)) → IsDecided store mark → newest so_far (meant store m) (mark_in store mark) ≡ reverse (begun_with store (part_due so_far) m mark)
 stands_due store so_far m None h = refl
@@ -84,11 +77,7 @@ due_begins so_far here (t ∷ before) e = rw e refl
 one_more : (store : Store) (so_far : Option ℕ) (m : MarkedSegment) (before : List Meant) → IsDecided store m.mark → (same last : Bool) → continues (meant store m) before ≡ same
     → cond last (list_due so_far (meant store m ∷ before)) (stitched (meant store m ∷ before))
     ≡ reverse (cond same [] (begun_with store (cond last (part_due so_far) (whole_from 0)) m m.mark)) ++ cond (same && last) (list_due so_far before) (stitched before)
-one_more store so_far m before d true true e = due_goes_on so_far (meant store m) before e
-one_more store so_far m before d true false e = ap (λ b. cond b [] (run_pieces (meant store m) (mark_in store m.mark)) ++ stitched before) e
-one_more store so_far m before d false true e = due_begins so_far (meant store m) before e ∙ ap (λ t. t ++ stitched before) (stands_due store so_far m m.mark d)
-one_more store so_far m before d false false e =
-    ap (λ b. cond b [] (run_pieces (meant store m) (mark_in store m.mark)) ++ stitched before) e ∙ ap (λ t. t ++ stitched before) (stands store m m.mark d)
+one_more store so_far m before d same last e = grind (arith, due_goes_on, due_begins, stands_due, stands)
 
 -- ---- all segments
 
@@ -112,8 +101,7 @@ nothing_yet false = refl
 -- ---- the rest
 
 rest_stands : (place : ℕ) (id : List ℕ) (o : Option Pod) → rest_pieces (option_map (rest_from place) (mark_with id o)) ≡ reverse (part_of (whole_from place) (pod_with id o))
-rest_stands place id None = refl
-rest_stands place id (Some pod) = ap reverse (sym (rest_is_part place (pod_pieces (record { id = id; pod = pod }))))
+rest_stands place id o = grind (arith, rest_is_part)
 
 pub rest_in_order : (store : Store) (rest : Option Rest) → rest_pieces (rest_in store rest) ≡ reverse (rest_on store rest)
 rest_in_order store None = refl
@@ -132,8 +120,4 @@ whole_in_order store ends marked d =
 -- the stitched list is the pieces in order, counted on
 pub in_order : (store : Store) (first : Numbers) (ends : Ends) (marked : List MarkedSegment) → AreDecided store marked
     → stitched_segments store first ends marked ≡ map written_item (counted first None (pieces_between store ends marked))
-in_order store first ends marked d =
-    let pieces = pieces_between store ends marked in
-    ap (λ ps. map written_item (reverse (numbered first ps))) (whole_in_order store ends marked d)
-    ∙ (ap (λ items. map written_item (reverse items)) (numbers_count_on first pieces)
-    ∙ ap (map written_item) (reverse-reverse (counted first None pieces)))
+in_order store first ends marked d = grind (arith, whole_in_order, numbers_count_on, reverse-reverse)

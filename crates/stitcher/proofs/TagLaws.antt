@@ -1,5 +1,5 @@
 -- The key tags lead from keys to keys.
-use Rattle.std.proofs.Common.{◌≡◌, Bool, true, false, not, cond, List, [], ◌∷◌, map, refl, ap, sym, ◌∙◌, subst, inl, inr}
+use Rattle.std.proofs.Common.{◌≡◌, Bool, true, false, not, cond, List, [], ◌∷◌, map, refl, ap, sym, ◌∙◌, subst, inl, inr, arith}
 use Rattle.std.specs.Prelude.{filter, bytes_eq, ◌⊎◌}
 use Rattle.std.specs.List.{list_any, list_all}
 use Rattle.std.proofs.lemmas.Bool.{and_parts, and_from, or_cases}
@@ -17,8 +17,7 @@ use Rattle.playlist_model.proofs.SameParts.{key_is}
 -- ---- the same key
 
 same_format : (j k : Key) → same_key j k ≡ true → bytes_eq j.format k.format ≡ true
-same_format j k h =
-    let a = and_parts _ _ h in let b = and_parts _ _ a.0 in let c = and_parts _ _ b.0 in let d : (bytes_eq j.format k.format ≡ true) × (bytes_eq j.method k.method ≡ true) = and_parts _ _ c.0 in d.0
+same_format j k h = grind arith
 
 other_format : (j k : Key) (b : Bool) → same_key j k ≡ b → bytes_eq j.format k.format ≡ false → b ≡ false
 other_format j k true e h = absurd (cc (same_format j k e))
@@ -37,12 +36,10 @@ keeps : (y k : Key) → is_before y k ≡ true → not (bytes_eq y.format k.form
 keeps y k h = ap not (differ y k h)
 
 put_first : (y : Key) (keys : List Key) → list_all (is_before y) keys ≡ true → put_key y keys ≡ y ∷ keys
-put_first y keys h = ap (insert_key y) (filter_all (is_before y) _ keys h (keeps y)) ∙ put_into y keys h
+put_first y keys h = grind (arith, filter_all, keeps, put_into)
 
 put_same : (y x : Key) (keys : List Key) → bytes_eq x.format y.format ≡ true → list_all (is_before x) keys ≡ true → put_key y (x ∷ keys) ≡ y ∷ keys
-put_same y x keys e h =
-    let f : bytes_eq y.format x.format ≡ true = (bytes_eq-Decides y.format x.format).1 (sym ((bytes_eq-Decides x.format y.format).0 e)) in
-    rw f (put_first y keys (all_from (is_before x) (is_before y) keys h (λ k g. like y x k e g)))
+put_same y x keys e h = grind (arith, bytes_eq-Decides, put_first, all_from, like)
 
 pub put_all : List Key → List Key → List Key
 put_all keys [] = keys
@@ -70,11 +67,11 @@ stands_after y x (k ∷ ys) h g = let a = and_parts _ _ h in after_step y x k ys
 
 -- keys after y have their formats among ys
 without_first : (y : Key) (ys keys : List Key) → list_all (is_before y) keys ≡ true → list_all (has_its_format (y ∷ ys)) keys ≡ true → list_all (has_its_format ys) keys ≡ true
-without_first y ys keys h g = all_with (is_before y) (has_its_format (y ∷ ys)) (has_its_format ys) keys h g (λ k b f. dropped_step k y ys (differ_back y k b) f)
+without_first y ys keys h g = grind (arith, all_with, dropped_step, differ_back)
 
 -- a key apart from all of them is new
 new_among : (y : Key) (keys : List Key) → list_all (is_before y) keys ≡ true → is_new_key keys y ≡ true
-new_among y keys h = ap not (none_from (is_before y) (same_key y) keys h (λ k b. other_format y k _ refl (differ y k b)))
+new_among y keys h = grind (arith, none_from, other_format, differ)
 
 -- ---- the keys that the tags lead to
 
@@ -82,15 +79,12 @@ Leads : List Key → List Key → Type 0
 Leads old new = put_all old (filter (is_new_key old) new) ≡ new
 
 same_new_step : (k x : Key) (xs : List Key) → is_before x k ≡ true → is_new_key (x ∷ xs) k ≡ is_new_key xs k
-same_new_step k x xs h = let e : same_key k x ≡ false = other_format k x _ refl (differ_back x k h) in rw e refl
+same_new_step k x xs h = grind (arith, other_format, differ_back)
 
 -- a new first key
 leads_new : (y : Key) (ys old : List Key) → list_all (is_before y) ys ≡ true → list_all (is_before y) old ≡ true → Leads old ys → Leads old (y ∷ ys)
 unfolding Leads put_all
-leads_new y ys old h g ih =
-    let n = new_among y old g in
-    rw n (ap (λ ks. put_all ks (filter (is_new_key old) ys)) (put_first y old g)
-    ∙ put_all_past y (filter (is_new_key old) ys) old (all_filter (is_before y) (is_new_key old) ys h) ∙ ap (λ ks. y ∷ ks) ih)
+leads_new y ys old h g ih = grind (arith, new_among, put_all, put_first, put_all_past, all_filter)
 
 -- a first key of the same format
 leads_same : (y x : Key) (ys xs : List Key) → bytes_eq x.format y.format ≡ true → list_all (is_before y) ys ≡ true → list_all (is_before x) xs ≡ true
@@ -115,22 +109,7 @@ leads_same y x ys xs e h g same ih false s =
 leads_step : (y : Key) (ys old : List Key) → list_all (is_before y) ys ≡ true → are_sorted old ≡ true → list_all (has_its_format (y ∷ ys)) old ≡ true
     → ((keys : List Key) → are_sorted keys ≡ true → list_all (has_its_format ys) keys ≡ true → Leads keys ys) → Leads old (y ∷ ys)
 leads_step y ys [] h s f ih = leads_new y ys [] h refl (ih [] refl refl)
-leads_step y ys (x ∷ xs) h s f ih =
-    let sx : (list_all (is_before x) xs ≡ true) × (are_sorted xs ≡ true) = and_parts _ _ s in
-    let fx : (has_its_format (y ∷ ys) x ≡ true) × (list_all (has_its_format (y ∷ ys)) xs ≡ true) = and_parts _ _ f in
-    first_case y x ys xs h s sx.0 sx.1 fx.1 ih (bytes_eq x.format y.format) refl fx.0
-  where
-    first_case : (y x : Key) (ys xs : List Key) → list_all (is_before y) ys ≡ true → are_sorted (x ∷ xs) ≡ true → list_all (is_before x) xs ≡ true → are_sorted xs ≡ true → list_all (has_its_format (y ∷ ys)) xs ≡ true
-        → ((keys : List Key) → are_sorted keys ≡ true → list_all (has_its_format ys) keys ≡ true → Leads keys ys) → (b : Bool) → bytes_eq x.format y.format ≡ b → has_its_format (y ∷ ys) x ≡ true → Leads (x ∷ xs) (y ∷ ys)
-    first_case y x ys xs h s g sx f ih true e fx =
-        let gy : list_all (is_before y) xs ≡ true = all_from (is_before x) (is_before y) xs g (λ k b. like y x k e b) in
-        leads_same y x ys xs e h g key_is (ih xs sx (without_first y ys xs gy f)) _ refl
-    first_case y x ys xs h s g sx f ih false e fx =
-        let has = dropped_step x y ys e fx in
-        let b = stands_after y x ys h has in
-        let gy : list_all (is_before y) (x ∷ xs) ≡ true = and_from _ _ b (all_from (is_before x) (is_before y) xs g (λ k c. chained y x k b c)) in
-        let fy : list_all (has_its_format (y ∷ ys)) (x ∷ xs) ≡ true = and_from _ _ fx f in
-        leads_new y ys (x ∷ xs) h gy (ih (x ∷ xs) s (without_first y ys (x ∷ xs) gy fy))
+leads_step y ys (x ∷ xs) h s f ih = grind (arith, and_parts, Leads, all_from, like, leads_same, key_is, without_first, dropped_step, stands_after, and_from, chained, leads_new)
 
 no_formats : (old : List Key) → list_all (has_its_format []) old ≡ true → Leads old []
 unfolding Leads put_all

@@ -17,7 +17,7 @@ mod text_ref;
 pub use ends::{Ends, Rest};
 pub use fault::StitchFault;
 pub use key_tags::{is_new_key, keeps_formats, transition};
-pub use making::{goes_on, is_same_run, stitch, stitch_at};
+pub use making::{goes_on, is_same_run, stitch};
 pub use marked::{MarkedSegment, Numbers, SharedMark};
 pub use segment_ref::SegmentRef;
 pub use stitched_list::{StitchedItems, StitchedList};

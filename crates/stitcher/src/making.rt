@@ -566,7 +566,8 @@ impl<'a> Stitching<'a> {
 
 /// The items of the `marked` segments, in the order of a playlist, the first item with the numbers `first`. A rest of
 /// a pod, as `ends` names it, comes first. Each run of one mark is replaced by the pod that its break has in `store`,
-/// or by its due prefix if `ends` says that the last run is open.
+/// or by its due prefix if `ends` says that the last run is open. A stretch of items ends before the segment at the place
+/// `cut` of `marked`, from 0, so that the items from there on are found at once.
 ///
 /// `NumberRange` exactly if a number would pass 2^64 - 1 (RFC 8216, sections 4.3.3.2 and 4.3.3.3); `OutOfMemory` only
 /// if an allocation fails.
@@ -577,29 +578,6 @@ impl<'a> Stitching<'a> {
 /// the items, numbered from `first`:   s0    a0    a1    s3
 /// ```
 pub fn stitch<'a>(
-    alloc: Global,
-    marked: &'a [MarkedSegment],
-    store: &PodStore,
-    first: Numbers,
-    ends: &Ends,
-) -> Result<StitchedList<'a>, StitchFault>
-    requires decided { AreDecided store.now marked.now }
-    requires runs { KnowRuns None marked.now }
-    ensures ok { IfOk result
-        (λ v. (v ≡ stitched_segments store.now first ends.now marked.now)
-        × (list_all item_fits v ≡ true)) }
-    ensures room { IfOk result (λ v. length v < 2 ^ 64) }
-    ensures err { IfErr result
-        (λ e. RefusesNumber e (list_all item_fits
-        (stitched_segments store.now first ends.now marked.now) ≡ false)) }
-{
-    stitch_at(alloc, marked, 0, store, first, ends)
-}
-
-/// The items of the `marked` segments as `stitch` gives them, of `store`, `first` and `ends`, with the same faults. A
-/// stretch of items ends before the segment at the place `cut` of `marked`, from 0, so that the items from there on
-/// are found at once.
-pub fn stitch_at<'a>(
     alloc: Global,
     marked: &'a [MarkedSegment],
     cut: usize,

@@ -1,8 +1,8 @@
 -- A plain reference joins to what stands before the path of the base, or before its last segment, with the reference after it.
 use Rattle.std.proofs.Math.Nat.{sub-zero}
 use Rattle.std.proofs.lemmas.List.{get_or-reverse, length-reverse}
-use Rattle.std.proofs.Common.{◌≡◌, ◌≢◌, ℕ, zero, suc, ◌+◌, ◌-◌, ◌<◌, Bool, true, false, not, ◌&&◌, ◌||◌, ◌==◌, cond, List, [], ◌∷◌, ◌++◌, length, get_or, Some, None, Ok, All, IsAscii, sym, refl, ap, ◌∙◌, subst, ⊎_elim, append_assoc, append-nil, one-add, arith, take_all, eq-eqb}
-use Rattle.std.specs.Prelude.{Option, Err, codes, reverse, is_some, unwrap_or, option_map}
+use Rattle.std.proofs.Common.{◌≡◌, ◌≢◌, ℕ, zero, suc, ◌+◌, ◌<◌, Bool, true, false, not, ◌&&◌, ◌||◌, ◌==◌, cond, List, [], ◌∷◌, ◌++◌, length, get_or, Some, None, Ok, All, IsAscii, sym, refl, ap, ◌∙◌, subst, ⊎_elim, append_assoc, append-nil, one-add, arith, take_all, eq-eqb}
+use Rattle.std.specs.Prelude.{Option, Err, codes, is_some, unwrap_or, option_map}
 use Rattle.std.specs.List.{concat, prefix_len, list_any}
 use Rattle.std.specs.Char.{is_ascii_alphabetic, is_control}
 use Rattle.std.proofs.lemmas.Bool.{cond-true, cond-false, cases_Bool, and_from, true≢false, and_parts, and_left, and_right, ne_eqb, or_from, not-true}
@@ -21,15 +21,14 @@ use Rattle.url.specs.Path.{dot_count, push_segment, parse_segments, shorten_path
 use Rattle.url.specs.Input.{is_c0_control_or_space, is_tab_or_new_line, trim_c0_control_and_space, strip_tabs_and_new_lines, split_once}
 use Rattle.url.specs.Scheme.{is_slash, is_special, is_file, scheme_type, scheme_len, default_port}
 use Rattle.url.specs.Head.{head_only}
-use Rattle.url.specs.Parts.{Parts, kind_of, has_authority, needs_guard, cannot_be_a_base, pieces, query_set, text_before, serialize, IsValid}
+use Rattle.url.specs.Parts.{Parts, kind_of, has_authority, needs_guard, cannot_be_a_base, pieces, text_before, serialize, IsValid}
 use Rattle.url.specs.Parser.{Parsed, and_then, with_path, with_tail, before_tail, leading_slashes, parse_relative, parse_body, parse_parts, split_scheme, parse_by_scheme, parse_url}
 use Rattle.url.proofs.SetLemmas.{checked, kept_from_passes}
 use Rattle.url.proofs.InputLemmas.{IsNot, Passes, split_once_none, split_once_at, filter_all, is_empty_nonempty, list_any_none, All_from_list_all}
 use Rattle.url.proofs.PiecesLemmas.{concat-split}
 use Rattle.url.proofs.ValidLemmas.{special_has_authority, base_from_authority}
 use Rattle.playlist_model.specs.Lines.{has_control}
-use Rattle.playlist_model.specs.Uri.{has_scheme, can_be_written, joined, resolved, is_web_scheme}
-use Rattle.std.specs.Prelude.{bytes_eq}
+use Rattle.playlist_model.specs.Uri.{has_scheme, can_be_written, resolved, is_web_scheme}
 use Rattle.playlist_model.specs.Uri.{is_scheme_byte as scheme_byte}
 use Rattle.uri_resolver.specs.Plain.{is_path_byte, is_query_byte, are_plain, is_relative, begins_with_slash, is_rooted, StandsBefore}
 
@@ -99,10 +98,7 @@ record PlainStep (at_front : Bool) (b : ℕ) (rest : Bool) : Type 0 where
   later : rest ≡ true
 
 plain_step : (at_front : Bool) (b : ℕ) (later : Bool) → (is_path_byte b && not (at_front && b == 46) && later) ≡ true → PlainStep at_front b later
-plain_step at_front b later plain =
-    let parts = and_parts _ _ plain in
-    let front = and_parts _ _ parts.0 in
-    record { byte = front.0; no_dot = front.1; later = parts.1 }
+plain_step at_front b later plain = grind arith
 
 cut : (at_front : Bool) (reference : List ℕ) → are_plain at_front reference ≡ true → Cut at_front reference
 cut at_front [] plain = record { path = []; query = None; whole = refl; is_path = refl; are_query = tt }
@@ -128,8 +124,7 @@ abbrev IsCalm : ℕ → Type 0
 IsCalm b = is_calm b ≡ true
 
 calm_query : (query : Option (List ℕ)) → AreQuery query → All IsCalm (query_text query)
-calm_query None are = All-nil IsCalm
-calm_query (Some query) are = All-cons IsCalm 63 query refl (All-weaker IsQuery IsCalm query_calm query are)
+calm_query query are = grind (arith, All-nil, All-cons, All-weaker, query_calm)
 
 calm_cut : (at_front : Bool) (reference : List ℕ) (c : Cut at_front reference) → All IsCalm reference
 calm_cut at_front reference c =
@@ -152,20 +147,15 @@ query_kept : (b : ℕ) → IsQuery b → IsKept SPECIAL_QUERY b
 query_kept b plain = kept_from_passes is_query_byte SPECIAL_QUERY refl b (query_below b plain) plain
 
 no_percent : (b : ℕ) → IsPath b → (b == 37) ≡ false
-no_percent b plain = not-true _ (of_path (λ k. not (k == 37)) (checked (implied is_path_byte (λ k. not (k == 37))) 128 refl) b plain)
+no_percent b plain = grind arith
 
 no_dots : (s : List ℕ) → All IsInside s → get_or s 0 0 ≢ 46 → dot_count s ≡ 0
 unfolding dot_count
-no_dots [] all first = refl
-no_dots (b ∷ s) all first =
-    let percent = no_percent b (and_parts _ _ (All-head IsInside b s all)).0 in
-    let dot = ne_eqb b 46 first in
-    rw (dot, percent) refl
+no_dots s all first = grind (arith, no_percent, and_parts, All-head, ne_eqb)
 
 push_plain : (path s : List ℕ) (is_last : Bool) → All IsInside s → get_or s 0 0 ≢ 46 → push_segment SpecialNotFile path s is_last ≡ path ++ 47 ∷ s
 unfolding push_segment
-push_plain path s is_last all first =
-    rw (no_dots s all first) (ap (λ t. path ++ 47 ∷ t) (percent_encode_unchanged PATH s (All-weaker IsInside (IsKept PATH) inside_kept s all)))
+push_plain path s is_last all first = grind (arith, no_dots, percent_encode_unchanged, All-weaker, inside_kept)
 
 abbrev is_nil : List ℕ → Bool
 is_nil [] = true
@@ -180,9 +170,7 @@ first_of_more [] b first no_dot same = grind (arith, nat_tests)
 first_of_more (c ∷ s) b first no_dot same = first same
 
 no_slash : (b : ℕ) → IsPath b → (b == 47) ≡ false → is_slash SpecialNotFile b ≡ false
-no_slash b plain other =
-    let back = not-true _ (of_path (λ k. not (k == 92)) (checked (implied is_path_byte (λ k. not (k == 92))) 128 refl) b plain) in
-    rw (other, back) refl
+no_slash b plain other = grind arith
 
 is_slash_byte : (b : ℕ) → (b == 47) ≡ true → b ≡ 47
 is_slash_byte b slash = grind (arith, nat_tests)
@@ -216,7 +204,7 @@ plain_segments path s (b ∷ bytes) all first plain =
 -- ---- the whole reference
 
 visible : (b : ℕ) → IsCalm b → is_c0_control_or_space b ≡ false
-visible b calm = not-true _ (and_parts _ _ (and_parts _ _ (and_parts _ _ (and_parts _ _ calm).0).0).0).0
+visible b calm = grind arith
 
 none_at_front : (xs : List ℕ) → (0 < length xs → IsCalm (get_or xs 0 0)) → prefix_len is_c0_control_or_space xs ≡ 0
 none_at_front [] first = refl
@@ -224,31 +212,26 @@ none_at_front (x ∷ xs) first = cond-false _ _ _ (visible x (first (omega arith
 
 untrimmed : (xs : List ℕ) → All IsCalm xs → trim_c0_control_and_space xs ≡ xs
 unfolding trim_c0_control_and_space
-untrimmed xs all =
-    let start = none_at_front xs (λ inside. all 0 0 inside) in
-    let len = length-reverse xs in
-    let end = none_at_front (reverse xs) (λ inside. rw (get_or-reverse xs 0 0 (omega arith), sub-zero) (all (length xs - 1) 0 (omega arith))) in
-    rw (start, end) (take_all _ xs (omega arith))
+untrimmed xs all = grind (arith, none_at_front, length-reverse, get_or-reverse, sub-zero, take_all)
 
 no_tab : (b : ℕ) → IsCalm b → Passes (λ k. not (is_tab_or_new_line k)) b
 no_tab b calm = (and_parts _ _ (and_parts _ _ (and_parts _ _ (and_parts _ _ calm).0).0).0).1
 
 unstripped : (xs : List ℕ) → All IsCalm xs → strip_tabs_and_new_lines xs ≡ xs
 unfolding strip_tabs_and_new_lines
-unstripped xs all = filter_all _ xs (All-weaker IsCalm (Passes (λ b. not (is_tab_or_new_line b))) no_tab xs all)
+unstripped xs all = grind (arith, filter_all, All-weaker, Passes, no_tab)
 
 no_hash : (b : ℕ) → IsCalm b → IsNot 35 b
-no_hash b calm same = let other = not-true _ (and_parts _ _ (and_parts _ _ (and_parts _ _ calm).0).0).1 in true≢false (sym (eq-eqb b 35 same) ∙ other)
+no_hash b calm same = grind arith
 
 no_question : (b : ℕ) → IsPath b → IsNot 63 b
-no_question b plain same = let other = not-true _ (of_path (λ k. not (k == 63)) (checked (implied is_path_byte (λ k. not (k == 63))) 128 refl) b plain) in true≢false (sym (eq-eqb b 63 same) ∙ other)
+no_question b plain same = grind arith
 
 split_query : (path : List ℕ) (query : Option (List ℕ)) → All IsPath path → split_once 63 (path ++ query_text query) ≡ (path, query)
-split_query path None all = ap (split_once 63) (append-nil path) ∙ split_once_none 63 path (All-weaker IsPath (IsNot 63) no_question path all)
-split_query path (Some query) all = split_once_at 63 path query (All-weaker IsPath (IsNot 63) no_question path all)
+split_query path query all = grind (arith, append-nil, split_once_none, All-weaker, IsNot, no_question, split_once_at)
 
 path_no_colon : (b : ℕ) → IsPath b → (b == 58) ≡ false
-path_no_colon b plain = not-true _ (of_path (λ k. not (k == 58)) (checked (implied is_path_byte (λ k. not (k == 58))) 128 refl) b plain)
+path_no_colon b plain = grind arith
 
 no_colon : (xs : List ℕ) (n : ℕ) → All IsPath xs → (get_or xs n 0 == 58) ≡ false
 no_colon [] n all = refl
@@ -277,17 +260,11 @@ abbrev at_path : Parts → List ℕ → Option (List ℕ) → Parts
 at_path base path query = record (with_path (head_only base) path) { query = query; fragment = None }
 
 escaped : (query : Option (List ℕ)) → AreQuery query → option_map (percent_encode SPECIAL_QUERY) query ≡ query
-escaped None are = refl
-escaped (Some query) are = ap Some (percent_encode_unchanged SPECIAL_QUERY query (All-weaker IsQuery (IsKept SPECIAL_QUERY) query_kept query are))
+escaped query are = grind (arith, percent_encode_unchanged, All-weaker, query_kept)
 
 tail : (base : Parts) (path : List ℕ) (query : Option (List ℕ)) → kind_of base ≡ SpecialNotFile → AreQuery query
     → with_tail (before_tail (with_path (head_only base) path) query None) query None ≡ at_path base path query
-tail base path query kind are =
-    let url = with_path (head_only base) path in
-    let here : before_tail url query None ≡ url = cond-false _ _ _ (and_left _ _ (ap (λ k. not (is_special k)) kind)) in
-    ap (λ u. with_tail u query None) here
-    ∙ ap (λ k. at_path base path (option_map (percent_encode (query_set k)) query)) kind
-    ∙ ap (at_path base path) (escaped query are)
+tail base path query kind are = grind (arith, cond-false, and_left, escaped)
 
 -- the path of the base without its last segment
 abbrev directory : Parts → List ℕ
@@ -299,9 +276,7 @@ no_slash_in_front b bytes plain other = cond-false _ _ _ (no_slash b plain other
 
 relative : (base : Parts) (b : ℕ) (bytes : List ℕ) → kind_of base ≡ SpecialNotFile → IsPath b → (b == 47) ≡ false → parse_relative base (b ∷ bytes) ≡ Ok (with_path (head_only base) (parse_path SpecialNotFile (directory base) (b ∷ bytes)))
 unfolding parse_relative
-relative base b bytes kind plain other =
-    let lead = ap (λ k. leading_slashes k (b ∷ bytes)) kind ∙ no_slash_in_front b bytes plain other in
-    rw lead (ap (λ k. Ok (with_path (head_only base) (parse_path k (directory base) (b ∷ bytes)))) kind)
+relative base b bytes kind plain other = grind (arith, no_slash_in_front)
 
 one_slash : (bytes : List ℕ) → All IsPath bytes → begins_with_slash bytes ≡ false → leading_slashes SpecialNotFile (47 ∷ bytes) ≡ 1
 unfolding leading_slashes
@@ -310,9 +285,7 @@ one_slash (b ∷ bytes) all first = rw (no_slash b (All-head IsPath b bytes all)
 
 rooted : (base : Parts) (bytes : List ℕ) → kind_of base ≡ SpecialNotFile → All IsPath bytes → begins_with_slash bytes ≡ false → parse_relative base (47 ∷ bytes) ≡ Ok (with_path (head_only base) (parse_path SpecialNotFile [] bytes))
 unfolding parse_relative
-rooted base bytes kind all first =
-    let lead = ap (λ k. leading_slashes k (47 ∷ bytes)) kind ∙ one_slash bytes all first in
-    rw lead (ap (λ k. Ok (with_path (head_only base) (parse_path k [] bytes))) kind)
+rooted base bytes kind all first = grind (arith, one_slash)
 
 joins_at : (base : Parts) (reference : List ℕ) (b : ℕ) (bytes path : List ℕ) (query : Option (List ℕ)) → IsValid base → kind_of base ≡ SpecialNotFile → All IsCalm reference → reference ≡ (b ∷ bytes) ++ query_text query → All IsPath (b ∷ bytes) → AreQuery query
     → parse_relative base (b ∷ bytes) ≡ Ok (with_path (head_only base) path) → parse_url (Some base) reference ≡ Ok (at_path base path query)
@@ -435,10 +408,7 @@ letter_stays [] r letter = absurd (true≢false (sym letter))
 letter_stays (x ∷ d) r letter = letter
 
 has_scheme_stays : (d r : List ℕ) → has_scheme d ≡ true → has_scheme (d ++ r) ≡ true
-has_scheme_stays d r scheme =
-    let parts = and_parts _ _ scheme in
-    let colon : get_or d (prefix_len scheme_byte d) 0 ≡ 58 = grind (arith, nat_tests, parts.1) in
-    and_from _ _ (letter_stays d r parts.0) (eq-eqb _ 58 (scheme_stays d r colon))
+has_scheme_stays d r scheme = grind (arith, and_parts, get_or, nat_tests, and_from, letter_stays, eq-eqb, scheme_stays)
 
 calm_no_control : (b : ℕ) → IsCalm b → is_control b ≡ false
 calm_no_control b calm = not-true _ (and_parts _ _ calm).1
@@ -464,8 +434,7 @@ abbrev IsBelow : ℕ → Type 0
 IsBelow b = b < 128
 
 below_query : (query : Option (List ℕ)) → AreQuery query → All IsBelow (query_text query)
-below_query None are = All-nil IsBelow
-below_query (Some query) are = All-cons IsBelow 63 query (omega arith) (All-weaker IsQuery IsBelow query_below query are)
+below_query query are = grind arith
 
 ascii_cut : (at_front : Bool) (reference : List ℕ) (c : Cut at_front reference) → IsAscii reference
 ascii_cut at_front reference c =
@@ -480,9 +449,7 @@ colonless (b ∷ path) query all =
     [ true ↦ rw one-add (colonless path query (All-tail IsPath b path all)) | false ↦ path_no_colon b (All-head IsPath b path all) ]
 
 resolves : (base : Parts) (front reference : List ℕ) → Joins base reference (front ++ reference) → has_scheme reference ≡ false → can_be_written (front ++ reference) ≡ true → resolved base reference ≡ Some (front ++ reference)
-resolves base front reference joins none written =
-    let fits : can_be_written (serialize joins.url) ≡ true = ap can_be_written joins.spelled ∙ written in
-    cond-false _ _ _ none ∙ ap joined joins.parses ∙ cond-true _ _ _ fits ∙ ap Some joins.spelled
+resolves base front reference joins none written = grind arith
 
 -- if `.` leads to a text that can be written, that text stands before relative references
 pub stands_before_relative : (base here : Parts) → IsValid base → kind_of base ≡ SpecialNotFile → parse_url (Some base) (46 ∷ []) ≡ Ok here → IsAscii (serialize here) → can_be_written (serialize here) ≡ true → StandsBefore base is_relative (serialize here)
@@ -513,8 +480,4 @@ or_right_true a b either other = rw other at either
 -- the kind of a web URL
 pub web_is_special : (base : Parts) → is_web_scheme base.scheme ≡ true → kind_of base ≡ SpecialNotFile
 unfolding scheme_type default_port
-web_is_special base web =
-    ⊎_elim
-    (λ h. ap scheme_type ((bytes_eq-Decides base.scheme (codes "http")).0 h))
-    (λ h. ap scheme_type ((bytes_eq-Decides base.scheme (codes "https")).0 (or_right_true _ _ web h)))
-    (cases_Bool (bytes_eq base.scheme (codes "http")))
+web_is_special base web = grind (arith, ⊎_elim, bytes_eq-Decides, or_right_true, cases_Bool)

@@ -3,7 +3,6 @@ use Rattle.std.proofs.Common.{◌≡◌, ℕ, ◌<◌, Bool, true, false, not, �
 use Rattle.std.specs.List.{list_all}
 use Rattle.std.proofs.lemmas.Bool.{and_parts}
 use Rattle.std.proofs.lemmas.Bool.Decides.{nat_tests}
-use Rattle.url.proofs.SetLemmas.{checked}
 use Rattle.uri_resolver.specs.Plain.{is_segment_byte, is_query_byte, are_plain}
 
 below : (b : ℕ) → is_segment_byte b ≡ true → b < 128
@@ -17,7 +16,7 @@ abbrev is_no_mark : ℕ → Bool
 is_no_mark b = not (b == 63) && not (b == 47)
 
 no_mark : (b : ℕ) → is_segment_byte b ≡ true → is_no_mark b ≡ true
-no_mark b segment = holds (is_segment_byte b) (is_no_mark b) (checked (λ (k : ℕ). not (is_segment_byte k) || is_no_mark k) 128 refl b (below b segment)) segment
+no_mark b segment = grind arith
 
 passes : (question segment dot slash query : Bool) (later : Bool → Bool) → not question ≡ true → segment ≡ true → not slash ≡ true
     → cond question query ((segment || slash) && not (false && dot) && later slash) ≡ later false
@@ -37,7 +36,7 @@ dotless b query rest path = grind (arith, nat_tests)
 -- at the front of a segment no dot may stand
 pub front_has_no_dot : (bytes : List ℕ) → are_plain true bytes ≡ (not (slice_index bytes 0 == 46) && are_plain false bytes)
 front_has_no_dot [] = refl
-front_has_no_dot (b ∷ bytes) = dotless b (list_all is_query_byte bytes) (are_plain (b == 47) bytes) (is_segment_byte b || b == 47)
+front_has_no_dot (b ∷ bytes) = grind arith
 
 -- after a slash no dot may stand
 pub slash_goes_on : (b : ℕ) (bytes : List ℕ) → b ≡ 47 → (slice_index bytes 0 == 46) ≡ false → are_plain false (b ∷ bytes) ≡ are_plain false bytes
@@ -52,6 +51,4 @@ stops question segment slash dot query later q s n = rw q (rw s (rw n refl))
 
 -- any other byte ends it
 pub other_stops : (b : ℕ) (bytes : List ℕ) → is_segment_byte b ≡ false → ¬ (b ≡ 63) → ¬ (b ≡ 47) → are_plain false (b ∷ bytes) ≡ false
-other_stops b bytes other question slash =
-    stops (b == 63) (is_segment_byte b) (b == 47) (b == 46) (list_all is_query_byte bytes) (are_plain (b == 47) bytes)
-    (grind (arith, nat_tests)) other (grind (arith, nat_tests))
+other_stops b bytes other question slash = grind arith

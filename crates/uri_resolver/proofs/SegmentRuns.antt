@@ -9,9 +9,7 @@ abbrev pub after : (ℕ → Bool) → List ℕ → List ℕ
 after test bytes = drop (prefix_len test bytes) bytes
 
 after_one : (b : ℕ) (n : ℕ) (bytes : List ℕ) → drop (1 + n) (b ∷ bytes) ≡ drop n bytes
-after_one b n bytes =
-    let next : 1 + n ≡ suc n = omega arith in
-    ap (λ k. drop k (b ∷ bytes)) next
+after_one b n bytes = grind arith
 
 pub one_goes_on : (test : ℕ → Bool) (b : ℕ) (bytes : List ℕ) → test b ≡ true → after test (b ∷ bytes) ≡ after test bytes
 one_goes_on test b bytes here = rw here (after_one b (prefix_len test bytes) bytes)
@@ -63,7 +61,7 @@ nothing_left bytes rest e none = sym (after_run bytes [] (e ∙ none_of rest non
 
 pub query_leads : (bytes : List ℕ) (b : ℕ) (later : List ℕ) → after is_segment_byte bytes ≡ b ∷ later → b ≡ 63
     → list_all is_query_byte later ≡ are_plain false bytes
-query_leads bytes b later e question = sym (after_run bytes (b ∷ later) e ∙ ap (λ k. are_plain false (k ∷ later)) question)
+query_leads bytes b later e question = grind (arith, after_run)
 
 pub slash_leads : (bytes : List ℕ) (b : ℕ) (later : List ℕ) → after is_segment_byte bytes ≡ b ∷ later → b ≡ 47 → (slice_index later 0 == 46) ≡ false
     → are_plain false later ≡ are_plain false bytes

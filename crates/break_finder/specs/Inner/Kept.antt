@@ -1,17 +1,16 @@
 -- What proofs and inner functions say with the definitions of `Kept`.
-use Rattle.std.specs.Prelude.{ℕ, ◌||◌, List, Bool, String, Option, Some, None, string_bytes, bytes_eq}
+use Rattle.std.specs.Prelude.{ℕ, ◌||◌, List, Bool, Option, Some, None, bytes_eq}
 use Rattle.std.specs.Map.{lookup}
-use Rattle.std.specs.declared.alloc.Global.{Global}
 use Rattle.break_finder.specs.declared.described.Described.{Described}
 use Rattle.break_finder.specs.Breaks.{nothing_said}
 use Rattle.pod_store.specs.Store.{is_one_of}
 use Rattle.break_finder.specs.Known.{is_this}
 
 abbrev pub Pairs : Type 0
-Pairs = List (String Global × Described)
+Pairs = List (List ℕ × Described)
 
-abbrev pub is_key : List ℕ → String Global → Bool
-is_key id key = bytes_eq id (string_bytes key)
+abbrev pub is_key : List ℕ → List ℕ → Bool
+is_key id key = bytes_eq id key
 
 abbrev pub kept_for : List ℕ → Pairs → Option Described
 kept_for id kept = lookup (is_key id) kept
@@ -26,5 +25,5 @@ said_or_nothing (Some said) = said
 abbrev pub stands_with : List (List ℕ) → Option (List ℕ) → List ℕ → Bool
 stands_with ids carried id = is_one_of ids id || is_this id carried
 
-abbrev pub is_kept_with : List (List ℕ) → Option (List ℕ) → String Global × Described → Bool
-is_kept_with ids carried kept = stands_with ids carried (string_bytes kept.0)
+abbrev pub is_kept_with : List (List ℕ) → Option (List ℕ) → List ℕ × Described → Bool
+is_kept_with ids carried kept = stands_with ids carried kept.0

@@ -36,8 +36,8 @@ use Rattle.channel_window.specs.Showing.{AreKept, IsLastEntered, kept_before, ke
 use Rattle.channel_window.specs.Listed.{AreRising, IsRestDecided, RisesOn, segments_in}
 use Rattle.channel_window.specs.ListEnd.{IsEndingOf, IsLastEnding}
 use Rattle.channel_window.specs.Checked.{AreContiguous, AreTaken}
-use Rattle.playlist_parse.specs.Kept.{playlist_in}
-use Rattle.playlist_parse.specs.declared.read_playlist.Read.{Read}
+use Rattle.playlist_kept.specs.Kept.{playlist_in}
+use Rattle.playlist_kept.specs.declared.read_playlist.Read.{Read}
 use Rattle.live_channel.specs.Inner.LastText.{StoodBefore, StoodIn}
 use Rattle.live_channel.specs.Channel.{refreshed_with, fresh_after, channel_with, Steps}
 use Rattle.channel_window.specs.declared.state.ChannelState.{ChannelState}

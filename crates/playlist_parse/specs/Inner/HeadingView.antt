@@ -1,6 +1,6 @@
 -- What the tags of the whole playlist say.
 use Rattle.playlist_model.specs.Inner.Heading.{Heading}
-use Rattle.playlist_parse.specs.declared.progress.ReadHeading.{ReadHeading}
+use Rattle.playlist_kept.specs.declared.heading.ReadHeading.{ReadHeading}
 
 abbrev pub heading_view : ReadHeading → Heading
 heading_view a = record {

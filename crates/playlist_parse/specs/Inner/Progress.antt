@@ -13,8 +13,8 @@ use Rattle.playlist_model.specs.LookBack.{Standing, standing_at, segments_of, da
 use Rattle.playlist_model.specs.Lines.{has_control}
 use Rattle.playlist_model.specs.Reading.{limited, said_by, said_by_tag, are_mixed, whole_fault, playlist_of}
 use Rattle.playlist_parse.specs.Light.{IsLight}
-use Rattle.playlist_parse.specs.declared.read_playlist.Read.{Read}
-use Rattle.playlist_parse.specs.Kept.{playlist_in}
+use Rattle.playlist_kept.specs.declared.read_playlist.Read.{Read}
+use Rattle.playlist_kept.specs.Kept.{playlist_in}
 use Rattle.playlist_parse.specs.Inner.LineViews.{line_text}
 use Rattle.playlist_model.specs.Inner.Heading.{Heading, heading_at}
 

@@ -4,12 +4,12 @@ use Rattle.url.specs.Parts.{Parts}
 use Rattle.playlist_model.specs.Said.{Said, nothing}
 use Rattle.playlist_model.specs.LookBack.{segments_of}
 use Rattle.playlist_model.specs.Reading.{said_by, said_from, and_whole, limited, Fault}
-use Rattle.playlist_parse.specs.Kept.{AnswersRead}
+use Rattle.playlist_kept.specs.Kept.{AnswersRead}
 use Rattle.playlist_parse.specs.Light.{AreLight}
 use Rattle.playlist_parse.specs.Inner.Progress.{Progress, progress_at}
 use Rattle.playlist_parse.specs.Inner.LineViews.{line_text}
 use Rattle.playlist_parse.specs.declared.reading.Reading.{Reading}
-use Rattle.playlist_parse.specs.declared.read_playlist.Read.{Read}
+use Rattle.playlist_kept.specs.declared.read_playlist.Read.{Read}
 
 -- some lines after the header are read, and these are left: what the others said, with what is left, leads to the same as
 -- all lines, and the next one has this number
@@ -46,6 +46,10 @@ IsToBeTold base progress number left all =
 -- the lines that are left of a text that is being read
 abbrev pub left_in : Reading → List (List ℕ)
 left_in reading = map line_text reading.lines
+
+-- a reading in its parts
+abbrev pub reading_at : Progress → List ((ℕ × ℕ) × List ℕ) → ℕ → Reading
+reading_at progress lines number = record { progress = progress; lines = lines; number = number }
 
 -- a reading comes from here to there, whatever follows the lines that are left
 abbrev pub LeadsTo : Parts → Reading → Reading → Type 0

@@ -9,9 +9,10 @@ use Rattle.playlist_model.specs.declared.Segment.{Segment}
 use Rattle.playlist_model.specs.Inner.Heading.{Heading}
 use Rattle.segment_state.specs.Continued.{Stop, IsStop, stopped_at}
 use Rattle.playlist_parse.specs.Inner.Progress.{Progress}
-use Rattle.playlist_parse.specs.KeptLines.{KeptLines, WasRead}
+use Rattle.playlist_kept.specs.KeptLines.{WasRead}
+use Rattle.playlist_kept.specs.declared.source.KeptLines.{KeptLines}
 use Rattle.playlist_parse.specs.Inner.HeadingView.{heading_view}
-use Rattle.playlist_parse.specs.declared.source.Source.{Source}
+use Rattle.playlist_kept.specs.declared.source.Source.{Source}
 use Rattle.playlist_parse.specs.Inner.Reached.{Reached, left_in, LeadsTo}
 use Rattle.playlist_parse.specs.declared.reading.Reading.{Reading}
 

@@ -1,6 +1,5 @@
-use Rattle.std.proofs.Common.{ap, ◌∙◌, ◌||◌, map, filter, String, string_bytes}
+use Rattle.std.proofs.Common.{ap, ◌∙◌, ◌||◌, ℕ, List, map, filter}
 use Rattle.std.specs.Option.{option_copied}
-use Rattle.std.specs.declared.alloc.Global.{Global}
 use Rattle.break_finder.specs.declared.described.Described.{Described}
 use Rattle.break_finder.specs.Kept.{break_at}
 use Rattle.break_finder.specs.Inner.Kept.{is_kept_with}
@@ -15,7 +14,7 @@ returns-clause-standing c =
     let date_ranges = c.args.date_ranges.now in
     let carried = option_copied c.args.carried in
     let es = c.in_ok-kept.kept.entries in
-    let same = filter_same (is_kept_with c.in_ok-ids.ids carried) (λ (e : String Global × Described). stands_in date_ranges carried (string_bytes e.0))
-    (λ e. ap (λ b. b || is_this (string_bytes e.0) carried) (c.in_ok-ids.ensures (string_bytes e.0))) es in
+    let same = filter_same (is_kept_with c.in_ok-ids.ids carried) (λ (e : List ℕ × Described). stands_in date_ranges carried e.0)
+    (λ e. ap (λ b. b || is_this e.0 carried) (c.in_ok-ids.ensures e.0)) es in
     ap (map break_at) (c.keep_standing.ensures.standing ∙ same) ∙ filtered date_ranges carried es
     ∙ ap (filter (break_stands date_ranges carried)) (cloned c.args.breaks.now.entries es c.in_ok-kept.ensures.cases)

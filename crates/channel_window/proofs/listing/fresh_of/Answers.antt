@@ -1,7 +1,7 @@
 use Rattle.std.proofs.Common.{◌≡◌, sym, ap, ◌∙◌, subst}
 use Rattle.std.specs.Prelude.{filter}
 use Rattle.playlist_model.specs.declared.Segment.{Segment}
-use Rattle.playlist_parse.specs.Kept.{with_taken}
+use Rattle.playlist_kept.specs.Kept.{with_taken}
 use Rattle.channel_window.specs.Checked.{AreContiguous}
 use Rattle.channel_window.specs.Inner.Listed.{is_after}
 use Rattle.channel_window.proofs.Listed.{all_new, same_new}

@@ -3,7 +3,7 @@ use Rattle.std.specs.Option.{option_copied}
 use Rattle.break_finder.specs.Known.{carry}
 use Rattle.channel_spec.specs.Marking.{Moment}
 use Rattle.channel_spec.specs.Successor.{has_init_sections}
-use Rattle.playlist_parse.specs.Kept.{playlist_in}
+use Rattle.playlist_kept.specs.Kept.{playlist_in}
 use Rattle.channel_window.specs.declared.showing.Showing.{Showing}
 use Rattle.channel_window.specs.Marking.{mark_on, length_after}
 use Rattle.channel_window.proofs.ShownWith.{newest_entered, shown_is}

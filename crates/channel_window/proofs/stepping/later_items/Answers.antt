@@ -3,7 +3,7 @@ use Rattle.std.specs.Prelude.{None}
 use Rattle.stitcher.specs.Paced.{due_with}
 use Rattle.stitcher.specs.StitchedSegments.{KnowRuns}
 use Rattle.stitcher.proofs.Known.{known_later}
-use Rattle.playlist_parse.specs.Kept.{playlist_in}
+use Rattle.playlist_kept.specs.Kept.{playlist_in}
 use Rattle.channel_window.specs.Marking.{so_far}
 use Rattle.channel_window.specs.Showing.{kept_before}
 use Rattle.channel_window.specs.Inner.NewItems.{out_of}

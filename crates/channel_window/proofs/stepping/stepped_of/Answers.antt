@@ -1,6 +1,6 @@
 use Rattle.std.proofs.Common.{ap, ◌∙◌, arith}
 use Rattle.channel_spec.specs.Kept.{shown_from}
-use Rattle.playlist_parse.specs.Kept.{playlist_in}
+use Rattle.playlist_kept.specs.Kept.{playlist_in}
 use Rattle.channel_window.specs.Marking.{so_far}
 use Rattle.channel_window.specs.Showing.{kept_before}
 use Rattle.channel_window.proofs.NewItems.{room_is, stepped_is}

@@ -3,7 +3,7 @@ use Rattle.stitcher.specs.StitchedSegments.{rest_in}
 use Rattle.channel_spec.specs.Live.{place_of, rest_over}
 use Rattle.channel_spec.specs.Successor.{first_number}
 use Rattle.channel_spec.specs.Kept.{listed}
-use Rattle.playlist_parse.specs.Kept.{playlist_in}
+use Rattle.playlist_kept.specs.Kept.{playlist_in}
 use Rattle.channel_window.specs.Marking.{so_far}
 use Rattle.channel_window.specs.Listed.{segments_in}
 use Rattle.channel_window.specs.Inner.Placing.{rest_count}

@@ -1,4 +1,4 @@
-use Rattle.std.proofs.Common.{◌≡◌, ℕ, ◌<◌, Bool, true, false, List, [], ◌∷◌, arith, refl}
+use Rattle.std.proofs.Common.{◌≡◌, ℕ, ◌<◌, true, List, [], ◌∷◌, arith}
 use Rattle.std.specs.Prelude.{None, zero, suc}
 use Rattle.std.specs.List.{list_all}
 use Rattle.std.specs.Char.{is_ascii_digit}
@@ -18,11 +18,7 @@ digits_are_ascii (b ∷ t) h zero = low b (and_parts _ _ h).0
 digits_are_ascii (b ∷ t) h (suc i) = digits_are_ascii t (and_parts _ _ h).1 i
 
 no_decimal : (t : List ℕ) → ¬ (IsUtf8 t) → None ≡ decimal_of t
-no_decimal t not_utf8 = by (list_all is_ascii_digit t) refl
-  where
-    by : (b : Bool) → list_all is_ascii_digit t ≡ b → None ≡ decimal_of t
-    by true e = absurd (not_utf8 (IsUtf8-from_ascii t (digits_are_ascii t e)))
-    by false e = grind arith
+no_decimal t not_utf8 = grind (arith, IsUtf8-from_ascii, digits_are_ascii)
 
 pub returns-in-Err : goal.returns-in-Err
 returns-in-Err c = no_decimal c.args.value.now c.in-Err.ensures.cases.0

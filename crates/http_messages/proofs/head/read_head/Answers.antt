@@ -1,8 +1,7 @@
-use Rattle.std.proofs.Common.{map, refl, sym, ap, ◌∙◌, arith}
+use Rattle.std.proofs.Common.{refl, sym, ap, ◌∙◌, arith}
 use Rattle.std.specs.Prelude.{Some, option_copied}
-use Rattle.httparse.specs.Borrowed.{header_parts}
-use Rattle.http_messages.specs.Requests.{framing_of}
-use Rattle.http_messages.proofs.HeadReads.{head_is_at, too_many, is_token_of}
+use Rattle.std.proofs.lemmas.Grind.{common_steps}
+use Rattle.http_messages.proofs.HeadReads.{too_many, is_token_of}
 use Rattle.http_messages.proofs.head.read_head.Goals as goal
 
 pub returns-then-request-gt-MAX_FIELDS : goal.returns-then-request-gt-MAX_FIELDS
@@ -18,12 +17,4 @@ returns-in-Err-Invalid c more h rest b =
     (ap option_copied c.in-Some-Some.is-0 ∙ ap Some (sym c.as_bytes.ensures.value))))
 
 pub returns : goal.returns
-returns c =
-    let p = rw c.in-Complete.is at c.in-Ok.ensures.complete in
-    let method = c.as_bytes.ensures.value in
-    let made = c.in-Ok-from_bytes.ensures.ok in
-    head_is_at c.args.bytes.now c.parse.new.self _ c.requires (omega (arith, c.if-request-gt-MAX_FIELDS.false)) p (record {
-      method = ap option_copied c.in-Some-Some.is-0 ∙ ap Some (sym (made ∙ method));
-      target = ap option_copied c.in-Some-Some.is-1 ∙ ap Some (sym c.in_ok-target.ensures);
-      framing = c.framing_of-framing.ensures ∙ ap (λ m. framing_of m (map header_parts c.parse.new.self.headers.now)) (sym (made ∙ method));
-    })
+returns c = grind (arith, common_steps)

@@ -4,7 +4,7 @@ use Rattle.std.specs.List.{list_any}
 use Rattle.std.proofs.lemmas.List.{length-map}
 use Rattle.playlist_model.specs.LookBack.{or_earlier}
 use Rattle.pod_store.specs.Inner.Store.{NameTheSame}
-use Rattle.playlist_parse.specs.Kept.{playlist_in}
+use Rattle.playlist_kept.specs.Kept.{playlist_in}
 use Rattle.playlist_write.specs.Owed.{playlist_text}
 use Rattle.playlist_write.specs.Laid.{IsFrontLength}
 use Rattle.playlist_write.specs.declared.OutPlaylist.{OutPlaylist}

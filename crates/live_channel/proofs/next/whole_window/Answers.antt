@@ -3,7 +3,7 @@ use Rattle.std.proofs.lemmas.List.{length-drop, length-map}
 use Rattle.playlist_model.specs.LookBack.{or_earlier}
 use Rattle.pod_store.specs.Inner.Store.{NameTheSame}
 use Rattle.stitcher.specs.Written.{written_item}
-use Rattle.playlist_parse.specs.Kept.{playlist_in}
+use Rattle.playlist_kept.specs.Kept.{playlist_in}
 use Rattle.playlist_write.specs.Laid.{IsLaid}
 use Rattle.channel_spec.specs.Kept.{shown_from, window_on}
 use Rattle.channel_spec.specs.Marking.{last_entered}

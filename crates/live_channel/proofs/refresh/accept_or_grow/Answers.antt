@@ -1,4 +1,4 @@
-use Rattle.playlist_parse.specs.Kept.{playlist_in}
+use Rattle.playlist_kept.specs.Kept.{playlist_in}
 use Rattle.live_channel.proofs.Accepting.{accepts}
 use Rattle.live_channel.proofs.refresh.accept_or_grow.Goals as goal
 

@@ -1,7 +1,7 @@
 use Rattle.std.proofs.Common.{ap, sym, ◌∙◌}
 use Rattle.channel_spec.specs.Successor.{answer_of, following_fault}
 use Rattle.channel_spec.specs.Kept.{succession_on, listed}
-use Rattle.playlist_parse.specs.Kept.{playlist_in}
+use Rattle.playlist_kept.specs.Kept.{playlist_in}
 use Rattle.channel_window.specs.Listed.{segments_in}
 use Rattle.channel_window.specs.Showing.{kept_in}
 use Rattle.channel_window.proofs.Found.{held_listed}

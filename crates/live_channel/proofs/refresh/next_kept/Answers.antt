@@ -4,7 +4,7 @@ use Rattle.std.specs.List.{list_all}
 use Rattle.stitcher.specs.Stitched.{fits}
 use Rattle.stitcher.specs.declared.marked.MarkedSegment.{MarkedSegment as Held}
 use Rattle.channel_spec.specs.Kept.{items_on}
-use Rattle.playlist_parse.specs.Kept.{playlist_in}
+use Rattle.playlist_kept.specs.Kept.{playlist_in}
 use Rattle.channel_window.specs.declared.state.ChannelState.{ChannelState}
 use Rattle.channel_window.specs.Listed.{RefusesList}
 use Rattle.channel_window.specs.Marking.{so_far}

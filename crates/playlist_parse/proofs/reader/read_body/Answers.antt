@@ -8,8 +8,8 @@ use Rattle.playlist_model.specs.Reading.{said_by, said_from, and_whole, limited,
 use Rattle.playlist_parse.specs.Inner.LineViews.{is_free}
 use Rattle.playlist_parse.specs.Inner.Reached.{Reached, Faulted, left_in}
 use Rattle.playlist_parse.specs.declared.reading.Reading.{Reading}
-use Rattle.playlist_parse.specs.declared.read_playlist.Read.{Read}
-use Rattle.playlist_parse.specs.Kept.{AreKeptLines, kept_segments, playlist_in}
+use Rattle.playlist_kept.specs.declared.read_playlist.Read.{Read}
+use Rattle.playlist_kept.specs.Kept.{AreKeptLines, kept_segments, playlist_in}
 use Rattle.playlist_parse.proofs.Light.{none_read, told_at, told_after}
 use Rattle.playlist_parse.proofs.Reached.{begun_at, none_more, unread}
 use Rattle.playlist_parse.proofs.GoingTo.{few_reached, plain_front, plain_after, kept_source, taken_on}

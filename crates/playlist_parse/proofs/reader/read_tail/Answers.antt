@@ -4,7 +4,7 @@ use Rattle.std.specs.Str.Lines.{lines}
 use Rattle.std.proofs.lemmas.List.{append-nil, length-map}
 use Rattle.playlist_parse.specs.Inner.LineViews.{is_free, line_text}
 use Rattle.playlist_parse.specs.Inner.Reached.{Reached, Telling}
-use Rattle.playlist_parse.specs.Kept.{playlist_in}
+use Rattle.playlist_kept.specs.Kept.{playlist_in}
 use Rattle.playlist_parse.proofs.Light.{is_over, told_after}
 use Rattle.playlist_parse.proofs.Reached.{none_more, told_whole}
 use Rattle.playlist_parse.proofs.GoingTo.{grown, if_ok}

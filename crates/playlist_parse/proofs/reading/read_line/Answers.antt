@@ -1,7 +1,7 @@
 use Rattle.playlist_parse.proofs.Light.{still_told, is_told}
 use Rattle.playlist_parse.proofs.Reached.{next, taken_ok, line_refused}
-use Rattle.std.proofs.Common.{◌++◌, ◌∙◌}
-use Rattle.playlist_parse.specs.Inner.Reached.{left_in}
+use Rattle.std.proofs.Common.{◌++◌, ◌∙◌, map}
+use Rattle.playlist_parse.specs.Inner.LineViews.{line_text}
 use Rattle.playlist_parse.proofs.reading.read_line.Goals as goal
 
 pub returns-clause-reached : goal.returns-clause-reached
@@ -9,13 +9,11 @@ returns-clause-reached c = λ base tail all here. c.pass_again.ensures.reached b
 
 pub returns-clause-light : goal.returns-clause-light
 returns-clause-light c = λ base tail fault told.
-    let r = c.args.reading.now in
-    c.pass_again.ensures.light base tail fault (still_told base r.progress c.line.new.self r.number c.args.line.now (left_in r ++ tail) fault _ c.in-Ok.ensures.light told)
+    c.pass_again.ensures.light base tail fault (still_told base c.args.progress.now c.line.new.self c.args.number.now c.args.line.now (map line_text c.args.lines.now ++ tail) fault _ c.in-Ok.ensures.light told)
 
 pub returns-in-Err-clause-reached : goal.returns-in-Err-clause-reached
 returns-in-Err-clause-reached c = λ base tail all here. line_refused c.in-Err.kind c.fault_at.result here c.in-Err.ensures.takes c.fault_at.ensures
 
 pub returns-in-Err-clause-light : goal.returns-in-Err-clause-light
 returns-in-Err-clause-light c = λ base tail fault told.
-    let r = c.args.reading.now in
-    c.fault_at.ensures ∙ is_told base r.progress c.line.new.self r.number c.args.line.now (left_in r ++ tail) fault c.in-Err.kind c.in-Err.ensures.light told
+    c.fault_at.ensures ∙ is_told base c.args.progress.now c.line.new.self c.args.number.now c.args.line.now (map line_text c.args.lines.now ++ tail) fault c.in-Err.kind c.in-Err.ensures.light told

@@ -3,7 +3,6 @@ use Rattle.std.specs.Str.Lines.{lines}
 use Rattle.std.proofs.lemmas.List.{append-nil}
 use Rattle.playlist_parse.specs.Inner.LineViews.{line_text}
 use Rattle.playlist_parse.specs.Inner.Reached.{Reached, left_in}
-use Rattle.playlist_parse.specs.declared.source.Source.{Source}
 use Rattle.playlist_parse.proofs.Reached.{begun_at}
 use Rattle.playlist_parse.proofs.source.front_of.Goals as goal
 
@@ -12,7 +11,7 @@ returns-in-Ok c =
     let old = c.reading_of-front.result in
     let new = c.read_some.new.reading in
     let base = c.args.base.now in
-    let text : c.as_str.result.now ≡ c.args.source.now.lines.text = c.as_str.ensures.text ∙ ap (λ (s : Source). s.lines.text) c.source.view_is in
+    let text : c.as_str.result.now ≡ c.args.source.now.lines.text = c.as_str.ensures.text in
     let lines_are : left_in old ++ [] ≡ lines c.args.source.now.lines.text = append-nil (left_in old) ∙ ap (map line_text) c.reading_of-front.ensures.lines ∙ c.new-lines.ensures.texts ∙ ap lines text in
     subst (λ left. Reached base new.progress new.number left (lines c.args.source.now.lines.text)) (append-nil (left_in new))
     (subst (λ ls. Reached base new.progress new.number (left_in new ++ []) ls) lines_are

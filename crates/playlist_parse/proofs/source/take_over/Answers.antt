@@ -1,7 +1,7 @@
 use Rattle.std.proofs.Common.{subst, sym}
 use Rattle.std.specs.Prelude.{IfOk}
-use Rattle.playlist_parse.specs.Inner.Places.{StandInBoth}
-use Rattle.playlist_parse.specs.Kept.{IsKept, kept_segments}
+use Rattle.playlist_kept.specs.Places.{StandInBoth}
+use Rattle.playlist_kept.specs.Kept.{IsKept, kept_segments}
 use Rattle.playlist_parse.proofs.GoingTo.{none_taken, on_ok}
 use Rattle.playlist_parse.proofs.source.take_over.Goals as goal
 

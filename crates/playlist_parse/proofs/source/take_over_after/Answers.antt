@@ -1,7 +1,6 @@
-use Rattle.std.proofs.Common.{rules, ◌≡◌, ◌+◌, true, false, map, ap, ◌∙◌}
+use Rattle.std.proofs.Common.{rules, ◌≡◌, true, false, map, ap, refl}
 use Rattle.std.specs.Str.Lines.{lines}
 use Rattle.playlist_parse.specs.Inner.LineViews.{line_text}
-use Rattle.playlist_parse.specs.declared.source.Source.{Source}
 use Rattle.playlist_parse.proofs.GoingTo.{took_over, stayed, plain_after, taken_over, none_taken}
 use Rattle.playlist_parse.proofs.source.take_over_after.Goals as goal
 
@@ -80,7 +79,7 @@ returns-in-Some-segment_count-clause-reached c =
     let done : c.in_ok-go_after.field-0 ≡ true = search rules in
     took_over c.args.reading.now c.args.front.now (record { progress = c.go_after.new.here; lines = c.in-Some.later; number = c.in-Some-number_after.next }) c.left.result.now c.args.source.now
     (c.in_ok-agrees.ensures agree) c.left.ensures c.in-Some.ensures (c.in_ok-go_after.ensures.gone done)
-    (c.in-Some-number_after.ensures ∙ ap (λ (s : Source). c.args.reading.now.number + s.lines.next) c.source.view_is)
+    c.in-Some-number_after.ensures
 
 pub returns-in-Some-segment_count-clause-plain : goal.returns-in-Some-segment_count-clause-plain
 returns-in-Some-segment_count-clause-plain c = plain_after (lines c.left.result.now) (map line_text c.args.reading.now.lines) (map line_text c.in-Some.later) c.in-Some.ensures
@@ -89,7 +88,7 @@ pub returns-in-Some-segment_count-clause-taken : goal.returns-in-Some-segment_co
 returns-in-Some-segment_count-clause-taken c =
     let done : c.in_ok-go_after.field-0 ≡ true = search rules in
     taken_over c.args.reading.now.progress c.args.front.now.progress c.go_after.new.here c.args.source.now _ (c.in_ok-go_after.ensures.gone done)
-    (search rules) (search rules) (search rules) (ap (λ (s : Source). s.lines.segments) c.source.view_is)
+    (search rules) (search rules) (search rules) refl
 
 pub returns-in-None-clause-reached : goal.returns-in-None-clause-reached
 returns-in-None-clause-reached c =
@@ -97,7 +96,7 @@ returns-in-None-clause-reached c =
     let done : c.in_ok-go_after.field-0 ≡ true = search rules in
     took_over c.args.reading.now c.args.front.now (record { progress = c.go_after.new.here; lines = c.in-Some.later; number = c.in-Some-number_after.next }) c.left.result.now c.args.source.now
     (c.in_ok-agrees.ensures agree) c.left.ensures c.in-Some.ensures (c.in_ok-go_after.ensures.gone done)
-    (c.in-Some-number_after.ensures ∙ ap (λ (s : Source). c.args.reading.now.number + s.lines.next) c.source.view_is)
+    c.in-Some-number_after.ensures
 
 pub returns-in-None-clause-plain : goal.returns-in-None-clause-plain
 returns-in-None-clause-plain c = plain_after (lines c.left.result.now) (map line_text c.args.reading.now.lines) (map line_text c.in-Some.later) c.in-Some.ensures

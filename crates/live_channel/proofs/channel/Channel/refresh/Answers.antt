@@ -5,7 +5,7 @@ use Rattle.channel_window.specs.Checked.{AreContiguous}
 use Rattle.channel_window.specs.Listed.{segments_in}
 use Rattle.channel_window.specs.Showing.{AreKept, kept_in}
 use Rattle.channel_window.specs.declared.state.ChannelState.{ChannelState}
-use Rattle.playlist_parse.specs.Kept.{IsAfter, IsKept, playlist_in}
+use Rattle.playlist_kept.specs.Kept.{IsAfter, IsKept, playlist_in}
 use Rattle.live_channel.specs.Channel.{Channel, IsListed, Refreshes, Stands, channel_with, text_in}
 use Rattle.live_channel.specs.Inner.Accepting.{Refused, RefusesNext}
 use Rattle.live_channel.specs.LastText.{IsLast}

@@ -1,5 +1,5 @@
 use Rattle.std.proofs.Common.{◌≡◌, ◌++◌, take, drop}
-use Rattle.playlist_parse.proofs.step.push_some.Given as goal
+use Rattle.playlist_kept.proofs.step.push_some.Given as goal
 
 -- those that are pushed, with those that are left to push, are the same always; so are those after them
 abbrev pub invariant-loop-left : goal.invariant-loop-left

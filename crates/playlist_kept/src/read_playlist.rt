@@ -1,8 +1,8 @@
 //! A playlist that was read. Segments that stand in the last text too needn't be read again, nor copied.
 ghost use Rattle.std.specs.Prelude.{◌≡◌, ◌<◌, ◌≤◌, ◌+◌, ◌^◌, ◌++◌, List, [], length, true, IfOk, OnOk};
 ghost use Rattle.std.specs.Option.{option_copied};
-ghost use Rattle.playlist_parse.specs.Inner.Places.{StandInBoth};
-ghost use Rattle.playlist_parse.specs.Kept.{IsTakenFrom, first_of, playlist_in};
+ghost use Rattle.playlist_kept.specs.Places.{StandInBoth};
+ghost use Rattle.playlist_kept.specs.Kept.{IsTakenFrom, first_of, playlist_in};
 ghost use Rattle.playlist_model.specs.declared.Segment.{Segment as SegmentRead};
 
 use crate::source::KeptLines;

@@ -3,7 +3,7 @@ use Rattle.std.proofs.Common.{◌≡◌, ℕ, ◌+◌, ◌≤◌, List, [], ◌�
 use Rattle.std.proofs.lemmas.List.{take-append-drop, take-append-le, drop-append-le, take_all, drop_all, length-take-le}
 use Rattle.playlist_model.specs.declared.Segment.{Segment}
 use Rattle.std.specs.Prelude.{Some}
-use Rattle.playlist_parse.specs.Kept.{first_of, with_taken}
+use Rattle.playlist_kept.specs.Kept.{first_of, with_taken}
 
 empty : {A : Type 0} (xs : List A) → length xs ≡ 0 → xs ≡ []
 empty [] h = refl

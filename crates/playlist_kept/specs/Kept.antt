@@ -5,10 +5,11 @@ use Rattle.playlist_model.specs.declared.Playlist.{Playlist}
 use Rattle.playlist_model.specs.declared.Segment.{Segment}
 use Rattle.playlist_model.specs.declared.FaultKind.TheVariants.{OutOfMemory}
 use Rattle.playlist_model.specs.Reading.{Fault}
-use Rattle.playlist_parse.specs.KeptLines.{KeptLines, WasRead}
-use Rattle.playlist_parse.specs.declared.read_playlist.Read.{Read}
-use Rattle.playlist_parse.specs.declared.source.Source.{Source}
-use Rattle.playlist_parse.specs.declared.step.Step.{Step}
+use Rattle.playlist_kept.specs.KeptLines.{WasRead}
+use Rattle.playlist_kept.specs.declared.source.KeptLines.{KeptLines}
+use Rattle.playlist_kept.specs.declared.read_playlist.Read.{Read}
+use Rattle.playlist_kept.specs.declared.source.Source.{Source}
+use Rattle.playlist_kept.specs.declared.step.Step.{Step}
 
 -- segments that were read, with those that were taken over after the first of them
 abbrev pub with_taken : ℕ → List Segment → List Segment → List Segment

@@ -7,18 +7,9 @@ use Rattle.playlist_model.specs.declared.Segment.{Segment}
 use Rattle.playlist_model.specs.Said.{Said, nothing}
 use Rattle.playlist_model.specs.LookBack.{latest, the_version, the_target, the_sequence, the_discontinuity_sequence, the_type, is_media, is_independent, is_ended, standing_at, segments_of, date_ranges_of}
 use Rattle.playlist_model.specs.Reading.{said_by, said_from, limited, is_set, has}
-use Rattle.segment_state.specs.Continued.{Stop, IsStop}
-use Rattle.playlist_parse.specs.declared.progress.ReadHeading.{ReadHeading}
-
--- the lines of a text after its header, up to one that names a segment; the number of the line after them, what the tags of the
--- whole playlist say in them, what stands after them, and how many segments and date ranges they have
-pub record KeptLines : Type 0 where
-  pub text : List ℕ
-  pub next : ℕ
-  pub heading : ReadHeading
-  pub stop : Stop
-  pub segments : ℕ
-  pub date_ranges : ℕ
+use Rattle.segment_state.specs.Continued.{IsStop}
+use Rattle.playlist_kept.specs.declared.heading.ReadHeading.{ReadHeading}
+use Rattle.playlist_kept.specs.declared.source.KeptLines.{KeptLines}
 
 -- the tags of the whole playlist say this in lines (RFC 8216, 4.3.1, 4.3.3 and 4.3.5)
 pub record SaysOfAll (heading : ReadHeading) (before : List Said) : Type 0 where

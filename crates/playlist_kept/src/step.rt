@@ -1,6 +1,6 @@
 //! What a playlist that was read leaves for the reading of the next one.
 ghost use Rattle.std.specs.Prelude.{◌≡◌, ◌++◌, IfOk, MatchOption, OnOk, drop, length, take};
-ghost use Rattle.playlist_parse.specs.Kept.{IsAfter, kept_segments, with_taken};
+ghost use Rattle.playlist_kept.specs.Kept.{IsAfter, kept_segments, with_taken};
 
 use crate::read_playlist::Read;
 use crate::source::{KeptLines, Source};

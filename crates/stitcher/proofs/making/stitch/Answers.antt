@@ -10,7 +10,7 @@ use Rattle.stitcher.proofs.Known.{known_after_front}
 use Rattle.stitcher.proofs.Outcomes.{handed_on, if_ok}
 use Rattle.stitcher.proofs.Putting.{Walks, walks_on, comes_whole, passes_whole, none_left}
 use Rattle.stitcher.proofs.Runs.{in_order}
-use Rattle.stitcher.proofs.making.stitch_at.Goals as goal
+use Rattle.stitcher.proofs.making.stitch.Goals as goal
 
 abbrev nothing : Numbers → Made
 nothing first = record { first = first; last = None; items = [] }

@@ -1,5 +1,5 @@
 use Rattle.std.proofs.Common.{◌≡◌, ◌++◌, length}
-use Rattle.playlist_parse.proofs.read_playlist.copy_segments.Given as goal
+use Rattle.playlist_kept.proofs.read_playlist.copy_segments.Given as goal
 
 abbrev pub invariant-loop-segment : goal.invariant-loop-segment
 invariant-loop-segment l = l.list.items ++ l.rest ≡ l.initial.list.items ++ l.more

@@ -4,7 +4,7 @@ use Rattle.std.specs.List.{list_all}
 use Rattle.stitcher.specs.StitchedSegments.{item_fits, KnowRuns}
 use Rattle.stitcher.specs.Inner.Making.{numbers_fit, pieces_on, pieces_between}
 use Rattle.stitcher.proofs.Putting.{Walks}
-use Rattle.stitcher.proofs.making.stitch_at.Given as goal
+use Rattle.stitcher.proofs.making.stitch.Given as goal
 
 abbrev pub invariant-loop-here : goal.invariant-loop-here
 invariant-loop-here l = record {

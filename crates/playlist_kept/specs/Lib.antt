@@ -1,0 +1,3 @@
+pub mod Kept
+pub mod KeptLines
+pub mod Places

@@ -1,0 +1,13 @@
+//! A playlist that was read, with the segments that it has in common with the last one, and what is kept of it for the reading
+//! of the next one. Whoever works on what was read needs no reader.
+#![tactic(auto)]
+
+mod heading;
+mod read_playlist;
+mod source;
+mod step;
+
+pub use heading::ReadHeading;
+pub use read_playlist::{Places, Read, placed};
+pub use source::{KeptLines, Source};
+pub use step::Step;
