@@ -6,6 +6,7 @@ import re
 import shutil
 import signal
 import sys
+from collections.abc import Iterable
 from typing import NoReturn
 
 NO_KIT = ("the command rt isn't on the path. It is the Rattle kit's, which proves and compiles this program: "
@@ -31,7 +32,7 @@ def help_at(words: list[str], said: str | None) -> None:
 def usage() -> str:
     """What the program says of words that it doesn't take, as its source has it. Fails if that has none."""
     with open(MAIN, encoding="utf-8") as it:
-        return re.findall(r'^const USAGE: &str = "(.*)\\n";$', it.read(), re.MULTILINE)[0]
+        return str(re.findall(r'^const USAGE: &str = "(.*)\\n";$', it.read(), re.MULTILINE)[0])
 
 
 def program_at(word: str) -> str:
@@ -59,6 +60,17 @@ def files_at(words: list[str]) -> list[str]:
         if not os.path.isfile(word):
             end(f"there is no file {word}")
     return words
+
+
+def told(kind: str, faults: Iterable[str]) -> int:
+    """Prints what is wrong of each case, nothing of one that is right, and how many passed; the exit status."""
+    passed = failed = 0
+    for fault in faults:
+        passed, failed = passed + (not fault), failed + bool(fault)
+        if fault:
+            print(fault)
+    print(f"{kind}: {passed} passed, {failed} failed")
+    return 1 if failed or not passed else 0
 
 
 def number_at(words: list[str], place: int, usual: int) -> int:

@@ -3,12 +3,14 @@ import os
 import random
 import socket
 import subprocess
+import sys
 import time
 
-SECONDS = 60  # for one connection, or for a server to end
+sys.path.append(os.path.join(os.path.dirname(os.path.dirname(os.path.abspath(__file__))), "live"))
+from served import SECONDS, Served  # noqa: E402
 
 
-class Server:
+class Server(Served):
     """A fresh server for so many connections. `ports`: those that no other server of this run is given."""
 
     def __init__(self, program, control, count, ports):
@@ -28,37 +30,17 @@ class Server:
                     raise OSError(f"the server ended: {ended}")
                 return False
             try:
-                self.first = self.connection()
+                self.first = super().connect()
                 return True
             except ConnectionRefusedError:
                 time.sleep(0.0005)
         self.running.kill()
         raise TimeoutError("the server doesn't listen")
 
-    def connection(self):
-        return socket.create_connection(("127.0.0.1", self.port), SECONDS)
-
-    def ask(self, request, is_cut=False):
-        """What the server answers to these bytes, up to the end of the connection. A request that is cut ends there."""
-        with self.first or self.connection() as it:
-            self.first = None
-            try:
-                it.sendall(request)
-                if is_cut:
-                    it.shutdown(socket.SHUT_WR)
-            except (BrokenPipeError, ConnectionResetError):
-                pass  # (it was answered before it was read whole)
-            return read_all(it)
-
-    def end(self):
-        """Its status, and what it printed."""
-        try:
-            out, err = self.running.communicate(timeout=SECONDS)
-        except subprocess.TimeoutExpired:
-            self.running.kill()
-            out, err = self.running.communicate()
-            err += b"(it did not end)"
-        return self.running.returncode, out, err
+    def connect(self):
+        """The first connection, and then fresh ones."""
+        first, self.first = self.first, None
+        return first or super().connect()
 
 
 def free_port(ports):
@@ -73,15 +55,3 @@ def free_port(ports):
             except OSError:
                 pass  # (somebody has it)
     raise OSError("no port is free")
-
-
-def read_all(it):
-    found = b""
-    while True:
-        try:
-            some = it.recv(1 << 16)
-        except ConnectionResetError:
-            return found + b"(reset)"
-        if not some:
-            return found
-        found += some
