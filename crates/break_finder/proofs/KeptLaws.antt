@@ -1,5 +1,5 @@
 -- The known breaks beside what is kept of them.
-use Rattle.std.proofs.Common.{◌≡◌, ℕ, Bool, true, false, cond, List, [], ◌∷◌, map, refl, Some, option_map, filter, not, ◌&&◌, arith}
+use Rattle.std.proofs.Common.{◌≡◌, ℕ, Bool, true, false, cond, List, [], ◌∷◌, map, refl, sym, ap, ◌∙◌, Some, option_map, filter, not, ◌&&◌, arith}
 use Rattle.std.specs.Prelude.{Option, bytes_eq, fold}
 use Rattle.std.specs.List.{AllZip, AllByRecursion, IsDistinct}
 use Rattle.std.specs.Map.{keys_of}
@@ -23,7 +23,7 @@ kept_all id (e ∷ es) = grind (arith, kept_all id es)
 
 -- what is kept of an ID is what is said of its break
 pub said_kept : (id : List ℕ) (es : Pairs) (breaks : List Break) (found : Option Described) → map break_at es ≡ breaks → found ≡ kept_for id es → found ≡ said_of breaks id
-said_kept id es breaks found view_is found_is = grind (arith, kept_all)
+said_kept id es breaks found view_is found_is = found_is ∙ sym (kept_all id es) ∙ ap (λ bs. said_of bs id) view_is
 
 -- what is inserted is what the tag adds
 pub added : (es : Pairs) (k : List ℕ) (said : Described) (tag : DateRange) → k ≡ tag.id → said ≡ and_tag (said_or_nothing (kept_for tag.id es)) tag
