@@ -140,6 +140,20 @@ OTHERS = (
     Limit("the bytes of a request's body", (MESSAGES, "body_limit = {n}\n"), (
         ("crates/http_messages/src/head.rt", "MAX_BODY_BYTES: u64 = {n:_};"),
         ("plant/adsplice_rules/edge.py", "MOST_BODY = {n:_}\n"))),
+    Limit("the reads of an input or a request", ("crates/byte_streams/specs/Fair.antt", "most_reads = {n}\n"), (
+        ("crates/byte_streams/src/device.rt", "MAX_READS: u64 = {n:_};"),
+        ("tests/run_devices", "MAX_READS = {n:_} "),
+        ("docs/DECISIONS.md", "(at most {n:,} reads of"),
+        ("docs/OPERATING.md", "{n:,} reads of its input, and no end"),
+        ("docs/OPERATING.md", "{n:,} reads and no whole request"),
+        ("docs/PROOF.md", "each of {n:,} reads gave bytes"),
+        ("docs/PROOF.md", "with its {n:,}th piece"))),
+    Limit("the bytes of a break's ID", ("crates/pod_store/specs/Pods.antt", "nat_le (length text) {n} && value_fits"), (
+        ("crates/decision_files/src/texts.rt", "MAX_ID_BYTES: usize = {n};"),
+        ("plant/adsplice_rules/decisions.py", "len(text.encode()) <= {n}\n"),
+        ("docs/DECISION_FILES.md", "1 to {n} bytes, once in a file"),
+        ("docs/decisions.schema.json", "1 to {n} bytes of UTF-8"),
+        ("docs/decisions.schema.json", '"maxLength": {n},'))),
     Limit("a channel's tolerance", ("crates/channel_spec/specs/Limits.antt", "max_tolerance = {n}\n"), (
         ("crates/channel_spec/src/lib.rt", "MAX_TOLERANCE: u64 = {n:_};"),
         ("plant/adsplice_plant/faults.py", "a duration of at most {s} s"),
