@@ -36,7 +36,8 @@ pub struct Line<'a> {
     pub text: &'a str,
 }
 
-fn is_blank(line: &str) -> bool
+/// Whether `line` has no character but spaces.
+pub(crate) fn is_blank(line: &str) -> bool
     ensures { result ≡ is_blank line.now }
 {
     line.as_bytes().iter().all(|b| *b == b' ')

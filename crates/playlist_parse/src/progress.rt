@@ -15,7 +15,7 @@ ghost use Rattle.playlist_parse.specs.Inner.Source.{gone_to};
 ghost use Rattle.playlist_kept.specs.Kept.{playlist_in};
 
 use crate::date_ranges::{DateRanges, Known};
-use crate::line::{LineKind, Lines, kind_of, stated_in, whole_line};
+use crate::line::{LineKind, Lines, is_blank, kind_of, stated_in, whole_line};
 use crate::tag::{Tag, tag_of};
 use attr_list::read_decimal;
 use playlist_kept::{Read, ReadHeading};
@@ -105,7 +105,10 @@ impl<'a> Progress<'a> {
         if let Some(stated) = line.strip_prefix("#EXTINF:") {
             return self.duration(stated);
         }
-        self.other_line(line)
+        if line.starts_with("#") {
+            return self.marked_line(line);
+        }
+        self.unmarked_line(line)
     }
 
     #[tactic(auto, using(crate::proofs::Again::line_again))]
@@ -147,20 +150,45 @@ impl<'a> Progress<'a> {
         }
     }
 
-    // What a line without control characters adds.
+    // What a line adds that begins with `#` and has no control characters.
     #[inline(never)]
-    fn other_line(&mut self, line: &'a str) -> Result<(), FaultKind>
-        requires { has_control line.now ≡ false }
+    fn marked_line(&mut self, line: &'a str) -> Result<(), FaultKind>
+        requires printable { has_control line.now ≡ false }
+        requires marked { kinds.is_comment line.now ≡ true }
         ensures takes { TakesLine
             (λ base before. said_by limited base before line.now) self.old self.new result }
         ensures light { IsLight line.now → TakesLineExactly
             (λ base before. said_by limited base before line.now) self.old self.new result }
     {
-        match kind_of(line) {
-            LineKind::Ignored => Ok(()),
-            LineKind::Uri(uri) => self.uri(uri),
-            LineKind::Tag { name, rest, colon } => self.tag(name, rest, colon),
+        // Two tags that many segments have, taken without the names of all.
+        if let Some(stated) = line.strip_prefix("#EXT-X-PROGRAM-DATE-TIME:") {
+            return self.time(stated);
         }
+        if let Some(stated) = line.strip_prefix("#EXT-X-BYTERANGE:") {
+            return self.byte_range(stated);
+        }
+        match kind_of(line) {
+            LineKind::Tag { name, rest, colon } => self.tag(name, rest, colon),
+            // (a URI doesn't begin so)
+            LineKind::Ignored | LineKind::Uri(_) => Ok(()),
+        }
+    }
+
+    #[tactic(auto, using(crate::proofs::LineLemmas::unmarked_uri))]
+    // What a line adds that doesn't begin with `#` and has no control characters: a segment, unless it is blank.
+    #[inline(never)]
+    fn unmarked_line(&mut self, line: &'a str) -> Result<(), FaultKind>
+        requires printable { has_control line.now ≡ false }
+        requires unmarked { kinds.is_comment line.now ≡ false }
+        ensures takes { TakesLine
+            (λ base before. said_by limited base before line.now) self.old self.new result }
+        ensures light { IsLight line.now → TakesLineExactly
+            (λ base before. said_by limited base before line.now) self.old self.new result }
+    {
+        if is_blank(line) {
+            return Ok(());
+        }
+        self.uri(line)
     }
 
     fn uri(&mut self, reference: &str) -> Result<(), FaultKind>
