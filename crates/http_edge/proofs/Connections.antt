@@ -1,6 +1,8 @@
 -- What a connection came to.
-use Rattle.std.proofs.Common.{◌≡◌, ℕ, Bool, true, List, refl, ap, subst, ◌∙◌, inl, inr}
-use Rattle.std.specs.Prelude.{Result, Ok, Err, OnOk, OnErr, IfOk, IsErrOf}
+use Rattle.std.proofs.Common.{◌≡◌, ℕ, Bool, true, List, refl, ap, subst, ◌∙◌, inr, arith}
+use Rattle.std.specs.Prelude.{Result, OnOk, OnErr, IfOk, IsErrOf}
+use Rattle.std.proofs.lemmas.Grind.{common_steps}
+use Rattle.std.proofs.lemmas.Bool.Decides.{nat_tests}
 use Rattle.byte_streams.specs.Stands.{SourceStand, SinkStand, TookAll, FailedAfterFront}
 use Rattle.http_messages.specs.declared.message.Reply.{Reply}
 use Rattle.http_messages.specs.declared.receiving.Asked.{Asked}
@@ -15,8 +17,7 @@ use Rattle.http_edge.specs.Served.{IsReplyTo, IsServed, HasServed, HasServedFron
 -- the reply to what bytes ask serves them
 pub serves : (bytes : List ℕ) (it : Asked) (old new : List NamedChannel) (reply : Reply) (with_body : Bool) (status : ℕ) → IsAsked bytes it
     → IsReplyTo it old new reply with_body → status ≡ reply.status → IsServed bytes old new (text_sent with_body reply) status
-serves bytes (Request request) old new reply with_body status a k f =
-    inl (record { request = request; reply = reply; asks = a; answers = k.0; text_is = ap (λ b. text_sent b reply) k.1; status_is = f })
+serves bytes (Request request) old new reply with_body status a k f = grind arith
 serves bytes (Refused refusal) old new reply with_body status a k f = inr (record {
   refusal = refusal;
   refused = a;
@@ -28,38 +29,22 @@ serves bytes (Refused refusal) old new reply with_body status a k f = inr (recor
 -- and is what a source asked is answered, of whose text the sink took this
 replies : (Took : List ℕ → Type 0) (it : Asked) (old new : List NamedChannel) (reply : Reply) (with_body : Bool) (status : ℕ)
     → IsReplyTo it old new reply with_body → status ≡ reply.status → Took (text_sent with_body reply) → HasReplied Took old new it status
-replies Took (Request request) old new reply with_body status k f w =
-    record { reply = reply; answers = k.0; status_is = f; written = subst (λ b. Took (text_sent b reply)) k.1 w }
-replies Took (Refused refusal) old new reply with_body status k f w = record {
-  kept = k.0;
-  status_is = f ∙ ap (λ (r : Reply). r.status) k.1;
-  written = subst (λ r. Took (text_sent true r)) k.1 (subst (λ b. Took (text_sent b reply)) k.2 w);
-}
+replies Took (Request request) old new reply with_body status k f w = grind arith
+replies Took (Refused refusal) old new reply with_body status k f w = grind (arith, common_steps, nat_tests)
 
 module _ (so sn : SourceStand) (ko kn : SinkStand) (it : Asked) (old new : List NamedChannel) (reply : Reply) (with_body : Bool) (k : IsReplyTo it old new reply with_body) where
   pub served_whole : (r : Result Served EdgeFault) → HasAsked so sn it → OnOk r (TookAll ko kn (text_sent with_body reply))
       → IfOk r (λ (x : Served). x.status ≡ reply.status) → IfOk r (λ (x : Served). HasServed so sn ko kn old new x.status)
-  served_whole (Ok x) a w f =
-      record { bytes = a.bytes; text = text_sent with_body reply; given = a.given; served = serves a.bytes it old new reply with_body x.status a.asks k f; written = w }
-  served_whole (Err x) a w f = tt
+  served_whole r a w f = grind (arith, serves)
 
   pub served_front : (r : Result Served EdgeFault) (fault : EdgeFault) → HasAsked so sn it → OnErr r (FailedAfterFront ko kn (text_sent with_body reply))
       → IsErrOf r fault → HasServedFront so sn ko kn old new
-  served_front r fault a w f = record {
-    bytes = a.bytes;
-    text = text_sent with_body reply;
-    status = reply.status;
-    given = a.given;
-    served = serves a.bytes it old new reply with_body reply.status a.asks k refl;
-    written = subst (λ x. OnErr x (FailedAfterFront ko kn (text_sent with_body reply))) f w;
-  }
+  served_front r fault a w f = grind (arith, serves)
 
 module _ (ko kn : SinkStand) (it : Asked) (old new : List NamedChannel) (reply : Reply) (with_body : Bool) (k : IsReplyTo it old new reply with_body) where
   pub replied_whole : (held : Asked) → it ≡ held → (r : Result Served EdgeFault) → OnOk r (TookAll ko kn (text_sent with_body reply))
       → IfOk r (λ (x : Served). x.status ≡ reply.status) → IfOk r (λ (x : Served). HasRepliedWhole ko kn old new held x.status)
-  replied_whole held same (Ok x) w f =
-      subst (λ q. HasRepliedWhole ko kn old new q x.status) same (replies (TookAll ko kn) it old new reply with_body x.status k f w)
-  replied_whole held same (Err x) w f = tt
+  replied_whole held same r w f = grind (arith, replies)
 
   pub replied_front : (held : Asked) → it ≡ held → (r : Result Served EdgeFault) (fault : EdgeFault) → OnErr r (FailedAfterFront ko kn (text_sent with_body reply))
       → IsErrOf r fault → HasRepliedFront ko kn old new held

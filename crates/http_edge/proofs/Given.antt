@@ -74,8 +74,7 @@ module _ (old new : Channel) (bytes : List ℕ) (given : GivenChannel) (h : IsGi
 
   pub refresh_taken : (E : Type 0) (done : Refreshed) (reply : Reply) → AnswersRefresh old bytes given.events (Ok done) new → reply ≡ bare 204
       → TakesOne {E = E} (refreshed bytes) (refresh_owed bytes) given (Ok reply) new
-  refresh_taken E done reply a e =
-      (e ∙ ap refresh_reply (a.answer ∙ same_answer old given h bytes), stands_on (Ok done) a)
+  refresh_taken E done reply a e = grind arith
 
   refused_left : (fault : RefreshFault) → AnswersAs old bytes given.events (Err fault) new → IsGiven new given
   refused_left fault a =
@@ -87,9 +86,7 @@ module _ (old new : Channel) (bytes : List ℕ) (given : GivenChannel) (h : IsGi
 
   pub refresh_refused : {E : Type 0} (fault : RefreshFault) (r : Result Reply E) → is_out_of_memory (Err fault) ≡ false → AnswersRefresh old bytes given.events (Err fault) new
       → IfOk r (λ reply. reply ≡ refresh_reply (Err fault)) → TakesOne (refreshed bytes) (refresh_owed bytes) given r new
-  refresh_refused fault (Ok reply) e a q =
-      let done = answers (Err fault) e a in
-      (q ∙ ap refresh_reply (done.answer ∙ same_answer old given h bytes), stands_on (Err fault) done)
+  refresh_refused fault (Ok reply) e a q = grind arith
   refresh_refused fault (Err x) e a q = refused_left fault (answers (Err fault) e a)
 
 -- ---- decisions
@@ -106,16 +103,9 @@ module _ (old new : Channel) (bytes : List ℕ) (given : GivenChannel) (h : IsGi
 
   pub decisions_taken : (E : Type 0) (reply : Reply) → (after_bytes old.kept.store bytes ≡ Ok new.kept.store) × (new ≡ with_store old new.kept.store)
       → Represents new (decided bytes ∷ given.events) → reply ≡ bare 204 → TakesOne {E = E} (decided bytes) (decisions_owed bytes) given (Ok reply) new
-  decisions_taken E reply o s e = (
-    e ∙ ap decisions_reply (sym (sym same_outcome ∙ o.0)),
-    record { base = ap (λ (c : Channel). c.base) o.1 ∙ h.base; tolerance = ap (λ (c : Channel). c.tolerance) o.1 ∙ h.tolerance; stands = s },
-  )
+  decisions_taken E reply o s e = grind arith
 
   pub decisions_refused : {E : Type 0} (fault : DecisionFault) (r : Result Reply E) → fault ≢ no_memory → (new ≡ old) × Refuses fault (after_bytes old.kept.store bytes)
       → (fault ≢ no_memory → Represents new (decided bytes ∷ given.events)) → IfOk r (λ reply. reply ≡ decisions_reply (Err fault))
       → TakesOne (decided bytes) (decisions_owed bytes) given r new
-  decisions_refused fault (Ok reply) n o s q = (
-    q ∙ ap decisions_reply (sym (sym same_outcome ∙ o.1 n)),
-    record { base = ap (λ (c : Channel). c.base) o.0 ∙ h.base; tolerance = ap (λ (c : Channel). c.tolerance) o.0 ∙ h.tolerance; stands = s n },
-  )
-  decisions_refused fault (Err x) n o s q = decisions_left o.0
+  decisions_refused fault r n o s q = grind arith

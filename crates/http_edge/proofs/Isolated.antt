@@ -25,9 +25,14 @@ is_named x entry = bytes_eq x entry.name
 abbrev pub picked : List ℕ → Table → Table
 picked x table = filter (λ (entry : TableEntry). bytes_eq x entry.name) table
 
+given_step : (b : Bool) (x : List ℕ) (e : TableEntry) (p : Table) (q : Option GivenChannel) → bytes_eq x e.name ≡ b → given_at x p ≡ q
+    → given_at x (cond b (e ∷ p) p) ≡ cond b (Some e.given) q
+given_step true x e p q is h = ap (λ c. cond c (Some e.given) (given_at x p)) is
+given_step false x e p q is h = h
+
 given_picked : (x : List ℕ) (table : Table) → given_at x (picked x table) ≡ given_at x table
 given_picked x [] = refl
-given_picked x (e ∷ later) = grind (arith, given_picked x later)
+given_picked x (e ∷ later) = given_step (bytes_eq x e.name) x e (picked x later) (given_at x later) refl (given_picked x later)
 
 put_step : (b : Bool) (x : List ℕ) (g : GivenChannel) (e : TableEntry) (later put p : Table) → bytes_eq x e.name ≡ b → picked x later ≡ p → picked x put ≡ put_given x g p
     → picked x (cond b (record e { given = g } ∷ later) (e ∷ put)) ≡ put_given x g (cond b (e ∷ p) p)
@@ -35,15 +40,16 @@ put_step b x g e later put p is same h = grind arith
 
 put_picked : (x : List ℕ) (g : GivenChannel) (table : Table) → picked x (put_given x g table) ≡ put_given x g (picked x table)
 put_picked x g [] = refl
-put_picked x g (e ∷ later) = grind (arith, put_picked x g later)
+put_picked x g (e ∷ later) = put_step (bytes_eq x e.name) x g e later (put_given x g later) (picked x later) refl refl (put_picked x g later)
 
 without_step : (b : Bool) (x : List ℕ) (e : TableEntry) (later out p : Table) → bytes_eq x e.name ≡ b → picked x later ≡ p → picked x out ≡ without x p
     → picked x (cond b later (e ∷ out)) ≡ without x (cond b (e ∷ p) p)
-without_step b x e later out p is same h = grind arith
+without_step true x e later out p is same h = same ∙ sym (ap (λ c. cond c p (e ∷ without x p)) is)
+without_step false x e later out p is same h = ap (λ c. cond c (e ∷ picked x out) (picked x out)) is ∙ h
 
 without_picked : (x : List ℕ) (table : Table) → picked x (without x table) ≡ without x (picked x table)
 without_picked x [] = refl
-without_picked x (e ∷ later) = grind (arith, without_picked x later)
+without_picked x (e ∷ later) = without_step (bytes_eq x e.name) x e later (without x later) (picked x later) refl refl (without_picked x later)
 
 none_step : (b : Bool) (e : TableEntry) (p : Table) (q : Option GivenChannel) → is_some (cond b (Some e.given) q) ≡ false → (is_some q ≡ false → p ≡ []) → cond b (e ∷ p) p ≡ []
 none_step true e p q n h = absurd (true≢false n)
@@ -51,11 +57,15 @@ none_step false e p q n h = h n
 
 none_picked : (x : List ℕ) (table : Table) → is_some (given_at x table) ≡ false → picked x table ≡ []
 none_picked x [] n = refl
-none_picked x (e ∷ later) n = grind (arith, none_picked x later)
+none_picked x (e ∷ later) n = none_step (bytes_eq x e.name) e (picked x later) (given_at x later) n (none_picked x later)
+
+append_step : (b : Bool) (e : TableEntry) (p q r : Table) → r ≡ p ++ q → cond b (e ∷ r) r ≡ cond b (e ∷ p) p ++ q
+append_step true e p q r h = ap (λ l. e ∷ l) h
+append_step false e p q r h = h
 
 append_picked : (x : List ℕ) (table more : Table) → picked x (table ++ more) ≡ picked x table ++ picked x more
 append_picked x [] more = refl
-append_picked x (e ∷ later) more = grind (arith, append_picked x later more)
+append_picked x (e ∷ later) more = append_step (bytes_eq x e.name) e (picked x later) (picked x more) (picked x (later ++ more)) (append_picked x later more)
 
 append_nothing : (table : Table) → table ++ [] ≡ table
 append_nothing [] = refl
@@ -77,7 +87,8 @@ put_other x n g (e ∷ later) other = put_other_step (bytes_eq n e.name) x n g e
 
 without_other_step : (b : Bool) (x n : List ℕ) (e : TableEntry) (later out : Table) → bytes_eq x n ≡ false → bytes_eq n e.name ≡ b → picked x out ≡ picked x later
     → picked x (cond b later (e ∷ out)) ≡ picked x (e ∷ later)
-without_other_step b x n e later out other is h = grind (arith, not_this)
+without_other_step true x n e later out other is h = sym (ap (λ c. cond c (e ∷ picked x later) (picked x later)) (not_this x n e other is))
+without_other_step false x n e later out other is h = ap (λ l. cond (bytes_eq x e.name) (e ∷ l) l) h
 
 without_other : (x n : List ℕ) (table : Table) → bytes_eq x n ≡ false → picked x (without n table) ≡ picked x table
 without_other x n [] other = refl
@@ -98,22 +109,17 @@ removed_other x n table (Some g) other = without_other x n table other
 
 added_other_step : (b c : Bool) (x n : List ℕ) (e : TableEntry) (table : Table) (one two : Reply) → bytes_eq x e.name ≡ false
     → picked x (cond b (unmoved table one) (cond c (unmoved table two) (record { reply = bare 201; table = table ++ e ∷ [] }))).table ≡ picked x table
-added_other_step b c x n e table one two other = grind (arith, append_picked, append_nothing)
-
-either_table : (b : Bool) (x : List ℕ) (t u : Turn) (table : Table) → picked x t.table ≡ picked x table → picked x u.table ≡ picked x table
-    → picked x (cond b t u).table ≡ picked x table
-either_table true x t u table h k = h
-either_table false x t u table h k = k
+added_other_step b c x n e table one two other = grind (arith, append_nothing, append_picked)
 
 tried_other : (x n : List ℕ) (tolerance : ℕ) (table : Table) (o : Option Parts) → bytes_eq x n ≡ false → picked x (tried table n tolerance o).table ≡ picked x table
-tried_other x n tolerance table o other = grind (arith, either_table, added_other_step)
+tried_other x n tolerance table o other = grind (arith, added_other_step)
 
 made_other : (x n : List ℕ) (table : Table) (said : Result (List ℕ × ℕ) BodyFault) → bytes_eq x n ≡ false → picked x (made table n said).table ≡ picked x table
 made_other x n table (Err fault) other = refl
 made_other x n table (Ok said) other = tried_other x n said.1 table (base_of said.0) other
 
 at_other : (x n : List ℕ) (r : Request) (resource : Resource) (table : Table) → bytes_eq x n ≡ false → picked x (turn_at table r n resource).table ≡ picked x table
-at_other x n r resource table other = grind (arith, either_table, made_other, removed_other, event_other, read_other)
+at_other x n r resource table other = grind (arith, event_other, made_other, read_other, removed_other)
 
 pub turn_other : (x : List ℕ) (r : Request) (o : Option (List ℕ × Resource)) (table : Table) → names x o ≡ false → picked x (routed table r o).table ≡ picked x table
 turn_other x r None table other = refl
@@ -127,11 +133,12 @@ shown x t = record { reply = t.reply; table = picked x t.table }
 
 event_shown : (x : List ℕ) (event : channel.Given) (owed : GivenChannel → Reply) (table : Table) (o : Option GivenChannel)
     → shown x (event_turn table x event owed o) ≡ event_turn (picked x table) x event owed o
-event_shown x event owed table o = grind (arith, put_picked)
+event_shown x event owed table None = refl
+event_shown x event owed table (Some g) = ap (λ (l : Table). record { reply = owed g; table = l }) (put_picked x (with_event event g) table)
 
 event_this : (x : List ℕ) (event : channel.Given) (owed : GivenChannel → Reply) (table : Table)
     → shown x (event_turn table x event owed (given_at x table)) ≡ event_turn (picked x table) x event owed (given_at x (picked x table))
-event_this x event owed table = grind (arith, event_shown, given_picked)
+event_this x event owed table = event_shown x event owed table (given_at x table) ∙ ap (event_turn (picked x table) x event owed) (sym (given_picked x table))
 
 read_shown : (x : List ℕ) (reply : GivenChannel → Reply) (table : Table) (o : Option GivenChannel) → shown x (read_turn table reply o) ≡ read_turn (picked x table) reply o
 read_shown x reply table None = refl
@@ -139,13 +146,14 @@ read_shown x reply table (Some g) = refl
 
 read_this : (x : List ℕ) (reply : GivenChannel → Reply) (table : Table)
     → shown x (read_turn table reply (given_at x table)) ≡ read_turn (picked x table) reply (given_at x (picked x table))
-read_this x reply table = grind (arith, read_shown, given_picked)
+read_this x reply table = read_shown x reply table (given_at x table) ∙ ap (read_turn (picked x table) reply) (sym (given_picked x table))
 
 removed_shown : (x : List ℕ) (table : Table) (o : Option GivenChannel) → shown x (removed table x o) ≡ removed (picked x table) x o
-removed_shown x table o = grind (arith, without_picked)
+removed_shown x table None = refl
+removed_shown x table (Some g) = ap (λ (l : Table). record { reply = bare 204; table = l }) (without_picked x table)
 
 removed_this : (x : List ℕ) (table : Table) → shown x (removed table x (given_at x table)) ≡ removed (picked x table) x (given_at x (picked x table))
-removed_this x table = grind (arith, removed_shown, given_picked)
+removed_this x table = removed_shown x table (given_at x table) ∙ ap (removed (picked x table) x) (sym (given_picked x table))
 
 -- if there is none of this name there is room
 abbrev room : Bool → Table → TableEntry → Turn
@@ -160,26 +168,23 @@ grown x base tolerance table p none is = grind (arith, append_picked, bytes_eq-D
 
 room_step : (c : Bool) (x : List ℕ) (base : Parts) (tolerance : ℕ) (table : Table) → picked x table ≡ [] → was_served (room c table (fresh x base tolerance)).reply ≡ true
     → shown x (room c table (fresh x base tolerance)) ≡ room (nat_le 64 (length (picked x table))) (picked x table) (fresh x base tolerance)
-room_step c x base tolerance table none served = grind (arith, true≢false, grown)
+room_step true x base tolerance table none served = absurd (true≢false (sym served))
+room_step false x base tolerance table none served = grown x base tolerance table (picked x table) none refl
 
 added_step : (b c : Bool) (x : List ℕ) (base : Parts) (tolerance : ℕ) (table : Table) → is_some (given_at x table) ≡ b
     → was_served (cond b (taken table) (room c table (fresh x base tolerance))).reply ≡ true
     → shown x (cond b (taken table) (room c table (fresh x base tolerance)))
     ≡ cond b (taken (picked x table)) (room (nat_le 64 (length (picked x table))) (picked x table) (fresh x base tolerance))
-added_step b c x base tolerance table is served = grind (arith, room_step, none_picked)
+added_step true c x base tolerance table is served = refl
+added_step false c x base tolerance table is served = room_step c x base tolerance table (none_picked x table is) served
 
 added_this : (x : List ℕ) (base : Parts) (tolerance : ℕ) (table : Table) → was_served (added table x base tolerance).reply ≡ true
     → shown x (added table x base tolerance) ≡ added (picked x table) x base tolerance
 added_this x base tolerance table served = grind (arith, added_step, given_picked)
 
-either_shown : (b : Bool) (x : List ℕ) (t u v w : Turn) → was_served (cond b t u).reply ≡ true → (was_served t.reply ≡ true → shown x t ≡ v)
-    → (was_served u.reply ≡ true → shown x u ≡ w) → shown x (cond b t u) ≡ cond b v w
-either_shown true x t u v w served h k = h served
-either_shown false x t u v w served h k = k served
-
 tried_this : (x : List ℕ) (tolerance : ℕ) (table : Table) (o : Option Parts) → was_served (tried table x tolerance o).reply ≡ true
     → shown x (tried table x tolerance o) ≡ tried (picked x table) x tolerance o
-tried_this x tolerance table o served = grind (arith, either_shown, added_this)
+tried_this x tolerance table o served = grind (arith, added_this)
 
 made_this : (x : List ℕ) (table : Table) (said : Result (List ℕ × ℕ) BodyFault) → was_served (made table x said).reply ≡ true
     → shown x (made table x said) ≡ made (picked x table) x said
@@ -188,7 +193,7 @@ made_this x table (Ok said) served = tried_this x said.1 table (base_of said.0) 
 
 at_this : (x : List ℕ) (r : Request) (resource : Resource) (table : Table) → was_served (turn_at table r x resource).reply ≡ true
     → shown x (turn_at table r x resource) ≡ turn_at (picked x table) r x resource
-at_this x r resource table served = grind (arith, either_shown, made_this, removed_this, event_this, read_this)
+at_this x r resource table served = grind (arith, event_this, made_this, read_this, removed_this)
 
 named_this : (x n : List ℕ) (r : Request) (resource : Resource) (table : Table) → n ≡ x → was_served (turn_at table r n resource).reply ≡ true
     → shown x (turn_at table r n resource) ≡ turn_at (picked x table) r n resource
@@ -196,7 +201,8 @@ named_this x n r resource table is served = grind (arith, at_this)
 
 turn_this : (x : List ℕ) (r : Request) (o : Option (List ℕ × Resource)) (table : Table) → names x o ≡ true → was_served (routed table r o).reply ≡ true
     → shown x (routed table r o) ≡ routed (picked x table) r o
-turn_this x r o table on served = grind (arith, true≢false, named_this, bytes_eq-Decides)
+turn_this x r None table on served = absurd (true≢false (sym on))
+turn_this x r (Some route) table on served = named_this x route.0 r route.1 table (sym ((bytes_eq-Decides x route.0).0 on)) served
 
 -- ---- all requests
 
@@ -228,9 +234,7 @@ step : (b : Bool) (x : List ℕ) (r : Request) (before left : List Request) (rep
 step true x r before left replies is served h =
     let parts = and_parts (was_served (reply_to before r)) (list_all was_served replies) served in
     served_step x r before left replies is parts.0 (h parts.1)
-step false x r before left replies is served h =
-    let k = h served in
-    (turn_other x r (route_of (path_of r.target)) (table_of before) is ∙ k.0, k.1)
+step false x r before left replies is served h = grind (arith, turn_other)
 
 alike : (x : List ℕ) (requests : List Request) → list_all was_served (replies_on x requests) ≡ true
     → Alike x requests (table_of requests) (replies_on x requests) (alone x requests)

@@ -1,5 +1,5 @@
 -- What a channel's requests are answered in a run.
-use Rattle.std.proofs.Common.{◌≡◌, ℕ, Bool, true, false, cond, List, [], ◌∷◌, refl, sym, ap, subst, ◌∙◌, true≢false, inl, inr, arith}
+use Rattle.std.proofs.Common.{◌≡◌, ℕ, Bool, true, false, cond, List, [], ◌∷◌, refl, sym, ap, subst, ◌∙◌, true≢false, arith}
 use Rattle.std.specs.Prelude.{Option, Some, None, ◌&&◌, filter}
 use Rattle.pod_store.specs.declared.fault.DecisionKind.TheVariants as decision
 use Rattle.channel_spec.specs.declared.fault.RefreshFault.TheVariants as fault
@@ -7,6 +7,7 @@ use Rattle.live_channel.specs.Channel as channel
 use Rattle.http_messages.specs.declared.message.Request.{Request}
 use Rattle.http_messages.specs.Replies.{bare}
 use Rattle.channel_api.specs.declared.routes.Resource.{Resource}
+use Rattle.channel_api.specs.Routes.{path_of, route_of}
 use Rattle.http_edge.specs.Table.{Table, turn_at, routed, turn, table_of}
 use Rattle.http_edge.specs.Edges.{NamedChannel, RepresentsRequests, Stands, TakesTurn}
 use Rattle.http_edge.specs.Isolation.{is_on, was_served, Exchange, IsRun, is_served_on, asked_of, answered_of, RunsAreIsolated}
@@ -33,7 +34,8 @@ record Follows (x : List ℕ) (served : List Exchange) (last : List NamedChannel
 -- what is left out of a channel's exchanges leaves its entries
 entries_left : (b : Bool) (x : List ℕ) (r : Request) (table : Table) → is_on x r ≡ b → (b && was_served (turn table r).reply) ≡ false
     → picked x (turn table r).table ≡ picked x table
-entries_left b x r table on is = grind (arith, picked, turn_left, turn_other)
+entries_left true x r table on is = ap (picked x) (turn_left r (route_of (path_of r.target)) table is)
+entries_left false x r table on is = turn_other x r (route_of (path_of r.target)) table on
 
 module _ (x : List ℕ) (e : Exchange) (served : List Exchange) (old new : List NamedChannel) (h : Follows x served old) where
   abbrev table : Table
@@ -54,10 +56,7 @@ module _ (x : List ℕ) (e : Exchange) (served : List Exchange) (old new : List 
   refused_in same is = absurd (true≢false (sym (and_parts (is_on x e.request) (was_served e.reply) is).1 ∙ ap was_served same))
 
   either_way : (b : Bool) → is_served_on x e ≡ b → TakesTurn (turn table e.request) table e.reply new → Follows x (cond b (e ∷ served) served) new
-  either_way true is (inl t) = owed_in t.0 t.1 is
-  either_way true is (inr t) = refused_in t.0 is
-  either_way false is (inl t) = owed_out t.0 t.1 is
-  either_way false is (inr t) = record { requests = h.requests; stands = t.1; alike = h.alike }
+  either_way b is h1 = grind (arith, owed_in, owed_out)
 
 -- ---- all exchanges
 

@@ -1,5 +1,5 @@
 -- What the map's words do to what it stands for.
-use Rattle.std.proofs.Common.{◌≡◌, ℕ, Bool, true, false, cond, List, [], ◌∷◌, ◌++◌, length, map, suc, refl, sym, ap, true≢false}
+use Rattle.std.proofs.Common.{◌≡◌, ℕ, Bool, cond, List, [], ◌∷◌, ◌++◌, length, map, suc, refl, ap, arith}
 use Rattle.std.specs.Prelude.{Option, Some, None, bytes_eq, String, string_bytes}
 use Rattle.std.specs.Map.{lookup, set_value, remove_entry}
 use Rattle.live_channel.specs.Channel as channel
@@ -26,13 +26,6 @@ pub some_agrees : (k : channel.Channel) (q : Option GivenChannel) → Agree (Som
 some_agrees k None h = absurd h
 some_agrees k (Some g) h = (g, refl, h)
 
-agree_step : (b c : Bool) (k : channel.Channel) (g : GivenChannel) (o : Option channel.Channel) (q : Option GivenChannel) → b ≡ c → IsGiven k g → Agree o q
-    → Agree (cond b (Some k) o) (cond c (Some g) q)
-agree_step true true k g o q e s h = s
-agree_step false false k g o q e s h = h
-agree_step true false k g o q e s h = absurd (true≢false e)
-agree_step false true k g o q e s h = absurd (true≢false (sym e))
-
 module _ {A : Type 0} (name : List ℕ) where
   same_test : (key : String A) (entry : List ℕ) → string_bytes key ≡ entry → is_at name key ≡ bytes_eq name entry
   same_test key entry e = ap (bytes_eq name) e
@@ -41,40 +34,31 @@ module _ {A : Type 0} (name : List ℕ) where
   found [] [] s = tt
   found [] (t ∷ ts) s = absurd s
   found (e ∷ es) [] s = absurd s
-  found (e ∷ es) (t ∷ ts) s =
-      agree_step (is_at name e.0) (bytes_eq name t.name) e.1 t.given (lookup (is_at name) es) (given_at name ts) (same_test e.0 t.name s.0) s.1 (found es ts s.2)
+  found (e ∷ es) (t ∷ ts) s = grind (arith, found es ts s.2)
 
   set_step : (b c : Bool) (e : String A × channel.Channel) (w : channel.Channel) (g : GivenChannel) (t : TableEntry) (es fs : Entries A) (ts us : Table) → b ≡ c
       → string_bytes e.0 ≡ t.name → IsGiven e.1 t.given → IsGiven w g → Stands (map kept_of es) ts → Stands (map kept_of fs) us
       → Stands (map kept_of (cond b ((e.0, w) ∷ es) (e ∷ fs))) (cond c (record t { given = g } ∷ ts) (t ∷ us))
-  set_step true true e w g t es fs ts us q n s h r i = (n, h, r)
-  set_step false false e w g t es fs ts us q n s h r i = (n, s, i)
-  set_step true false e w g t es fs ts us q n s h r i = absurd (true≢false q)
-  set_step false true e w g t es fs ts us q n s h r i = absurd (true≢false (sym q))
+  set_step b c e w g t es fs ts us q n s h r i = grind arith
 
   pub put : (es : Entries A) (table : Table) (w : channel.Channel) (g : GivenChannel) → Stands (map kept_of es) table → IsGiven w g
       → Stands (map kept_of (set_value (is_at name) es w)) (put_given name g table)
   put [] [] w g s h = tt
   put [] (t ∷ ts) w g s h = absurd s
   put (e ∷ es) [] w g s h = absurd s
-  put (e ∷ es) (t ∷ ts) w g s h =
-      set_step (is_at name e.0) (bytes_eq name t.name) e w g t es (set_value (is_at name) es w) ts (put_given name g ts) (same_test e.0 t.name s.0) s.0 s.1 h s.2 (put es ts w g s.2 h)
+  put (e ∷ es) (t ∷ ts) w g s h = grind (arith, put es ts w g s.2 h)
 
   remove_step : (b c : Bool) (e : String A × channel.Channel) (t : TableEntry) (es fs : Entries A) (ts us : Table) → b ≡ c
       → string_bytes e.0 ≡ t.name → IsGiven e.1 t.given → Stands (map kept_of es) ts → Stands (map kept_of fs) us
       → Stands (map kept_of (cond b es (e ∷ fs))) (cond c ts (t ∷ us))
-  remove_step true true e t es fs ts us q n s r i = r
-  remove_step false false e t es fs ts us q n s r i = (n, s, i)
-  remove_step true false e t es fs ts us q n s r i = absurd (true≢false q)
-  remove_step false true e t es fs ts us q n s r i = absurd (true≢false (sym q))
+  remove_step b c e t es fs ts us q n s r i = grind arith
 
   pub taken_out : (es : Entries A) (table : Table) → Stands (map kept_of es) table
       → Stands (map kept_of (remove_entry (is_at name) es)) (without name table)
   taken_out [] [] s = tt
   taken_out [] (t ∷ ts) s = absurd s
   taken_out (e ∷ es) [] s = absurd s
-  taken_out (e ∷ es) (t ∷ ts) s =
-      remove_step (is_at name e.0) (bytes_eq name t.name) e t es (remove_entry (is_at name) es) ts (without name ts) (same_test e.0 t.name s.0) s.0 s.1 s.2 (taken_out es ts s.2)
+  taken_out (e ∷ es) (t ∷ ts) s = grind (arith, taken_out es ts s.2)
 
   pub added_after : (es : Entries A) (table : Table) (key : String A) (k : channel.Channel) (g : GivenChannel) → Stands (map kept_of es) table
       → string_bytes key ≡ name → IsGiven k g → Stands (map kept_of (es ++ (key, k) ∷ [])) (table ++ record { name = name; given = g } ∷ [])

@@ -1,6 +1,6 @@
 -- What the edge's calls do, as turns.
 use Rattle.std.proofs.Common.{◌≡◌, ℕ, ◌<◌, ◌≤◌, Bool, true, false, List, [], ◌∷◌, ◌++◌, length, map, refl, sym, ap, subst, cond, ◌∙◌, arith, true≢false}
-use Rattle.std.specs.Prelude.{Option, Some, None, Result, Ok, Err, IfOk, IsErr, IsSome, unwrap_or, is_some, nat_lt, nat_le}
+use Rattle.std.specs.Prelude.{Option, Some, None, Result, Ok, Err, IfOk, IsErr, IsSome, unwrap_or, bytes_eq, is_some, nat_lt, nat_le}
 use Rattle.std.specs.declared.alloc.AllocError.{AllocError}
 use Rattle.std.specs.Map.{lookup, set_value, remove_entry}
 use Rattle.std.proofs.lemmas.Bool.Decides.{nat_tests}
@@ -18,32 +18,34 @@ use Rattle.channel_api.specs.declared.named.Naming.TheVariants as naming
 use Rattle.channel_api.specs.Named.{is_at, PutsNamed}
 use Rattle.channel_api.proofs.Names.{none_is}
 use Rattle.http_edge.specs.Channels.{GivenChannel, IsGiven, with_event}
-use Rattle.channel_api.specs.Replies.{not_found, bad_base, bad_tolerance, exists, live_reply, why_text, text_reply}
+use Rattle.channel_api.specs.Replies.{not_found, bad_tolerance, exists, live_reply, why_text, text_reply}
 use Rattle.http_edge.specs.Replies.{live_owed, why_owed}
 use Rattle.http_edge.specs.Inner.Replies.{channel_fault_reply}
 use Rattle.channel_spec.specs.Limits.{max_tolerance}
 use Rattle.http_edge.specs.Table.{Table, TableEntry, Turn, turn, table_of, unmoved, event_turn, given_at, put_given, without, removed, read_turn, made, tried, added, fresh}
 use Rattle.http_edge.specs.Inner.Events.{TakesOne, TakesEvent}
 use Rattle.http_edge.specs.Edges.{NamedChannel, kept_of, Stands, RepresentsSome, TakenTurn}
-use Rattle.http_edge.proofs.Given.{text_is, why_is}
+use Rattle.http_edge.proofs.Given.{why_is}
 use Rattle.http_edge.proofs.Tables.{Entries, Agree, none_agrees, some_agrees, found, put, taken_out, added_after, as_many}
 
 -- nothing moved
 pub unmoved_turn : {E : Type 0} (table : Table) (x : Reply) (t : Turn) (r : Result Reply E) (kept : List NamedChannel) → t ≡ unmoved table x
     → IfOk r (λ y. y ≡ x) → Stands kept table → TakenTurn t table r kept
-unmoved_turn table x t k kept e h s = grind arith
+unmoved_turn table x t (Ok y) kept e h s = (h ∙ ap (λ (u : Turn). u.reply) (sym e), subst (Stands kept) (ap (λ (u : Turn). u.table) (sym e)) s)
+unmoved_turn table x t (Err f) kept e h s = s
 
 some_same : (a b : GivenChannel) → Some a ≡ Some b → a ≡ b
 some_same a b e = ap (λ o. unwrap_or o a) e
 
 same_first : (b : Bool) (t : TableEntry) (ts us : Table) (g : GivenChannel) (q : Option GivenChannel) → cond b (Some t.given) q ≡ Some g → (q ≡ Some g → us ≡ ts)
     → cond b (record t { given = g } ∷ ts) (t ∷ us) ≡ t ∷ ts
-same_first b t ts us g q e rest = grind arith
+same_first true t ts us g q e rest = let k = some_same t.given g e in ap (λ (x : GivenChannel). record t { given = x } ∷ ts) (sym k)
+same_first false t ts us g q e rest = ap (λ l. t ∷ l) (rest e)
 
 -- what is there already
 put_same : (name : List ℕ) (table : Table) (g : GivenChannel) → given_at name table ≡ Some g → put_given name g table ≡ table
 put_same name [] g e = refl
-put_same name (t ∷ ts) g e = grind (arith, put_same name ts g)
+put_same name (t ∷ ts) g e = same_first (bytes_eq name t.name) t ts (put_given name g ts) g (given_at name ts) e (put_same name ts g)
 
 -- an event that was taken, or that left what the channel stood for
 module _ {A : Type 0} (es : Entries A) (table : Table) (name : List ℕ) (event : channel.Given) (owed : GivenChannel → Reply) (g : GivenChannel) (new : channel.Channel)
@@ -72,22 +74,26 @@ none_at es table name s there = none_agrees (given_at name table) (subst (λ o. 
 -- a channel that is there
 pub some_at : {A : Type 0} (es : Entries A) (table : Table) (name : List ℕ) (k : channel.Channel) → Stands (map kept_of es) table → Some k ≡ lookup (is_at name) es
     → (g : GivenChannel) × (given_at name table ≡ Some g) × IsGiven k g
-some_at es table name k s there = grind (arith, some_agrees, Agree, found)
+some_at es table name k s there = some_agrees k (given_at name table) (subst (λ o. Agree o (given_at name table)) (sym there) (found name es table s))
 
 -- what is read of a channel
 pub live_turn : {A E : Type 0} (es : Entries A) (table : Table) (name : List ℕ) (k : channel.Channel) (r : Result Reply E) (kept : List NamedChannel)
     → Stands (map kept_of es) table → Some k ≡ lookup (is_at name) es → IfOk r (λ y. y ≡ live_reply k.text) → Stands kept table
     → TakenTurn (read_turn table live_owed (given_at name table)) table r kept
-live_turn es table name k r kept s there q now = grind (arith, some_at, unmoved_turn, text_is)
+live_turn es table name k r kept s there q now = grind (arith, some_at)
 
 pub why_turn : {A E : Type 0} (es : Entries A) (table : Table) (name : List ℕ) (k : channel.Channel) (r : Result Reply E) (kept : List NamedChannel)
     → Stands (map kept_of es) table → Some k ≡ lookup (is_at name) es → IfOk r (λ y. y ≡ text_reply (why_text (explained k.kept) k.kept.breaks)) → Stands kept table
     → TakenTurn (read_turn table why_owed (given_at name table)) table r kept
-why_turn es table name k r kept s there q now = grind (arith, some_at, unmoved_turn, why_is)
+why_turn es table name k r kept s there q now = grind (arith, some_at, why_is)
+
+first_kept : (b : Bool) (t : TableEntry) (ts us : Table) (q : Option GivenChannel) → cond b (Some t.given) q ≡ None → (q ≡ None → us ≡ ts) → cond b ts (t ∷ us) ≡ t ∷ ts
+first_kept true t ts us q e rest = absurd (true≢false (ap is_some e))
+first_kept false t ts us q e rest = ap (λ l. t ∷ l) (rest e)
 
 without_none : (name : List ℕ) (table : Table) → given_at name table ≡ None → without name table ≡ table
 without_none name [] e = refl
-without_none name (t ∷ ts) e = grind (arith, without_none name ts)
+without_none name (t ∷ ts) e = first_kept (bytes_eq name t.name) t ts (without name ts) (given_at name ts) e (without_none name ts)
 
 pub removed_none : {A E : Type 0} (es fs : Entries A) (table : Table) (name : List ℕ) (r : Result Reply E) → Stands (map kept_of es) table
     → is_some (lookup (is_at name) es) ≡ false → fs ≡ remove_entry (is_at name) es → IfOk r (λ y. y ≡ not_found)
@@ -104,14 +110,9 @@ some_is (Some x) h = (x, refl)
 pub removed_some : {A : Type 0} (E : Type 0) (es fs : Entries A) (table : Table) (name : List ℕ) (y : Reply) → Stands (map kept_of es) table
     → IsSome (lookup (is_at name) es) → fs ≡ remove_entry (is_at name) es → y ≡ bare 204
     → TakenTurn {E = E} (removed table name (given_at name table)) table (Ok y) (map kept_of fs)
-removed_some E es fs table name y s there after q = grind (arith, some_is, some_at, taken_out)
+removed_some E es fs table name y s there after q = grind (arith, some_at, taken_out)
 
 -- ---- making a channel
-
--- a failed allocation is no reply
-no_reply : {E : Type 0} (table : Table) (t : Turn) (r : Result Reply E) (kept : List NamedChannel) → IsErr r → Stands kept table → TakenTurn t table r kept
-no_reply table t (Ok reply) kept e s = absurd (true≢false (sym e))
-no_reply table t (Err x) kept e s = s
 
 is_over : (tolerance : ℕ) → 10000000000 < tolerance → nat_lt max_tolerance tolerance ≡ true
 is_over tolerance h = grind (arith, nat_tests)
@@ -124,38 +125,22 @@ module _ (table : Table) (name base : List ℕ) (tolerance : ℕ) (said : Result
   made_is_tried = ap (made table name) e
 
   over : (p : Parts) → base_of base ≡ Some p → 10000000000 < tolerance → made table name said ≡ unmoved table bad_tolerance
-  over p b h =
-      made_is_tried ∙ ap (tried table name tolerance) b ∙ ap (λ c. cond c (unmoved table bad_tolerance) (added table name p tolerance)) (is_over tolerance h)
+  over p b h = grind arith
 
   pub channel_refused : {E : Type 0} (other : List ℕ) (cause : ChannelFault) (r : Result Reply E) (kept : List NamedChannel) → other ≡ base
       → (cause ≡ fault.BadBase → base_of other ≡ None) → (cause ≡ fault.BadTolerance → IsSome (base_of other) × (10000000000 < tolerance))
       → IfOk r (λ y. y ≡ channel_fault_reply cause) → (cause ≡ fault.OutOfMemory → IsErr r) → Stands kept table → TakenTurn (made table name said) table r kept
-  channel_refused other fault.BadBase r kept n b t q m s =
-      unmoved_turn table bad_base _ r kept (made_is_tried ∙ ap (tried table name tolerance) (sym (ap base_of n) ∙ b refl)) q s
-  channel_refused other fault.BadTolerance r kept n b t q m s =
-      let parts = some_is (base_of other) (t refl).0 in
-      unmoved_turn table bad_tolerance _ r kept (over parts.0 (sym (ap base_of n) ∙ parts.1) (t refl).1) q s
-  channel_refused other fault.OutOfMemory r kept n b t q m s = no_reply table (made table name said) r kept (m refl) s
+  channel_refused other cause r kept n b t q m s = grind arith
 
   pub made_is_added : (parts : Parts) → base_of base ≡ Some parts → tolerance ≤ 10000000000 → made table name said ≡ added table name parts tolerance
-  made_is_added parts b within =
-      made_is_tried ∙ ap (tried table name tolerance) b ∙ ap (λ c. cond c (unmoved table bad_tolerance) (added table name parts tolerance)) (is_within tolerance within)
+  made_is_added parts b within = grind arith
 
 same_some : (o : Option channel.Channel) (q : Option GivenChannel) → Agree o q → is_some o ≡ is_some q
-same_some None None h = refl
-same_some (Some k) (Some g) h = refl
-same_some None (Some g) h = absurd h
-same_some (Some k) None h = absurd h
+same_some o q h = grind arith
 
 there_as : {A : Type 0} (es : Entries A) (table : Table) (name : List ℕ) (b : Bool) → Stands (map kept_of es) table → is_some (lookup (is_at name) es) ≡ b
     → is_some (given_at name table) ≡ b
-there_as es table name b s e = grind (arith, same_some, found)
-
-as_full : (n m : ℕ) → 64 ≤ n → n ≡ m → nat_le 64 m ≡ true
-as_full n m h e = grind (arith, nat_tests)
-
-as_room : (n m : ℕ) → n < 64 → n ≡ m → nat_le 64 m ≡ false
-as_room n m h e = grind (arith, nat_tests)
+there_as es table name b s e = sym (same_some (lookup (is_at name) es) (given_at name table) (found name es table s)) ∙ e
 
 -- a channel that is taken in, or not
 module _ (table : Table) (name : List ℕ) (parts : Parts) (tolerance : ℕ) where
@@ -181,16 +166,11 @@ module _ (table : Table) (name : List ℕ) (parts : Parts) (tolerance : ℕ) whe
 
     pub is_full : {E : Type 0} (r : Result Reply E) → PutsNamed {E = AllocError} 64 name k es (Ok naming.Full) fs → IfOk r (λ y. y ≡ bare 503)
         → TakenTurn (added table name parts tolerance) table r (map kept_of fs)
-    is_full r p q =
-        let full = as_full _ _ p.1 (as_many es table s) in
-        unmoved_turn table (bare 503) _ r _ (is_free p.0 ∙ ap (λ c. cond c (unmoved table (bare 503)) grown) full) q (left p.2)
+    is_full r p q = grind (arith, as_many, is_free, left, unmoved_turn)
 
     pub is_added : (E : Type 0) (y : Reply) → PutsNamed {E = AllocError} 64 name k es (Ok naming.Done) fs
         → IsGiven k (record { base = parts; tolerance = tolerance; events = [] }) → y ≡ bare 201 → TakenTurn {E = E} (added table name parts tolerance) table (Ok y) (map kept_of fs)
-    is_added E y p h q =
-        let t = is_free p.0 ∙ ap (λ c. cond c (unmoved table (bare 503)) grown) (as_room _ _ p.1 (as_many es table s)) in
-        subst (λ x. TakenTurn {E = E} x table (Ok y) (map kept_of fs)) (sym t)
-        (q, subst (λ l. Stands (map kept_of l) grown.table) (sym p.4) (added_after name es table p.2 k (record { base = parts; tolerance = tolerance; events = [] }) s p.3 h))
+    is_added E y p h q = grind (arith, added_after, as_many, is_free)
 
 -- ---- what an edge stands for
 

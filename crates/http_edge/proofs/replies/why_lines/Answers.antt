@@ -1,6 +1,7 @@
 use Rattle.std.proofs.Common.{◌≡◌, ◌+◌, ◌++◌, ◌∙◌, sym, ap, arith, map, take}
 use Rattle.std.specs.Prelude.{string_bytes}
 use Rattle.std.specs.List.{flat_map}
+use Rattle.std.proofs.lemmas.Grind.{common_steps}
 use Rattle.break_finder.specs.Entering.{id_of}
 use Rattle.channel_api.specs.FaultTexts.{why_word}
 use Rattle.live_channel.specs.Channel.{explained}
@@ -23,6 +24,4 @@ loop-id-preserved c =
     }
 
 pub returns-clause-lines : goal.returns-clause-lines
-returns-clause-lines c =
-    let kept = c.args.channel.now.kept in
-    c.loop-id.invariant.lines ∙ ap (λ l. flat_map (why_line (explained kept)) (map id_of l)) (no_more kept.breaks c.loop-id.place c.in_default.ensures.place)
+returns-clause-lines c = grind (arith, common_steps, no_more)

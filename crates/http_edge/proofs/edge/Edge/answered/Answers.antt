@@ -1,7 +1,8 @@
-use Rattle.std.proofs.Common.{subst, sym, ap, ◌∙◌}
+use Rattle.std.proofs.Common.{subst, ap, ◌∙◌, arith}
+use Rattle.std.proofs.lemmas.Grind.{common_steps}
 use Rattle.channel_api.specs.Routes.{path_of, route_of}
 use Rattle.http_edge.specs.Table.{routed}
-use Rattle.http_edge.specs.Edges.{Stands, TakenTurn}
+use Rattle.http_edge.specs.Edges.{TakenTurn}
 use Rattle.http_edge.proofs.Turns.{stands_for_some}
 use Rattle.http_edge.proofs.edge.Edge.answered.Goals as goal
 
@@ -12,7 +13,4 @@ invariant_of-self c =
     (λ table s. subst (λ o. TakenTurn (routed table c.args.request.now o) table c.on_resource.result c.on_resource.new.self) route (c.on_resource.ensures table s))
 
 pub returns : goal.returns
-returns c table s =
-    let route = c.in-Some.ensures ∙ ap (λ t. route_of (path_of t)) c.as_str.ensures.text in
-    subst (λ o. TakenTurn (routed table c.args.request.now o) table c.on_resource.result c.on_resource.new.self) route
-    (c.on_resource.ensures table (subst (λ k. Stands k table) (sym c.self.view_is) s))
+returns c table s = grind (arith, common_steps)
