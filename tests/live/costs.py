@@ -224,7 +224,7 @@ KINDS = [
     Kind("one break with a long ID", lambda part: twice(one_break(int(10_000 * part), int(4_000_000 * part)), FALLBACK)),
     Kind("a closed break with a long ID", lambda part: twice(closed_break(int(10_000 * part), int(3_500_000 * part)), FALLBACK)),
     Kind("two breaks with long IDs, entered in turns", lambda part: twice(breaks_in_turns(int(10_000 * part), int(200_000 * part)), FALLBACK),
-         "4.9 s a push of the largest size, and 1.3 GB stay held"),
+         "3.1 s a push of the largest size"),
     Kind("two breaks with long IDs among small ones", lambda part: twice(long_among_small(int(11_000 * part), int(1_200_000 * part)), FALLBACK)),
     Kind("why of breaks that ended, under a long fallback", reasons),
     Kind("one EXT-X-MAP with a long URI", lambda part: twice(under(b'#EXT-X-MAP:URI="%s"\n' % (b"m" * int(4_000_000 * part)), int(10_000 * part))),
