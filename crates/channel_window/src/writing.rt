@@ -496,6 +496,10 @@ pub fn date_ranges_left<'a>(
         (λ v. v.items ≡ map date_range_text
         (date_ranges_left (list_any states_time items.now) ids.now date_ranges.now)) }
 {
+    // Most playlists have no date range, and no item need be looked at then.
+    if date_ranges.is_empty() {
+        return Ok(Vec::new(alloc));
+    }
     if !is_any_timed(items) {
         return Ok(Vec::new(alloc));
     }

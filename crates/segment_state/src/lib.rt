@@ -6,6 +6,7 @@ ghost use Rattle.std.specs.Prelude.{◌≡◌, ◌+◌, ◌^◌, ◌<◌, ◌≤
 ghost use Rattle.std.specs.Option.{SomeIff};
 ghost use Rattle.playlist_model.specs.LookBack.{byte_range_from, byte_range_after, extent_with};
 ghost use Rattle.playlist_model.specs.Reading.{limited, said_by_uri};
+ghost use Rattle.playlist_model.specs.EffectiveKeys.{effective_key};
 ghost use Rattle.playlist_model.specs.Said as said;
 ghost use Rattle.spec_words.specs.Outcomes.{Tells};
 ghost use Rattle.playlist_model.specs.Said.{uri_of, duration_said};
@@ -265,6 +266,14 @@ impl<'a> ReaderState<'a> {
         self.discontinuity_sequence + self.discontinuity_count
     }
 
+    // The keys of the segment of this number (RFC 8216, section 5.2).
+    #[inline(always)]
+    fn keys_of(&self, number: u64) -> Result<Keys, AllocError>
+        ensures { IfOk result (λ keys. keys ≡ map (effective_key number) self.now.standing.keys) }
+    {
+        self.keys.under(number)
+    }
+
     // The initialisation section in force.
     fn init_section(&self) -> Result<Option<Shared<InitSection>>, AllocError>
         ensures { IfOk result (λ init_section. init_section ≡ self.now.standing.init_section) }
@@ -272,7 +281,8 @@ impl<'a> ReaderState<'a> {
         self.init_section.clone()
     }
 
-    // The next segment, of this resource, byte range, and duration with its title.
+    // The next segment, of this resource, byte range, and duration with its title, under these keys and this
+    // initialisation section. It can't fail, so that the segment is made where it stays.
     #[inline(always)]
     fn segment_here(
         &self,
@@ -280,24 +290,27 @@ impl<'a> ReaderState<'a> {
         uri: ShortText,
         byte_range: Option<ByteRange>,
         own: (Nanos, Shared<ShortText>),
-    ) -> Result<Segment, AllocError>
-        requires { number ≡ self.now.standing.media_sequence + self.now.standing.media_count }
-        ensures { IfOk result
-            (λ segment. segment ≡ segment_from self.now.standing uri byte_range own) }
+        keys: Keys,
+        init_section: Option<Shared<InitSection>>,
+    ) -> Segment
+        requires number { number ≡ self.now.standing.media_sequence + self.now.standing.media_count }
+        requires keys { keys ≡ map (effective_key number) self.now.standing.keys }
+        requires init_section { init_section ≡ self.now.standing.init_section }
+        ensures { result ≡ segment_from self.now.standing uri byte_range own }
     {
         let (duration, title) = own;
-        Ok(Segment {
+        Segment {
             media_sequence: number,
             discontinuity_sequence: self.discontinuity_number(),
             discontinuities: self.discontinuities,
             uri,
             byte_range,
-            keys: self.keys.under(number)?,
-            init_section: self.init_section()?,
+            keys,
+            init_section,
             duration,
             title,
             program_date_time: self.program_date_time,
-        })
+        }
     }
 
     // What holds after a URI line, of whose segment this part is kept: a segment's own tags end with it (RFC 8216,
@@ -312,7 +325,9 @@ impl<'a> ReaderState<'a> {
         self.durations.end();
         self.byte_range = None;
         self.program_date_time = None;
-        self.last = last;
+        if self.last.is_some() || last.is_some() {
+            self.last = last;
+        }
     }
 
     /// The segment of the URI line `reference` (RFC 8216, sections 4.3.2 and 5.2), which takes the tags of one
@@ -350,7 +365,9 @@ impl<'a> ReaderState<'a> {
             return self.take_part(number, reference, own);
         }
         let uri = self.references.resolve(reference)?;
-        let segment = self.segment_here(number, uri, None, own)?;
+        let keys = self.keys_of(number)?;
+        let init_section = self.init_section()?;
+        let segment = self.segment_here(number, uri, None, own, keys, init_section);
         self.segment_stands(None);
         Ok(segment)
     }
@@ -373,7 +390,9 @@ impl<'a> ReaderState<'a> {
     {
         let uri = self.references.resolve_part(reference)?;
         let byte_range = self.next_byte_range(uri.as_str())?;
-        let segment = self.segment_here(number, uri, byte_range, own)?;
+        let keys = self.keys_of(number)?;
+        let init_section = self.init_section()?;
+        let segment = self.segment_here(number, uri, byte_range, own, keys, init_section);
         let last = last_part(&segment)?;
         self.segment_stands(last);
         Ok(segment)
