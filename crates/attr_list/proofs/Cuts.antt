@@ -2,7 +2,7 @@
 use Rattle.std.proofs.Common.{◌≡◌, ℕ, suc, ◌+◌, ◌≤◌, Bool, true, false, not, cond, List, [], ◌∷◌, ◌++◌, take, drop, length, refl, ap, sym, ◌∙◌, arith, append_assoc, length-append}
 use Rattle.std.specs.Prelude.{nat_lt, unwrap_or, Option, Some, None}
 use Rattle.std.specs.List.{list_any, list_all, position_or_len, before_first, after_first}
-use Rattle.std.proofs.lemmas.Bool.{or_parts, or_right, or_from, and_from, not-false, ltb-false}
+use Rattle.std.proofs.lemmas.Bool.{or_parts, or_right, and_from, not-false}
 use Rattle.std.proofs.lemmas.List.{take_at, drop_at, take_all, drop_all}
 
 module _ {X : Type 0} where
@@ -54,19 +54,11 @@ module _ {X : Type 0} where
 
   pub before_has_none : (p : X → Bool) (xs : List X) → list_any p (before_first p xs) ≡ false
   before_has_none p [] = refl
-  before_has_none p (x ∷ xs) = step (p x) refl (before_has_none p xs)
-    where
-      step : (b : Bool) → p x ≡ b → list_any p (before_first p xs) ≡ false → list_any p (take (cond (not b) (1 + position_or_len p xs) 0) (x ∷ xs)) ≡ false
-      step true e h = refl
-      step false e h = ap (list_any p) (take_suc x xs _) ∙ or_from _ _ e h
+  before_has_none p (x ∷ xs) = grind (arith, before_has_none p xs, take_suc)
 
   pub rest_begins : (p : X → Bool) (xs : List X) → begins_with p (drop (position_or_len p xs) xs) ≡ true
   rest_begins p [] = refl
-  rest_begins p (x ∷ xs) = step (p x) refl (rest_begins p xs)
-    where
-      step : (b : Bool) → p x ≡ b → begins_with p (drop (position_or_len p xs) xs) ≡ true → begins_with p (drop (cond (not b) (1 + position_or_len p xs) 0) (x ∷ xs)) ≡ true
-      step true e h = e
-      step false e h = ap (begins_with p) (drop_suc x xs _) ∙ h
+  rest_begins p (x ∷ xs) = grind (arith, rest_begins p xs, drop_suc)
 
   pub list_any-none : (p : X → Bool) (xs : List X) → list_any (λ x. not (p x)) xs ≡ false → list_all p xs ≡ true
   list_any-none p [] h = refl
@@ -74,16 +66,8 @@ module _ {X : Type 0} where
 
   pub position_le : (p : X → Bool) (xs : List X) → position_or_len p xs ≤ length xs
   position_le p [] = omega arith
-  position_le p (x ∷ xs) = step (p x) (position_le p xs)
-    where
-      step : (b : Bool) → position_or_len p xs ≤ length xs → cond (not b) (1 + position_or_len p xs) 0 ≤ length (x ∷ xs)
-      step true h = omega arith
-      step false h = omega arith
+  position_le p (x ∷ xs) = grind (arith, position_le p xs)
 
   -- `position(..).unwrap_or(len)`
   pub position_unwrapped : (p : X → Bool) (xs : List X) (r : Option ℕ) → r ≡ cond (nat_lt (position_or_len p xs) (length xs)) (Some (position_or_len p xs)) None → unwrap_or r (length xs) ≡ position_or_len p xs
-  position_unwrapped p xs r e = ap (λ o. unwrap_or o (length xs)) e ∙ by (position_or_len p xs) (length xs) _ refl (position_le p xs)
-    where
-      by : (n l : ℕ) (b : Bool) → nat_lt n l ≡ b → n ≤ l → unwrap_or (cond b (Some n) None) l ≡ n
-      by n l true e h = refl
-      by n l false e h = let g = ltb-false n l e in omega arith
+  position_unwrapped p xs r e = grind (arith, position_le)

@@ -1,15 +1,15 @@
 -- The front of a text: what a scan of its bytes says of its first piece.
 use Rattle.std.proofs.Common.{◌≡◌, ◌≢◌, ℕ, zero, suc, ◌+◌, ◌<◌, ◌≤◌, Bool, true, false, not, cond, List, [], ◌∷◌, ◌++◌, take, drop, length, get_or, refl, ap, sym, ◌∙◌, arith, append_assoc, length-append, Err, Some, None}
-use Rattle.std.specs.Prelude.{◌==◌}
+use Rattle.std.specs.Prelude.{◌&&◌, ◌==◌}
 use Rattle.std.specs.List.{list_any, list_all, position_or_len, before_first}
 use Rattle.std.specs.Str.{IsUtf8, IsCharBoundary, IsAscii}
-use Rattle.std.proofs.lemmas.Bool.{and_parts, and_from, or_from, or_left, and_left, and_right, not-true, not_from_false, eqb-true, ne_eqb, lt-ltb}
+use Rattle.std.proofs.lemmas.Bool.{and_parts, and_from, or_from, or_left, and_left, and_right, not-true, eqb-true, ne_eqb, lt-ltb}
 use Rattle.std.proofs.lemmas.Bool.Decides.{nat_tests}
 use Rattle.std.proofs.lemmas.List.{append-nil, take-append-drop, take_at, drop_more, nil_from_length}
 use Rattle.std.proofs.lemmas.List.Folds.{list_all-append}
 use Rattle.std.proofs.lemmas.Str.{IsUtf8-from_ascii, IsCharBoundary-from_take}
 use Rattle.attr_list.specs.declared.AttrFault.TheVariants.{BadName, NoEquals, BadValue, OpenQuote}
-use Rattle.attr_list.specs.Attributes.{is_equals, is_quote, is_name_byte, is_name, ends_plain, piece_name, quoted_value, value_pair, value_of}
+use Rattle.attr_list.specs.Attributes.{is_comma, is_equals, is_quote, is_name_byte, is_name, ends_plain, piece_name, quoted_value, value_pair, value_of}
 use Rattle.attr_list.specs.Scanning.{first_from, first_piece}
 use Rattle.attr_list.specs.Inner.Scanning.{ends_pair, begins_quoted, name_fault, IsNamed, IsValued, HasValueFault}
 use Rattle.attr_list.proofs.Cuts.{position_at, any_at, before_after, begins_with, before_has_none, rest_begins, list_any-none, position_le, position_none}
@@ -59,13 +59,13 @@ unnamed : (b : ℕ) (bytes : List ℕ) → is_name_byte b ≡ false → is_name 
 unnamed b bytes h = grind arith
 
 pub no_name : (text name after : List ℕ) → IsNameCut text name after → (length name == 0) ≡ true → name_fault (first_piece text) ≡ Some BadName
-no_name text name after cut none = grind (arith, nil_from_length, eqb-true, begins_with, not-true, bad_name, unnamed)
+no_name text name after cut none = grind (arith, nil_from_length)
 
 pub has_name : (text name after value : List ℕ) → IsNameCut text name after → (length name == 0) ≡ false → after ≡ 61 ∷ value → IsNamed text name value
-has_name text name after value cut some e = grind arith
+has_name text name after value cut some e = (is_name_from name cut.named some, cut.whole ∙ ap (λ x. name ++ x) e)
 
 first_of_cut : (text name after : List ℕ) → IsNameCut text name after → (length name == 0) ≡ false → first_piece text ≡ name ++ first_piece after
-first_of_cut text name after cut some = grind (arith, first_past, name_runs, is_name_from)
+first_of_cut text name after cut some = ap first_piece cut.whole ∙ first_past name after (name_runs name (is_name_from name cut.named some))
 
 pub name_alone : (text name after : List ℕ) → IsNameCut text name after → (length name == 0) ≡ false → ends_pair after ≡ true → name_fault (first_piece text) ≡ Some NoEquals
 name_alone text name after cut some ended =
@@ -82,10 +82,7 @@ name_alone text name after cut some ended =
     by name found e h g = rw (e, h, g) refl
 
 pub name_broken : (text name after : List ℕ) → IsNameCut text name after → (length name == 0) ≡ false → ((rest : List ℕ) → after ≢ 61 ∷ rest) → ends_pair after ≡ false → name_fault (first_piece text) ≡ Some BadName
-name_broken text name [] cut some other ended = absurd (no ended)
-  where
-    no : true ≡ false → ⊥
-    no h = cc
+name_broken text name [] cut some other ended = grind arith
 name_broken text name (b ∷ after) cut some other ended =
     let is = is_name_from name cut.named some in
     let free = name_without_equals name is in
@@ -130,10 +127,12 @@ pub quote_cut : (text value after : List ℕ) → (text ≡ value ++ 34 ∷ afte
 quote_cut text value after h = record { whole = h.0; quoteless = quoteless value h.1 }
 
 pub text_after_quote : (text value after : List ℕ) → IsQuoteCut text value after → ends_pair after ≡ false → HasValueFault (34 ∷ text) BadValue
-text_after_quote text value after cut ended name = grind (arith, first_inside, quoteless, any_at, position_at, ne_eqb, length-append)
+text_after_quote text value [] cut ended name = grind arith
+text_after_quote text value (b ∷ after) cut ended name =
+    grind (arith, any_at, first_inside, length-append, position_at, quoteless)
 
 pub has_quoted : (text value after : List ℕ) → IsQuoteCut text value after → ends_pair after ≡ true → IsValued (34 ∷ text) true value after
-has_quoted text value after cut ended = grind (arith, not_from_false, quoteless, append_assoc)
+has_quoted text value after cut ended = grind (arith, append_assoc)
 
 pub record IsPlainCut (text value after : List ℕ) : Type 0 where
   pub whole : text ≡ value ++ after
@@ -141,20 +140,33 @@ pub record IsPlainCut (text value after : List ℕ) : Type 0 where
   pub stopped : begins_with ends_plain after ≡ true
 
 pub plain_cut : (text value after : List ℕ) (n : ℕ) → n ≡ position_or_len ends_plain text → value ≡ take n text → after ≡ drop n text → IsPlainCut text value after
-plain_cut text value after n e f g = grind (arith, take-append-drop, before_has_none, begins_with, rest_begins)
+plain_cut text value after n e f g = grind (arith, before_has_none, rest_begins, take-append-drop)
 
 bad_plain : (name piece : List ℕ) → begins_quoted piece ≡ false → list_any ends_plain piece ≡ true → value_of name piece ≡ Err BadValue
 bad_plain name piece h g = grind arith
 
 pub no_plain : (text value after : List ℕ) → IsPlainCut text value after → begins_quoted text ≡ false → (length value == 0) ≡ true → HasValueFault text BadValue
-no_plain text value after cut unquoted none name = grind (arith, nil_from_length, eqb-true, begins_with, bad_plain, or_left)
+no_plain text value after cut unquoted none name =
+    let empty : value ≡ [] = nil_from_length value (eqb-true _ _ none) in
+    let same : text ≡ after = cut.whole ∙ ap (λ x. x ++ after) empty in
+    ap (λ x. value_of name (first_piece x)) same ∙ by name after cut.stopped (ap begins_quoted (sym same) ∙ unquoted)
+  where
+    by : (name after : List ℕ) → begins_with ends_plain after ≡ true → begins_quoted after ≡ false → value_of name (first_piece after) ≡ Err BadValue
+    by name [] h g = refl
+    by name (b ∷ after) h g = step (is_comma b) refl
+      where
+        step : (c : Bool) → is_comma b ≡ c → value_of name (cond (c && true) [] (b ∷ first_from (cond (is_quote b) true false) after)) ≡ Err BadValue
+        step true e = refl
+        step false e = bad_plain name (b ∷ first_from (cond (is_quote b) true false) after) g (or_left _ _ h)
 
 begins_as : (value after : List ℕ) → 0 < length value → begins_quoted (value ++ after) ≡ begins_quoted value
 begins_as [] after h = absurd (omega arith)
 begins_as (b ∷ value) after h = refl
 
 pub plain_broken : (text value after : List ℕ) → IsPlainCut text value after → begins_quoted text ≡ false → (length value == 0) ≡ false → ends_pair after ≡ false → HasValueFault text BadValue
-plain_broken text value after cut unquoted some ended name = grind (arith, first_past, plain_runs, some_length, begins_as, bad_plain, any_at)
+plain_broken text value [] cut unquoted some ended name = grind arith
+plain_broken text value (b ∷ after) cut unquoted some ended name =
+    grind (arith, any_at, begins_as, first_past, plain_runs, some_length)
 
 pub has_plain : (text value after : List ℕ) → IsPlainCut text value after → (length value == 0) ≡ false → ends_pair after ≡ true → IsValued text false value after
 has_plain text value after cut some ended = grind arith

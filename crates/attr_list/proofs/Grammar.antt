@@ -9,7 +9,6 @@ use Rattle.std.proofs.lemmas.List.Quantifiers.{all_pairs_push}
 use Rattle.std.proofs.lemmas.List.Folds.{list_any_none}
 use Rattle.std.proofs.lemmas.Slice.Eq.{bytes_eq-Decides}
 use Rattle.attr_list.specs.declared.AttrFault.{AttrFault}
-use Rattle.attr_list.specs.declared.AttrFault.TheVariants.{BadValue}
 use Rattle.attr_list.specs.Attributes.{Pair, is_quote, is_name, is_value, is_pair, are_apart, is_named, value_spelling, pair_spelling, attributes_text, IsPair, IsAttributeList, pieces_from, pieces, piece_name, piece_value, has_equals, quoted_value, plain_value, value_pair, value_of, pair_of, add_pair, pairs_from, attributes_of}
 use Rattle.attr_list.specs.Inner.Scanning.{ends_pair, StartsWithPair}
 use Rattle.attr_list.proofs.Cuts.{before_has_none}
@@ -20,12 +19,12 @@ use Rattle.attr_list.proofs.Steps.{pieces_of_pair, pair_read}
 
 pub pieces_joined : (quoted : Bool) (text : List ℕ) → join_with_byte 44 (pieces_from quoted text) ≡ text
 pieces_joined quoted [] = refl
-pieces_joined quoted (b ∷ bytes) = grind (arith, pieces_joined false bytes, pieces_joined (cond (is_quote b) (not quoted) quoted) bytes)
+pieces_joined quoted (b ∷ bytes) = grind (arith, pieces_joined (cond (is_quote b) (not quoted) quoted) bytes)
 
 -- ---- a piece that gives a pair is its spelling
 
 guard_ok : {A : Type 0} (b : Bool) (fault : AttrFault) (r : Result A AttrFault) (x : A) → cond b (Err fault) r ≡ Ok x → (b ≡ false) × (r ≡ Ok x)
-guard_ok k fault r x h = grind arith
+guard_ok b fault r x h = grind arith
 
 -- what is cut at the first element that passes, and that element
 abbrev SplitAt : {X : Type 0} → (X → Bool) → List X → ℕ → Type 0
@@ -44,10 +43,10 @@ split_first {X} p (x ∷ xs) h = step (p x) refl h (λ g. split_first p xs g)
 
 -- `name=` at the front of a piece
 named_split : (piece : List ℕ) → has_equals piece ≡ true → piece ≡ piece_name piece ++ 61 ∷ piece_value piece
-named_split piece h = grind (arith, split_first, eqb-true)
+named_split piece h = grind (arith, split_first)
 
 quoted_ok : (text value : List ℕ) → quoted_value text ≡ Ok value → (list_any is_quote value ≡ false) × (text ≡ value ++ 34 ∷ [])
-quoted_ok text value h = grind (arith, guard_ok, eqb-true, not-false, split_first, drop_all, before_has_none)
+quoted_ok text value h = grind (arith, before_has_none, drop_all, eqb-true, guard_ok, split_first)
 
 plain_ok : (text value : List ℕ) → plain_value text ≡ Ok value → (is_value false text ≡ true) × (text ≡ value)
 plain_ok text value h = grind arith
@@ -59,10 +58,7 @@ abbrev IsValueOf : List ℕ → List ℕ → Pair → Type 0
 IsValueOf name text pair = (pair.name ≡ name) × (is_value pair.quoted pair.value ≡ true) × (text ≡ value_spelling pair.quoted pair.value)
 
 value_is : (name text : List ℕ) (pair : Pair) → value_of name text ≡ Ok pair → IsValueOf name text pair
-value_is name [] pair h = absurd (no pair h)
-  where
-    no : (pair : Pair) → Err BadValue ≡ Ok pair → ⊥
-    no pair h = cc
+value_is name [] pair h = grind arith
 value_is name (b ∷ text) pair h = step (is_quote b) refl h
   where
     step : (c : Bool) → is_quote b ≡ c → cond c (value_pair name true (quoted_value text)) (value_pair name false (plain_value (b ∷ text))) ≡ Ok pair → IsValueOf name (b ∷ text) pair
@@ -127,8 +123,7 @@ NamesDiffer a b = a.name ≢ b.name
 
 unnamed : (name : List ℕ) (pairs : List Pair) → list_any (is_named name) pairs ≡ false → (k : ℕ) (d : Pair) → k < length pairs → (get_or pairs k d).name ≢ name
 unnamed name [] h k d l e = absurd (omega arith)
-unnamed name (pair ∷ pairs) h zero d l e =
-    let a = or_parts _ _ h in absurd (both_ways _ a.0 ((bytes_eq-Decides name pair.name).1 (sym e)))
+unnamed name (pair ∷ pairs) h zero d l e = grind (arith, bytes_eq-Decides)
 unnamed name (pair ∷ pairs) h (suc k) d l e = unnamed name pairs (or_parts _ _ h).1 k d (omega arith) e
 
 -- pairs that are apart, in the words of the grammar
@@ -153,7 +148,8 @@ not_none : (pair : Pair) (pairs : List Pair) → pair ∷ pairs ≢ []
 not_none pair pairs h = cc
 
 some_spelled : (text : List ℕ) (pairs : List Pair) → pieces text ≡ map pair_spelling pairs → pairs ≢ []
-some_spelled text pairs h e = grind (arith, pieces_are, not_none)
+some_spelled text [] h e = grind (arith, pieces_are)
+some_spelled text (pair ∷ pairs) h e = absurd (not_none pair pairs e)
 
 -- what the reading gives is in the grammar
 pub read_is_list : (text : List ℕ) (pairs : List Pair) → attributes_of None text ≡ Ok pairs → IsAttributeList text pairs
@@ -208,7 +204,7 @@ written_is_read [] some h = absurd (some refl)
 written_is_read (pair ∷ pairs) some h = ap (pairs_from None []) (pieces_of_text pair pairs [] h) ∙ pairs_read (pair ∷ pairs) [] h
 
 pub list_is_read : (text : List ℕ) (pairs : List Pair) → IsAttributeList text pairs → attributes_of None text ≡ Ok pairs
-list_is_read text pairs list = grind (arith, written_is_read, apart_from)
+list_is_read text pairs list = ap (attributes_of None) list.spelled ∙ written_is_read pairs list.some (apart_from [] pairs list.each list.names)
 
 pub ok_same : (r : Result (List Pair) AttrFault) (a b : List Pair) → r ≡ Ok a → r ≡ Ok b → a ≡ b
 ok_same r a b e f = cc

@@ -78,7 +78,7 @@ list_is_limited most text pairs list few =
     read_is_limited most text pairs h (omega arith)
 
 pub same_pairs : (most : ℕ) (text : List ℕ) (pairs others : List Pair) → attributes_of (Some most) text ≡ Ok pairs → IsAttributeList text others → length others ≤ most → pairs ≡ others
-same_pairs most text pairs others h list few = grind (arith, ok_same, list_is_limited)
+same_pairs most text pairs others h list few = ok_same (attributes_of (Some most) text) pairs others h (list_is_limited most text others list few)
 
 -- a list within the limit has no fault
 pub no_fault : (most : ℕ) (text : List ℕ) (pairs : List Pair) (fault : AttrFault) → attributes_of (Some most) text ≡ Err fault → IsAttributeList text pairs → length pairs ≤ most → ⊥

@@ -10,13 +10,11 @@ use Rattle.std.proofs.lemmas.Bool.Decides.{nat_tests}
 use Rattle.std.proofs.Math.Nat.{pow-le-pow_right}
 use Rattle.std.proofs.lemmas.Int.Digits.{digits_value-lt, digits_value_more}
 use Rattle.std.proofs.lemmas.List.{take_all}
-use Rattle.std.proofs.lemmas.List.Sums.{AllPass-from_list_all}
-use Rattle.std.proofs.lemmas.Str.{digit_value_digit}
 use Rattle.std.proofs.lemmas.Str.Parse.{without_leading_plus_none, digits_value-take-le}
-use Rattle.std.specs.Int.{IsInRange}
 use Rattle.std.specs.Fmt.{decimal}
 use Rattle.std.proofs.lemmas.Str.Parse.{IsNumeralModel, numerals_by_value}
 use Rattle.std.proofs.lemmas.Fmt.{decimal_is_IsNumeral, length-decimal-le, decimal_nonempty, digits_decimal}
+use Rattle.std.proofs.lemmas.Grind.{common_steps}
 use Rattle.attr_list.specs.Numbers.{decimal_of, hex_of, has_up_to, has_hex_prefix}
 
 -- digits by a test of each
@@ -29,8 +27,7 @@ hex_digit c h = grind (arith, nat_tests)
 
 -- no plus stands before digits
 no_plus : (radix : ℕ) (ds : List ℕ) → radix ≤ 16 → AllDigits radix ds → get_or ds 0 0 ≡ 43 → 0 < length ds → ⊥
-no_plus radix [] s h e l = omega arith
-no_plus radix (c ∷ ds) s h e l = grind arith
+no_plus radix ds s h e l = grind (arith, common_steps)
 
 plain : (radix : ℕ) (ds : List ℕ) → radix ≤ 16 → AllDigits radix ds → 0 < length ds → without_leading_plus ds ≡ ds
 plain radix ds s h l = without_leading_plus_none ds (λ e. no_plus radix ds s h e l)
@@ -45,12 +42,9 @@ some_digits ds h = grind arith
 
 -- ---- digits of a decimal, one after the other
 
-digit_passes : (c : ℕ) → is_ascii_digit c ≡ true → IsInRange 48 57 c
-digit_passes c h = search rules
-
 -- one digit more
 pub value_more : (ds : List ℕ) (i : ℕ) → i < length ds → is_ascii_digit (get_or ds i 0) ≡ true → digits_value 10 (take (i + 1) ds) ≡ digits_value 10 (take i ds) * 10 + (get_or ds i 0 - 48)
-value_more ds i below digit = grind (arith, digit_value_digit, get_or, digit_passes, digits_value_more)
+value_more ds i below digit = grind (arith, digits_value_more)
 
 pub digits_more : (ds : List ℕ) (i : ℕ) → i < length ds → list_all is_ascii_digit (take i ds) ≡ true → is_ascii_digit (get_or ds i 0) ≡ true → list_all is_ascii_digit (take (i + 1) ds) ≡ true
 digits_more [] i below h d = absurd (omega (arith, below))
@@ -61,28 +55,20 @@ digits_more (c ∷ ds) (suc i) below h d =
     rw more (and_from _ _ a.0 (digits_more ds i (omega (arith, below)) a.1 d))
 
 none_unless : (a b c : Bool) (v : ℕ) → (b ≡ true → c ≡ true → ⊥) → cond (a && b && c) (Some v) None ≡ None
-none_unless false b c v h = refl
-none_unless true false c v h = refl
-none_unless true true false v h = refl
-none_unless true true true v h = absurd (h refl refl)
+none_unless a b c v h = grind arith
 
 -- if a byte is no digit, or its digit too many, the text is no decimal
 pub no_decimal : (ds : List ℕ) (i v : ℕ) → i < length ds → v ≡ digits_value 10 (take i ds)
     → ((is_ascii_digit (get_or ds i 0) ≡ true) × (v * 10 + (get_or ds i 0 - 48) < 2 ^ 64) → ⊥) → decimal_of ds ≡ None
 no_decimal ds i v within value h =
-    none_unless (has_up_to 20 ds) (list_all is_ascii_digit ds) (nat_lt (digits_value 10 ds) (2 ^ 64)) (digits_value 10 ds) (λ all below.
-    let digit : is_ascii_digit (get_or ds i 0) ≡ true = AllPass-from_list_all is_ascii_digit ds all i 0 within in
-    let more = value_more ds i within digit in
-    let most = digits_value-take-le 10 ds (i + 1) (omega arith) in
-    let top = ltb-true _ _ below in
-    h (digit, omega (arith, value, more, most, top)))
+    grind (arith, common_steps, nat_tests, digits_value-take-le, ltb-true, none_unless, value_more)
 
 -- if all are, it is
 pub is_decimal : (ds : List ℕ) (v n : ℕ) → 0 < length ds → length ds ≤ 20 → length ds ≤ n → v ≡ digits_value 10 (take n ds) → v < 2 ^ 64 → list_all is_ascii_digit (take n ds) ≡ true → decimal_of ds ≡ Some v
-is_decimal ds v n some few long value below digits = grind (arith, take_all, and_from, lt-ltb, le-leb, cond-true)
+is_decimal ds v n some few long value below digits = grind (arith, take_all)
 
 below_top : (n l : ℕ) → n < 16 ^ l → l ≤ 32 → n < 2 ^ 128
-below_top n l h few = grind (arith, pow-le-pow_right)
+below_top n l h few = let most : 16 ^ l ≤ 16 ^ 32 = pow-le-pow_right {n = 16} (omega arith) few in omega arith
 
 pub hex_read : {E : Type 0} (text ds : List ℕ) (r : Result ℕ E) → has_hex_prefix text ≡ true → ds ≡ drop 2 text → (length ds == 0) ≡ false → length ds ≤ 32 → list_all is_ascii_hexdigit ds ≡ true → ParsesUnsigned 128 16 ds r → result_ok r ≡ hex_of text
 hex_read text ds r prefix after some few all p =

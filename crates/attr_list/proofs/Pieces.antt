@@ -58,10 +58,10 @@ name_byte_is : (b : ℕ) → is_name_byte b ≡ true → (stops b ≡ false) × 
 name_byte_is b h = (grind (arith, nat_tests), grind (arith, nat_tests))
 
 pub name_runs : (name : List ℕ) → is_name name ≡ true → list_any stops name ≡ false
-name_runs name h = grind (arith, and_parts, none_from, name_byte_is)
+name_runs name h = let a = and_parts _ _ h in none_from is_name_byte stops name a.1 (λ b g. (name_byte_is b g).0)
 
 pub name_without_equals : (name : List ℕ) → is_name name ≡ true → list_any is_equals name ≡ false
-name_without_equals name h = grind (arith, and_parts, none_from, name_byte_is)
+name_without_equals name h = let a = and_parts _ _ h in none_from is_name_byte is_equals name a.1 (λ b g. (name_byte_is b g).1)
 
 pub plain_runs : (value : List ℕ) → list_any ends_plain value ≡ false → list_any stops value ≡ false
 plain_runs value h = fewer ends_plain stops value h (λ b g. (or_parts _ _ g).0)
@@ -80,7 +80,7 @@ first_ended [] h = refl
 first_ended (b ∷ after) h = rw h refl
 
 pub first_valued : (q : Bool) (value after : List ℕ) → is_value q value ≡ true → ends_pair after ≡ true → first_piece (value_spelling q value ++ after) ≡ value_spelling q value
-first_valued q value after h e = grind (arith, append_assoc, first_inside, not-true, first_ended, and_parts, first_past, plain_runs, append-nil)
+first_valued q value after h e = grind (arith, append-nil, append_assoc, first_inside, first_past, not-true, plain_runs)
 
 pub later_valued : (q : Bool) (value after : List ℕ) → is_value q value ≡ true → later_from false (value_spelling q value ++ after) ≡ later_from false after
-later_valued q value after h = grind (arith, append_assoc, later_inside, not-true, and_parts, later_past, plain_runs)
+later_valued q value after h = grind (arith, append_assoc, later_inside, later_past, not-true, plain_runs)

@@ -2,7 +2,8 @@
 use Rattle.std.proofs.Common.{◌≡◌, ℕ, false, ◌+◌, List, [], ◌∷◌, ◌++◌, length, refl, ap, sym, ◌∙◌, arith, append_assoc, length-append}
 use Rattle.std.specs.Prelude.{slice_range}
 use Rattle.std.specs.List.{join_with_byte}
-use Rattle.std.proofs.lemmas.List.{append-nil, take_at, drop_at}
+use Rattle.std.proofs.lemmas.List.{take_at, drop_at}
+use Rattle.std.proofs.lemmas.Grind.{common_steps}
 use Rattle.attr_list.specs.Attributes.{pieces, spans_from, slices_at}
 use Rattle.attr_list.proofs.Grammar.{pieces_joined}
 
@@ -11,8 +12,7 @@ slice_middle front middle back start e = grind (arith, drop_at, take_at)
 
 pub slices_are : (parts : List (List ℕ)) (front : List ℕ) (start : ℕ) → length front ≡ start → slices_at (front ++ join_with_byte 44 parts) (spans_from start parts) ≡ parts
 slices_are [] front start e = refl
-slices_are (piece ∷ []) front start e =
-    ap (λ t. slice_range (front ++ t) start (start + length piece) ∷ []) (sym (append-nil piece)) ∙ ap (λ p. p ∷ []) (slice_middle front piece [] start e)
+slices_are (piece ∷ []) front start e = grind (arith, common_steps)
 slices_are (piece ∷ next ∷ parts) front start e =
     let rest = join_with_byte 44 (next ∷ parts) in
     let whole : front ++ (piece ++ 44 ∷ rest) ≡ (front ++ (piece ++ 44 ∷ [])) ++ rest = ap (λ l. front ++ l) (sym (append_assoc piece (44 ∷ []) rest)) ∙ sym (append_assoc front (piece ++ 44 ∷ []) rest) in

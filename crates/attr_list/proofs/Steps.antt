@@ -1,7 +1,7 @@
 -- One attribute is read from the front of a text.
 use Rattle.std.proofs.Common.{◌≡◌, ◌≢◌, ℕ, ◌+◌, ◌-◌, ◌≤◌, Bool, true, false, cond, List, [], ◌∷◌, ◌++◌, length, refl, ap, sym, ◌∙◌, arith, append_assoc, length-append, Ok, Err, Option}
 use Rattle.std.specs.List.{list_any}
-use Rattle.std.proofs.lemmas.Bool.{and_parts, and_from, not-true, eq-eqb, eqb-true}
+use Rattle.std.proofs.lemmas.Bool.{and_parts, not-true, eqb-true}
 use Rattle.std.proofs.lemmas.List.{take_at}
 use Rattle.attr_list.specs.declared.AttrFault.{AttrFault}
 use Rattle.attr_list.specs.declared.AttrFault.TheVariants.{Twice}
@@ -14,7 +14,7 @@ use Rattle.attr_list.proofs.Pieces.{first_named, later_named, first_valued, late
 -- ---- a spelling is read as its value
 
 quoted_read : (value : List ℕ) → list_any is_quote value ≡ false → quoted_value (value ++ 34 ∷ []) ≡ Ok value
-quoted_read value h = grind (arith, any_at, position_at, eq-eqb, length-append, take_at)
+quoted_read value h = grind (arith, any_at, length-append, position_at, take_at)
 
 plain_read : (name value : List ℕ) → is_value false value ≡ true → value_of name value ≡ Ok (record { name = name; value = value; quoted = false })
 plain_read name value h = grind arith
@@ -27,7 +27,7 @@ value_read false name value h = plain_read name value h
 
 named_piece : (most : Option ℕ) (before : List Pair) (name rest : List ℕ) → is_name name ≡ true → is_full most (length before) ≡ false
     → pair_of most before (name ++ 61 ∷ rest) ≡ cond (list_any (is_named name) before) (Err Twice) (value_of name rest)
-named_piece most before name rest h room = grind (arith, name_without_equals, before_at, after_at, any_at)
+named_piece most before name rest h room = grind (arith, after_at, any_at, before_at, name_without_equals)
 
 pub named_twice : (most : Option ℕ) (before : List Pair) (text name rest : List ℕ) → IsNamed text name rest → is_full most (length before) ≡ false → list_any (is_named name) before ≡ true → pair_of most before (first_piece text) ≡ Err Twice
 named_twice most before text name rest h room twice = grind (arith, first_named, named_piece)
@@ -37,21 +37,21 @@ pub value_faulty : (most : Option ℕ) (before : List Pair) (text name rest : Li
 value_faulty most before text name rest fault h room new bad = grind (arith, first_named, named_piece)
 
 pub pair_read : (most : Option ℕ) (before : List Pair) (pair : Pair) → is_pair pair ≡ true → is_full most (length before) ≡ false → list_any (is_named pair.name) before ≡ false → pair_of most before (pair_spelling pair) ≡ Ok pair
-pair_read most before pair h room new = grind (arith, and_parts, named_piece, value_read)
+pair_read most before pair h room new = grind (arith, named_piece, value_read)
 
 pub starts_with_pair : (text name rest value after : List ℕ) (quoted : Bool) → IsNamed text name rest → IsValued rest quoted value after → StartsWithPair text (record { name = name; value = value; quoted = quoted }) after
-starts_with_pair text name rest value after quoted h v = grind (arith, and_from, append_assoc)
+starts_with_pair text name rest value after quoted h v = grind (arith, append_assoc)
 
 -- ---- the text goes on after a pair
 
 pub first_pair : (text : List ℕ) (pair : Pair) (after : List ℕ) → StartsWithPair text pair after → first_piece text ≡ pair_spelling pair
-first_pair text pair after s = grind (arith, and_parts, append_assoc, first_named, first_valued)
+first_pair text pair after s = grind (arith, append_assoc, first_named, first_valued)
 
 later_pair : (text : List ℕ) (pair : Pair) (after : List ℕ) → StartsWithPair text pair after → later_from false text ≡ later_from false after
-later_pair text pair after s = grind (arith, and_parts, later_from, append_assoc, later_named, later_valued)
+later_pair text pair after s = grind (arith, and_parts, append_assoc, later_named, later_valued)
 
 pub pieces_of_pair : (text : List ℕ) (pair : Pair) (after : List ℕ) → StartsWithPair text pair after → pieces text ≡ pair_spelling pair ∷ later_from false after
-pieces_of_pair text pair after s = grind (arith, pieces_are, later_from, first_pair, later_pair)
+pieces_of_pair text pair after s = pieces_are false text ∙ ap (λ f. f ∷ later_from false text) (first_pair text pair after s) ∙ ap (λ l. pair_spelling pair ∷ l) (later_pair text pair after s)
 
 pub read_on : (most : Option ℕ) (before : List Pair) (text : List ℕ) (pair : Pair) (after next : List ℕ) → StartsWithPair text pair after → after ≡ 44 ∷ next → pair_of most before (pair_spelling pair) ≡ Ok pair
     → pairs_from most before (pieces text) ≡ pairs_from most (before ++ pair ∷ []) (pieces next)
@@ -66,7 +66,7 @@ read_last most before text pair after s e ok =
     ap (pairs_from most before) cut ∙ ap (λ r. add_pair before r (λ pairs. pairs_from most pairs [])) ok
 
 pub read_fault : (most : Option ℕ) (before : List Pair) (text : List ℕ) (fault : AttrFault) → pair_of most before (first_piece text) ≡ Err fault → pairs_from most before (pieces text) ≡ Err fault
-read_fault most before text fault e = grind (arith, pieces_are, later_from)
+read_fault most before text fault e = grind (arith, pieces_are)
 
 pub ends_empty : (after : List ℕ) → ends_pair after ≡ true → ((rest : List ℕ) → after ≢ 44 ∷ rest) → after ≡ []
 ends_empty [] h other = refl

@@ -13,7 +13,7 @@ one_ascii false x y h g = g
 
 -- a number, a mark and more
 ascii_then : (k n mark : ℕ) (rest : List ℕ) → mark < 128 → IsAscii rest → IsAscii (fixed_digits 10 k n ++ mark ∷ rest)
-ascii_then k n mark rest h g = grind (arith, IsAscii-append, fixed_ascii, IsAscii-cons)
+ascii_then k n mark rest h g = IsAscii-append (fixed_digits 10 k n) (mark ∷ rest) (fixed_ascii k n) (IsAscii-cons mark rest h g)
 
 pub text_ascii : (n : ℕ) → IsAscii (text_at n)
 text_ascii n =

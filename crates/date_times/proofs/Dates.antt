@@ -1,5 +1,5 @@
 -- Days, months and years.
-use Rattle.std.proofs.Common.{◌≡◌, ℕ, zero, suc, ◌+◌, ◌-◌, ◌<◌, ◌≤◌, Bool, true, false, cond, refl, ap, ◌∙◌, arith, subst}
+use Rattle.std.proofs.Common.{◌≡◌, ℕ, zero, suc, ◌+◌, ◌-◌, ◌<◌, ◌≤◌, Bool, true, false, cond, refl, ap, arith}
 use Rattle.std.specs.Prelude.{◌==◌, nat_lt}
 use Rattle.std.proofs.lemmas.Bool.{ltb-true, ltb-false, ne_eqb, cond-false}
 use Rattle.date_times.specs.Instant.{is_leap, days_in_month, days_before_month, days_before_year}
@@ -24,10 +24,7 @@ year_turn b turns y days e next = grind arith
 
 pub in_year : (turns y days : ℕ) → days_before_year y + days < days_before_year (y + turns) → InYear y turns days (year_after turns y days)
 unfolding year_after
-in_year zero y days h = absurd (by y days (subst (λ x. days_before_year y + days < days_before_year x) (omega arith) h))
-  where
-    by : (y days : ℕ) → days_before_year y + days < days_before_year y → ⊥
-    by y days h = omega arith
+in_year zero y days h = grind arith
 in_year (suc turns) y days h =
     year_turn (nat_lt days (days_in_year y)) turns y days refl (λ l. in_year turns (y + 1) (days - days_in_year y)
     (let s = year_step y in let e : days_before_year (y + suc turns) ≡ days_before_year (y + 1 + turns) = ap days_before_year (omega arith) in omega (arith, s, e, l, h)))
@@ -56,18 +53,11 @@ pub record InMonth (year from turns days : ℕ) (found : ℕ × ℕ) : Type 0 wh
 
 month_turn : (b : Bool) (turns y m days : ℕ) → 1 ≤ m → nat_lt days (days_in_month y m) ≡ b → (days_in_month y m ≤ days → InMonth y (m + 1) turns (days - days_in_month y m) (month_after turns y (m + 1) (days - days_in_month y m)))
     → InMonth y m (suc turns) days (cond b (m, days) (month_after turns y (m + 1) (days - days_in_month y m)))
-month_turn true turns y m days h e next = record { day = ltb-true _ _ e; low = omega arith; high = omega arith; same = refl }
-month_turn false turns y m days h e next =
-    let l : days_in_month y m ≤ days = ltb-false _ _ e in let n = next l in let s = month_step y m h in
-    let k : m + 1 ≡ suc m = omega arith in let one : days_before_month y (m + 1) ≡ days_before_month y (suc m) = ap (days_before_month y) k in
-    record { day = n.day; low = omega (arith, n.low); high = omega (arith, n.high); same = n.same ∙ omega (arith, s, l, one) }
+month_turn b turns y m days h e next = grind (arith, ltb-false, ltb-true)
 
 pub in_month : (turns y m days : ℕ) → 1 ≤ m → days_before_month y m + days < days_before_month y (m + turns) → InMonth y m turns days (month_after turns y m days)
 unfolding month_after
-in_month zero y m days h s = absurd (by y m days (subst (λ x. days_before_month y m + days < days_before_month y x) (omega arith) s))
-  where
-    by : (y m days : ℕ) → days_before_month y m + days < days_before_month y m → ⊥
-    by y m days h = omega arith
+in_month zero y m days h s = grind arith
 in_month (suc turns) y m days h s =
     month_turn (nat_lt days (days_in_month y m)) turns y m days h refl (λ l. in_month turns y (m + 1) (days - days_in_month y m) (omega arith)
     (let t = month_step y m h in let k : m + 1 ≡ suc m = omega arith in let one : days_before_month y (m + 1) ≡ days_before_month y (suc m) = ap (days_before_month y) k in

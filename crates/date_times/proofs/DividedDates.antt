@@ -2,7 +2,7 @@
 use Rattle.std.proofs.Common.{◌≡◌, ℕ, zero, suc, ◌+◌, ◌-◌, ◌*◌, ◌/◌, ◌<◌, ◌≤◌, Bool, true, false, cond, refl, ap, sym, ◌∙◌, arith, inl, inr, subst}
 use Rattle.std.proofs.lemmas.Bool.{cases_lt, and_parts, eqb-true, lt-ltb, le-ltb, cond-true, cond-false}
 use Rattle.std.specs.Prelude.{◌==◌, ◌&&◌, nat_lt}
-use Rattle.date_times.specs.Instant.{is_leap, days_in_month, days_before_year}
+use Rattle.date_times.specs.Instant.{is_leap, days_in_month}
 use Rattle.date_times.specs.Times.{days_in_year, year_after, month_after}
 use Rattle.date_times.proofs.Dates.{in_year}
 
@@ -12,25 +12,10 @@ both p a b e f = ap (λ x. (x, b)) e ∙ ap (λ x. (p.0, x)) f
 
 -- ---- years
 
-after_1900 : (y r days : ℕ) → 1900 ≤ y → r < days_in_year y → 365 ≤ days → days_before_year y + r ≡ days_before_year 1900 + days → 1901 ≤ y
-after_1900 y r days l h a e = grind arith
-
-before_2100 : (y r days : ℕ) → y < 2200 → days < 73049 → days_before_year y + r ≡ days_before_year 1900 + days → y < 2100
-before_2100 y r days l h e = omega arith
-
-plain_count : (y : ℕ) → 1901 ≤ y → y < 2100 → days_before_year y + 15 ≡ 365 * y + (y + 3) / 4
-plain_count y l h = omega arith
-
-found_year : (y j r since : ℕ) → y ≡ 1901 + j → r < days_in_year y → since ≡ 365 * j + j / 4 + r → ((4 * since + 3) / 1461 ≡ j) × (since - 1461 * j / 4 ≡ r)
-found_year y j r since is h e = grind arith
-
-since_1901 : (y r days : ℕ) → 1901 ≤ y → y < 2100 → 365 ≤ days → days_before_year y + r ≡ days_before_year 1900 + days → days - 365 ≡ 365 * (y - 1901) + (y - 1901) / 4 + r
-since_1901 y r days l h a e = let p = plain_count y l h in omega (arith, p, e)
-
 -- the year of a day from 1901 to 2099
 pub divided_year : (days : ℕ) → 365 ≤ days → days < 73049
     → (1901 + (4 * (days - 365) + 3) / 1461, days - 365 - 1461 * ((4 * (days - 365) + 3) / 1461) / 4) ≡ year_after 300 1900 days
-divided_year days a h = grind (arith, in_year, after_1900, before_2100, found_year, since_1901, both)
+divided_year days a h = grind (arith, in_year)
 
 -- ---- months
 

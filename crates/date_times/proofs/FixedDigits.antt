@@ -14,7 +14,7 @@ use Rattle.date_times.specs.Digits.{fixed_digits}
 
 pub last_two : (base k n : ℕ) → fixed_digits base (suc (suc k)) n ≡ fixed_digits base k (n / base / base) ++ fixed_digits base 2 n
 unfolding fixed_digits
-last_two base k n = grind (arith, append_assoc)
+last_two base k n = append_assoc (fixed_digits base k (n / base / base)) (digit_glyph true (n / base % base) ∷ []) (digit_glyph true (n % base) ∷ [])
 
 pub last_three : (n : ℕ) → fixed_digits 10 3 n ≡ (digit_glyph true (n / 100 % 10) ∷ []) ++ fixed_digits 10 2 n
 unfolding fixed_digits
@@ -24,9 +24,6 @@ pub last_four : (n : ℕ) → fixed_digits 10 4 n ≡ fixed_digits 10 2 (n / 100
 last_four n =
     let hundreds : n / 10 / 10 ≡ n / 100 = omega arith in
     last_two 10 2 n ∙ ap (λ m. fixed_digits 10 2 m ++ fixed_digits 10 2 n) hundreds
-
-pub decimal_glyph : (d : ℕ) → d < 10 → 48 + d ≡ digit_glyph true d
-decimal_glyph d h = grind (arith, nat_tests)
 
 glyph_value : (d : ℕ) → d < 16 → digit_value (digit_glyph true d) ≡ d
 glyph_value d h = grind (arith, nat_tests)

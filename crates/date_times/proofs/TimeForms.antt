@@ -10,18 +10,13 @@ use Rattle.date_times.specs.Instant.{are_digits, has_date_form, is_date, has_clo
 
 -- the three numbers of `a-b-c` or `a:b:c` are digits
 pub form_parts : (a b c d e : Bool) → (a && b && c && d && e) ≡ true → (a ≡ true) × (c ≡ true) × (e ≡ true)
-form_parts true true true true true h = (refl, refl, refl)
-form_parts true true true true false h = absurd (cc h)
-form_parts true true true false e h = absurd (cc h)
-form_parts true true false d e h = absurd (cc h)
-form_parts true false c d e h = absurd (cc h)
-form_parts false b c d e h = absurd (cc h)
+form_parts a b c d e h = grind arith
 
 pub date_parts : (text : List ℕ) → has_date_form text ≡ true → (are_digits text 0 4 ≡ true) × (are_digits text 5 7 ≡ true) × (are_digits text 8 10 ≡ true)
-date_parts text h = grind (arith, form_parts)
+date_parts text h = form_parts (are_digits text 0 4) (slice_index text 4 == 45) (are_digits text 5 7) (slice_index text 7 == 45) (are_digits text 8 10) h
 
 pub clock_parts : (text : List ℕ) → has_clock_form text ≡ true → (are_digits text 11 13 ≡ true) × (are_digits text 14 16 ≡ true) × (are_digits text 17 19 ≡ true)
-clock_parts text h = grind (arith, form_parts)
+clock_parts text h = form_parts (are_digits text 11 13) (slice_index text 13 == 58) (are_digits text 14 16) (slice_index text 16 == 58) (are_digits text 17 19) h
 
 -- ---- the fraction
 
@@ -49,7 +44,7 @@ last_false true w s h = rw h refl
 last_false false w s h = refl
 
 pub no_fraction : (text : List ℕ) → is_fraction (fraction_len (drop 19 text)) ≡ false → instant_of text ≡ None
-no_fraction text h = grind (arith, last_false)
+no_fraction text h = last_false (is_date text && slice_index text 10 == 84 && is_clock text) (is_fraction (fraction_len (drop 19 text))) _ h
 
 -- a time of day is 19 bytes long
 pub clock_length : (text : List ℕ) → is_clock text ≡ true → 19 ≤ length text
@@ -66,7 +61,7 @@ read_parts text d t c f = cond-true _ _ _ (and_from _ _ (and_from _ _ (and_from 
 
 pub no_zone : (rest : List ℕ) (seconds : ℕ) → None ≡ zone_offset (drop (fraction_len rest) rest) → None ≡ zoned rest seconds
 unfolding zoned
-no_zone rest seconds h = grind arith
+no_zone rest seconds h = ap (instant_at seconds (fraction_nanos (drop 1 (take (fraction_len rest) rest)))) h
 
 nanos_same : (number clock nanos : ℕ) (day offset seconds : ℤ) → day +ℤ pos 719528 ≡ pos number → seconds ≡ (day *ℤ pos 86400 +ℤ pos clock) -ℤ offset
     → seconds *ℤ pos 1000000000 +ℤ pos nanos ≡ nanos_from_1970 (number * 86400 + clock) nanos offset

@@ -108,7 +108,7 @@ fraction_is ds h = ap (λ n. n + 1) (prefix_at is_ascii_digit ds 90 [] h refl) �
 
 after_fraction : (ds : List ℕ) (n seconds len : ℕ) → fraction_len (46 ∷ (ds ++ 90 ∷ [])) ≡ len → len ≡ suc (length ds) → fraction_nanos ds ≡ n → after_stamp (46 ∷ (ds ++ 90 ∷ [])) seconds ≡ instant_at seconds n (Some (pos 0))
 unfolding after_stamp
-after_fraction ds n seconds len e g v = grind (arith, take_at, drop_at)
+after_fraction ds n seconds len e g v = grind (arith, drop_at, take_at)
 
 three_nanos : (n : ℕ) → n < 1000 → fraction_nanos (fixed_digits 10 3 n) ≡ n * 1000000
 unfolding fixed_digits

@@ -17,8 +17,7 @@ year_stop (suc turns) year days h = cond-true _ _ _ (lt-ltb _ _ h)
 
 pub year_more : (turns year days : ℕ) → (turns ≡ 0 → ⊥) → days_in_year year ≤ days → year_after turns year days ≡ year_after (turns - 1) (year + 1) (days - days_in_year year)
 unfolding year_after
-year_more zero year days n h = absurd (n refl)
-year_more (suc turns) year days n h = grind arith
+year_more turns year days n h = grind arith
 
 pub month_none : (turns year month days : ℕ) → turns ≡ 0 → month_after turns year month days ≡ (month, days)
 unfolding month_after
@@ -31,10 +30,9 @@ month_stop (suc turns) year month days h = cond-true _ _ _ (lt-ltb _ _ h)
 
 pub month_more : (turns year month days : ℕ) → (turns ≡ 0 → ⊥) → days_in_month year month ≤ days → month_after turns year month days ≡ month_after (turns - 1) year (month + 1) (days - days_in_month year month)
 unfolding month_after
-month_more zero year month days n h = absurd (n refl)
-month_more (suc turns) year month days n h = grind arith
+month_more turns year month days n h = grind arith
 
 -- a date in the parts in which it is written
 pub date_parts : (days : ℕ) (year month : ℕ × ℕ) → year ≡ year_after 300 1900 days → month ≡ month_after 12 year.0 1 year.1
     → fixed_digits 10 4 year.0 ++ (45 ∷ [] ++ (fixed_digits 10 2 month.0 ++ (45 ∷ [] ++ fixed_digits 10 2 ((month.1 + 1) % 100)))) ≡ date_at days
-date_parts days year month y m = grind (arith, two_left, append-nil)
+date_parts days year month y m = grind (arith, append-nil, two_left)

@@ -7,43 +7,24 @@ use Rattle.std.specs.Prelude.{◌==◌, ◌&&◌, IsAscii}
 use Rattle.date_times.specs.declared.writing.TheConstants.{PAIRS}
 use Rattle.std.proofs.lemmas.Bool.Decides.{nat_tests}
 use Rattle.date_times.specs.Digits.{fixed_digits}
-use Rattle.date_times.proofs.FixedDigits.{last_three, last_four, decimal_glyph}
+use Rattle.date_times.proofs.FixedDigits.{last_three, last_four}
 
 -- so many digits, and three more
 last_digits : (k n : ℕ) → fixed_digits 10 (suc (suc (suc k))) n ≡ fixed_digits 10 k (n / 1000) ++ fixed_digits 10 3 n
 unfolding fixed_digits
-last_digits k n =
-    let thousands : n / 10 / 10 / 10 ≡ n / 1000 = omega arith in
-    let a = digit_glyph true (n / 10 / 10 % 10) ∷ [] in
-    let b = digit_glyph true (n / 10 % 10) ∷ [] in
-    let c = digit_glyph true (n % 10) ∷ [] in
-    append_assoc (fixed_digits 10 k (n / 10 / 10 / 10) ++ a) b c ∙ append_assoc (fixed_digits 10 k (n / 10 / 10 / 10)) a (b ++ c)
-    ∙ ap (λ m. fixed_digits 10 k m ++ (a ++ (b ++ c))) thousands
+last_digits k n = grind (arith, append_assoc)
 
 -- digits go by what is left of the number
 pub two_left : (n : ℕ) → fixed_digits 10 2 (n % 100) ≡ fixed_digits 10 2 n
 unfolding fixed_digits
-two_left n =
-    let tens : n % 100 / 10 % 10 ≡ n / 10 % 10 = omega arith in
-    let ones : n % 100 % 10 ≡ n % 10 = omega arith in
-    ap (λ m. digit_glyph true m ∷ digit_glyph true (n % 100 % 10) ∷ []) tens ∙ ap (λ m. digit_glyph true (n / 10 % 10) ∷ digit_glyph true m ∷ []) ones
+two_left n = grind arith
 
 three_left : (n : ℕ) → fixed_digits 10 3 (n % 1000) ≡ fixed_digits 10 3 n
 unfolding fixed_digits
-three_left n =
-    let hundreds : n % 1000 / 10 / 10 % 10 ≡ n / 10 / 10 % 10 = omega arith in
-    let tens : n % 1000 / 10 % 10 ≡ n / 10 % 10 = omega arith in
-    let ones : n % 1000 % 10 ≡ n % 10 = omega arith in
-    ap (λ m. digit_glyph true m ∷ digit_glyph true (n % 1000 / 10 % 10) ∷ digit_glyph true (n % 1000 % 10) ∷ []) hundreds
-    ∙ ap (λ m. digit_glyph true (n / 10 / 10 % 10) ∷ digit_glyph true m ∷ digit_glyph true (n % 1000 % 10) ∷ []) tens
-    ∙ ap (λ m. digit_glyph true (n / 10 / 10 % 10) ∷ digit_glyph true (n / 10 % 10) ∷ digit_glyph true m ∷ []) ones
+three_left n = grind arith
 
 pub in_three : (n : ℕ) → n < 1000 → (48 + n / 100) ∷ fixed_digits 10 2 (n % 100) ≡ fixed_digits 10 3 n
-in_three n h =
-    let hundreds : n / 100 ≡ n / 100 % 10 = omega arith in
-    ap (λ x. x ∷ fixed_digits 10 2 (n % 100)) (decimal_glyph (n / 100) (omega arith))
-    ∙ ap (λ m. digit_glyph true m ∷ fixed_digits 10 2 (n % 100)) hundreds
-    ∙ ap (λ x. digit_glyph true (n / 100 % 10) ∷ x) (two_left n) ∙ sym (last_three n)
+in_three n h = grind (arith, last_three, two_left)
 
 pub in_four : (n : ℕ) → fixed_digits 10 2 (n / 100) ++ fixed_digits 10 2 (n % 100) ≡ fixed_digits 10 4 n
 in_four n = ap (λ x. fixed_digits 10 2 (n / 100) ++ x) (two_left n) ∙ sym (last_four n)

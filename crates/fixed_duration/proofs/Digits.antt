@@ -46,10 +46,6 @@ next_power i = let e = pow-suc 10 i in rw add-one (omega (arith, e))
 pub power_positive : (k : ℕ) → 0 < 10 ^ k
 power_positive k = let p : 10 ^ 0 ≤ 10 ^ k = pow-le-pow_right {n = 10} (omega arith) {i = 0} {j = k} (omega arith) in p
 
--- the digits of a number, cut after the first
-tens : (n m x : ℕ) → n % (10 * m) ≡ n - 10 * x → (n / 10) % m ≡ n / 10 - x → x ≤ n / 10 → ((n % (10 * m)) / 10 ≡ (n / 10) % m) × ((n % (10 * m)) % 10 ≡ n % 10)
-tens n m x e g h = (rw (e, g) (omega arith), rw e (omega arith))
-
 cut_tens : (n m : ℕ) → ((n % (10 * m)) / 10 ≡ (n / 10) % m) × ((n % (10 * m)) % 10 ≡ n % 10)
 cut_tens n m = grind arith
 

@@ -1,8 +1,7 @@
 use Rattle.std.proofs.Common.{◌≡◌, arith, sym, ap, ◌∙◌, drop, take, to_z, of_z, w64, FitsSigned, pos, ◌*ℤ◌, ◌+ℤ◌, ◌-ℤ◌}
 use Rattle.std.proofs.lemmas.Int.{to_z-of_z}
 use Rattle.jiff_core.proofs.SignedLemmas.{signed_arith}
-use Rattle.std.specs.List.{list_all}
-use Rattle.std.specs.Char.{is_ascii_digit}
+use Rattle.std.proofs.lemmas.Grind.{common_steps}
 use Rattle.date_times.specs.Instant.{is_fraction, fraction_len, fraction_nanos, zone_offset, seconds_at}
 use Rattle.date_times.proofs.TimeForms.{fraction_digits, no_fraction, clock_length, zoned, read_parts, no_zone, zone_found, rest_is}
 use Rattle.date_times.proofs.reading.instant_on.Goals as goal
@@ -11,24 +10,13 @@ pub returns-in_err-rest : goal.returns-in_err-rest
 returns-in_err-rest c = let long = clock_length c.args.text.now c.in_ok-clock.ensures.value.0 in let l = c.in_err-rest.ensures.lookup in absurd (grind (arith, long, l))
 
 pub returns-then-not-is_fraction : goal.returns-then-not-is_fraction
-returns-then-not-is_fraction c =
-    let text = c.args.text.now in
-    let rest = c.in_ok-rest.ensures.lookup.0.2 ∙ rest_is text in
-    sym (no_fraction text (ap (λ r. is_fraction (fraction_len r)) (sym rest) ∙ ap is_fraction (sym c.fraction_len-len.ensures.value) ∙ sym c.if-not-is_fraction.ensures))
+returns-then-not-is_fraction c = grind (arith, common_steps, no_fraction, rest_is)
 
 pub nanos_of_fraction-nanos-requires : goal.nanos_of_fraction-nanos-requires
-nanos_of_fraction-nanos-requires c =
-    ap (list_all is_ascii_digit) (c.after_point_of.ensures ∙ ap (drop 1) (c.split_at.ensures.front ∙ ap (λ n. take n c.in_ok-rest.rest.now) c.fraction_len-len.ensures.value))
-    ∙ fraction_digits c.in_ok-rest.rest.now
+nanos_of_fraction-nanos-requires c = grind (arith, common_steps, fraction_digits)
 
 pub returns-in_err-offset : goal.returns-in_err-offset
-returns-in_err-offset c =
-    let text = c.args.text.now in
-    let rest = c.in_ok-rest.ensures.lookup.0.2 ∙ rest_is text in
-    let fraction = ap (λ r. is_fraction (fraction_len r)) (sym rest) ∙ ap is_fraction (sym c.fraction_len-len.ensures.value) ∙ sym c.if-not-is_fraction.ensures in
-    let zone = c.in_err-offset.ensures.value ∙ ap zone_offset (c.split_at.ensures.back ∙ ap (λ n. drop n c.in_ok-rest.rest.now) c.fraction_len-len.ensures.value) in
-    c.from_residual-in_err-offset.ensures ∙ no_zone c.in_ok-rest.rest.now (seconds_at text) zone ∙ ap (λ r. zoned r (seconds_at text)) rest
-    ∙ sym (read_parts text c.requires.0 (sym c.if-not-is_at.ensures) c.in_ok-clock.ensures.value.0 fraction)
+returns-in_err-offset c = grind (arith, common_steps, no_zone, read_parts, rest_is, zoned)
 
 pub returns : goal.returns
 returns c =

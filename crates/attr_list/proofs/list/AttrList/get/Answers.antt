@@ -1,4 +1,4 @@
-use Rattle.std.proofs.Common.{◌≡◌, Bool, true, false, cond, List, [], ◌∷◌, map, refl, ap, ◌∙◌, Some}
+use Rattle.std.proofs.Common.{◌≡◌, Bool, List, [], ◌∷◌, map, refl, ap, ◌∙◌, arith}
 use Rattle.std.specs.Prelude.{option_map, find}
 use Rattle.attr_list.specs.declared.attr.Attr.{Attr}
 use Rattle.attr_list.specs.Attributes.{Pair, is_named}
@@ -7,11 +7,7 @@ use Rattle.attr_list.proofs.list.AttrList.get.Goals as goal
 
 find-map : (p : Pair → Bool) (attrs : List Attr) → option_map attr_pair (find (λ attr. p (attr_pair attr)) attrs) ≡ find p (map attr_pair attrs)
 find-map p [] = refl
-find-map p (attr ∷ attrs) = step (p (attr_pair attr)) (find-map p attrs)
-  where
-    step : (b : Bool) → option_map attr_pair (find (λ a. p (attr_pair a)) attrs) ≡ find p (map attr_pair attrs) → option_map attr_pair (cond b (Some attr) (find (λ a. p (attr_pair a)) attrs)) ≡ cond b (Some (attr_pair attr)) (find p (map attr_pair attrs))
-    step true h = refl
-    step false h = h
+find-map p (attr ∷ attrs) = grind (arith, find-map p attrs)
 
 pub returns-clause-pair : goal.returns-clause-pair
 returns-clause-pair c =

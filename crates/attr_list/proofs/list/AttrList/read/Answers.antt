@@ -1,8 +1,9 @@
-use Rattle.std.proofs.Common.{◌≡◌, ◌⊎◌, ℕ, ◌≤◌, List, map, length, ap, ◌∙◌, inl, inr, Some, Err}
+use Rattle.std.proofs.Common.{◌≡◌, ◌⊎◌, ℕ, ◌≤◌, List, map, length, inl, inr, Some, Err, arith}
 use Rattle.std.proofs.lemmas.Result.{err_from_is_err_and}
+use Rattle.std.proofs.lemmas.Grind.{common_steps}
 use Rattle.attr_list.specs.declared.AttrFault.{AttrFault}
 use Rattle.attr_list.specs.declared.AttrFault.TheVariants.{OutOfMemory}
-use Rattle.attr_list.specs.Attributes.{Pair, IsAttributeList, attributes_of, slices_at}
+use Rattle.attr_list.specs.Attributes.{Pair, IsAttributeList, attributes_of}
 use Rattle.attr_list.specs.Attrs.{attr_pair}
 use Rattle.attr_list.proofs.Limits.{limited_are_apart, limited_is_list, same_pairs, no_fault, limited_pieces}
 use Rattle.attr_list.proofs.Slices.{slices_are_pieces}
@@ -24,8 +25,7 @@ pub returns-clause-reads : goal.returns-clause-reads
 returns-clause-reads c = λ pairs list few. same_pairs 64 c.args.text.now (map attr_pair c.in_ok-attrs.attrs.items) pairs c.in_ok-attrs.ensures.ok list few
 
 pub returns-clause-slices : goal.returns-clause-slices
-returns-clause-slices c =
-    ap (slices_at c.args.text.now) c.in_ok-attrs.ensures.spans ∙ slices_are_pieces c.args.text.now ∙ limited_pieces 64 c.args.text.now (map attr_pair c.in_ok-attrs.attrs.items) c.in_ok-attrs.ensures.ok
+returns-clause-slices c = grind (arith, common_steps, limited_pieces, slices_are_pieces)
 
 pub invariant_of-result : goal.invariant_of-result
 invariant_of-result c = limited_are_apart 64 c.args.text.now (map attr_pair c.in_ok-attrs.attrs.items) c.in_ok-attrs.ensures.ok

@@ -1,15 +1,12 @@
-use Rattle.std.proofs.Common.{◌≡◌, ◌<◌, sym, subst, ◌∙◌, false, length, take, MatchOption}
+use Rattle.std.proofs.Common.{sym, subst, ◌∙◌, take, arith}
 use Rattle.std.specs.Cmp.Lexicographic.{same_text}
-use Rattle.date_times.specs.Instant.{is_date}
+use Rattle.std.proofs.lemmas.Grind.{common_steps}
 use Rattle.date_times.specs.Instant.{IsDayOf}
 use Rattle.date_times.proofs.KeptDates.{of_first_ten, no_date, day_fits}
 use Rattle.date_times.proofs.reading.TimeReader.day_of.Goals as goal
 
 pub returns-in_err-date : goal.returns-in_err-date
-returns-in_err-date c =
-    let text = c.args.text.now in
-    let short : length text < 10 = c.in_err-date.ensures.cases in
-    subst (λ r. MatchOption r (is_date text ≡ false) (IsDayOf text)) (sym c.from_residual.ensures) (no_date text short)
+returns-in_err-date c = grind (arith, common_steps, no_date)
 
 pub returns-then-eq : goal.returns-then-eq
 returns-then-eq c =
@@ -22,10 +19,4 @@ returns-then-eq c =
     subst (IsDayOf text) (sym (day_fits text day known)) known
 
 pub returns : goal.returns
-returns c =
-    let text = c.args.text.now in
-    let day = c.in_ok-day.day in
-    let first = c.in_ok-date.ensures.cases in
-    let read : IsDayOf c.in_ok-date.date.now day = (c.in_ok-day.ensures.value.0, c.in_ok-day.ensures.value.1, c.in_ok-day.ensures.bound) in
-    let known = (of_first_ten text first.enough).1 day (subst (λ date. IsDayOf date day) first.same read) in
-    subst (IsDayOf text) (sym (day_fits text day known)) known
+returns c = grind (arith, common_steps, day_fits, of_first_ten)
