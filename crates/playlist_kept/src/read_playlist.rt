@@ -75,14 +75,18 @@ impl<'a> Read<'a> {
 /// last one.
 #[derive(Clone, Copy)]
 pub struct Places {
+    /// The place of the first of them in the new playlist, from 0.
     pub start: usize,
+    /// The place after the last of them there.
     pub end: usize,
+    /// The place of the first of them in the last playlist, from 0.
     pub from: usize,
+    /// The place after the last of them there.
     pub till: usize,
 }
 
 impl Places {
-    /// Those of no segment.
+    /// The places of no segment.
     pub fn none() -> Places
         ensures { result ≡ record { start = 0; end = 0; from = 0; till = 0 } }
     {
