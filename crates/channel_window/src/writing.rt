@@ -40,7 +40,7 @@ fn stitched<'a>(
     alloc: Global,
     list: &'a [MarkedSegment],
     cut: usize,
-    store: &PodStore,
+    store: &'a PodStore,
     first: Numbers,
     ends: &Ends,
 ) -> Result<StitchedList<'a>, RefreshFault>
@@ -229,7 +229,7 @@ pub struct PlacedList<'a> {
 /// allocation fails.
 pub fn placed_of<'a>(
     alloc: Global,
-    before: &Before<'_>,
+    before: &Before<'a>,
     read: &Read<'_>,
     list: &'a [MarkedSegment],
     lasted: Nanos,

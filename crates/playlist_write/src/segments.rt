@@ -14,11 +14,9 @@ use crate::last_duration::LastDuration;
 use crate::lines::{push_byte_range, push_feed, push_line};
 use date_times::TimeWriter;
 use fixed_duration::Nanos;
-use playlist_model::{
-    ByteRange, InitSection, Instant, Keys, Segment, Shared, is_same_init_section,
-};
+use playlist_model::{ByteRange, InitSection, Instant, Keys, is_same_init_section};
 use std::alloc::{AllocError, Global};
-use stitcher::{OutSegment, StitchedItems};
+use stitcher::{OutSegment, SegmentRef, StitchedItems};
 
 #[tactic(auto, unfolding(crate::specs::Owed::line_of))]
 fn push_discontinuity(out: &mut String) -> Result<(), AllocError>
@@ -49,10 +47,10 @@ fn is_current(current: Option<&InitSection>, new: &InitSection) -> bool
 // The initialisation section, if it is another than the one in force.
 fn changed_init_section<'a>(
     current: Option<&InitSection>,
-    init_section: &'a Option<Shared<InitSection>>,
+    init_section: Option<&'a InitSection>,
 ) -> Option<&'a InitSection>
     ensures { option_copied result
-        ≡ changed_init_section (option_copied current.entry) init_section.now }
+        ≡ changed_init_section (option_copied current.entry) (option_copied init_section.entry) }
 {
     match init_section {
         Some(new) => {
@@ -82,11 +80,10 @@ fn keys_then<'a>(keys: &'a Keys, changed: Option<&'a InitSection>) -> &'a Keys
 fn changes_nothing(keys: &Keys, next: &OutSegment<'_>) -> bool
     ensures { result ≡ changes_nothing keys.now next.now }
 {
-    let segment = next.segment.get();
     next.discontinuities == 0
-        && segment.init_section.is_none()
+        && next.segment.init_section().is_none()
         && keys.is_empty()
-        && segment.keys.is_empty()
+        && next.segment.keys().is_empty()
 }
 
 // Appends the EXT-X-MAP of the initialisation section that changed, if one did, under its keys (RFC 8216, section
@@ -183,13 +180,13 @@ fn push_uri(out: &mut String, uri: &str) -> Result<(), AllocError>
 fn push_media<'a>(
     out: &mut String,
     last: &mut LastDuration<'a>,
-    segment: &'a Segment,
+    segment: &SegmentRef<'a>,
 ) -> Result<(), AllocError>
     ensures { Appends result out.old out.new (said_text (media_owed segment.now)) }
 {
-    last.push(out, segment.duration, segment.title.as_str())?;
-    push_byte_range_tag(out, segment.byte_range)?;
-    push_uri(out, segment.uri.as_str())?;
+    last.push(out, segment.duration(), segment.title())?;
+    push_byte_range_tag(out, segment.byte_range())?;
+    push_uri(out, segment.uri())?;
     Ok(())
 }
 
@@ -206,11 +203,10 @@ fn push_each_change(
         (said_text (changes_owed
         (record { keys = keys.now; init_section = option_copied init_section.entry }) next.now)) }
 {
-    let segment = next.segment.get();
-    let changed = changed_init_section(init_section, &segment.init_section);
+    let changed = changed_init_section(init_section, next.segment.init_section());
     push_steps(out, next.discontinuities)?;
     push_changed_init_section(out, keys, changed)?;
-    push_key_tags(out, keys_then(keys, changed), &segment.keys)?;
+    push_key_tags(out, keys_then(keys, changed), next.segment.keys())?;
     Ok(())
 }
 
@@ -249,15 +245,5 @@ pub fn push_segment<'a>(
 {
     push_changes(out, keys, init_section, next)?;
     push_time_tag(out, times, next.program_date_time)?;
-    push_media(out, last, next.segment.get())
-}
-
-/// What `init_section`, a segment's, holds, if it has one.
-pub fn init_section_in(init_section: &Option<Shared<InitSection>>) -> Option<&InitSection>
-    ensures { option_copied result ≡ init_section.now }
-{
-    match init_section {
-        Some(init_section) => Some(init_section),
-        None => None,
-    }
+    push_media(out, last, &next.segment)
 }

@@ -3,7 +3,7 @@
 
 use playlist_model::Instant;
 
-mod copies;
+mod ad_segment;
 mod ends;
 mod fault;
 mod key_tags;

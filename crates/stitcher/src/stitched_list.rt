@@ -7,17 +7,18 @@ ghost use Rattle.stitcher.specs.Inner.Cuts.{stretches_within, left_from};
 ghost use Rattle.stitcher.specs.Stretches.{ad_item, here_items, kept_item, left_items, numbers_on, stretch_items, stretches_items};
 
 use crate::OutSegment;
+use crate::ad_segment::AdSegment;
 use crate::marked::{MarkedSegment, Numbers};
 use crate::segment_ref::SegmentRef;
-use playlist_model::{Items, Segment};
+use playlist_model::Items;
 use std::alloc::AllocError;
 use std::marker::Model;
 
 /// The segments of ads that stand one after another, and the segments of the origin that are kept after them, up to the next ad.
 #[derive(Drop)]
 pub(crate) struct Stretch<'a> {
-    /// The ads' segments, which repeat the numbers that are written.
-    pub ads: Items<Segment>,
+    /// The ads' segments, with the numbers that are written.
+    pub ads: Items<AdSegment<'a>>,
     /// The kept segments.
     pub kept: &'a [MarkedSegment],
     /// The numbers of the first of those.
@@ -27,21 +28,22 @@ pub(crate) struct Stretch<'a> {
 // A place in a list of stretches.
 #[derive(Drop)]
 struct Cursor<'a> {
-    ads: &'a [Segment],
+    ads: &'a [AdSegment<'a>],
     kept: &'a [MarkedSegment],
     numbers: Numbers,
     later: &'a [Stretch<'a>],
 }
 
 #[inline(always)]
-fn ad_item(segment: &Segment) -> OutSegment<'_>
+fn ad_item<'a>(segment: &'a AdSegment<'a>) -> OutSegment<'a>
     ensures { result ≡ ad_item segment.now }
 {
+    let numbers = segment.numbers();
     OutSegment {
-        segment: SegmentRef::new(segment),
-        media_sequence: segment.media_sequence,
-        discontinuity_sequence: segment.discontinuity_sequence,
-        discontinuities: segment.discontinuities,
+        segment: SegmentRef::ad(segment),
+        media_sequence: numbers.media_sequence,
+        discontinuity_sequence: numbers.discontinuity_sequence,
+        discontinuities: numbers.discontinuities,
         program_date_time: None,
     }
 }
@@ -51,7 +53,7 @@ fn kept_item<'a>(numbers: &Numbers, marked: &'a MarkedSegment) -> OutSegment<'a>
     ensures { result ≡ kept_item numbers.now marked.now }
 {
     OutSegment {
-        segment: SegmentRef::new(&marked.segment),
+        segment: SegmentRef::kept(&marked.segment),
         media_sequence: numbers.media_sequence,
         discontinuity_sequence: numbers.discontinuity_sequence,
         discontinuities: numbers.discontinuities,
@@ -104,7 +106,7 @@ fn next_here<'a>(cursor: &mut Cursor<'a>) -> Option<OutSegment<'a>>
     ensures later { cursor.new.later.now ≡ cursor.old.later.now }
 {
     let ads = cursor.ads;
-    if let Some((segment, later)) = ads.split_first() {
+    if let [segment, later @ ..] = ads {
         cursor.ads = later;
         return Some(ad_item(segment));
     }

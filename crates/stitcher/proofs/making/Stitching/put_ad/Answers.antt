@@ -17,7 +17,7 @@ returns-in_err-left-clause-err c =
     let part = c.args.part in
     let segment = c.in-Some.first.now in
     let parts = sym (ap (λ (a : Ad). a.segments) c.ad.view_is) ∙ (sym c.as_slice.ensures ∙ c.in-Some.ensures.cases.0) in
-    handed_on c.from_residual-in_err-left.result c.in_err-left.field-0.0 c.from_residual-in_err-left.ensures.1 c.in_err-left.ensures.err
+    handed_on c.from_residual.result c.in_err-left.field-0.0 c.from_residual.ensures.1 c.in_err-left.ensures.err
     (λ p mark. subst (λ (ss : List PodSegment). Passes c.args.self.now (part_of part (ad_pieces mark ad ss))) (sym parts)
     (passes_longer c.args.self.now (part_here part (ad_piece mark true ad segment)) (part_of (part_after_one part segment.duration) (map (ad_piece mark false ad) c.in-Some.later.now)) (p mark)))
 
@@ -31,8 +31,6 @@ loop-segment-init c =
     let parts = sym (ap (λ (a : Ad). a.segments) c.ad.view_is) ∙ (sym c.as_slice.ensures ∙ c.in-Some.ensures.cases.0) in
     record {
       fits = ap numbers_fit (put any_mark).first ∙ c.requires;
-      init_section = c.parts.view_is ∙ c.in_ok-parts.ensures;
-      title = c.parts.invariant;
       walks = λ mark. subst (λ (ss : List PodSegment). Walks c.args.self.now c.offer.new.self (part_of part (ad_pieces mark ad ss)) (part_of c.in_ok-left.left (map (ad_piece mark false ad) later))) (sym parts)
           (subst (λ (left : Part). Walks c.args.self.now c.offer.new.self (part_of part (ad_pieces mark ad (segment ∷ later))) (part_of left (map (ad_piece mark false ad) later))) (sym c.in_ok-left.ensures.part)
           (walks_on c.args.self.now c.args.self.now c.offer.new.self (part_of part (ad_pieces mark ad (segment ∷ later))) (part_here part (ad_piece mark true ad segment)) (part_of (part_after_one part segment.duration) (map (ad_piece mark false ad) later))
@@ -58,8 +56,6 @@ loop-segment-preserved c =
     let later = c.in-Some-split_first.later.now in
     record {
       fits = ap numbers_fit (put any_mark).first ∙ c.loop-segment.invariant.fits;
-      init_section = c.loop-segment.invariant.init_section;
-      title = c.loop-segment.invariant.title;
       walks = λ mark. subst (λ (left : Part). Walks c.args.self.now c.offer-in-Some-split_first.new.self (part_of c.args.part (ad_pieces mark ad ad.segments)) (part_of left (map (ad_piece mark false ad) later))) (sym c.in_ok-left-2.ensures.part)
           (walks_on c.args.self.now c.loop-segment.self c.offer-in-Some-split_first.new.self (part_of c.args.part (ad_pieces mark ad ad.segments)) (part_here part (ad_piece mark false ad segment)) (part_of (part_after_one part segment.duration) (map (ad_piece mark false ad) later))
           (subst (λ (ss : List PodSegment). Walks c.args.self.now c.loop-segment.self (part_of c.args.part (ad_pieces mark ad ad.segments)) (part_of part (map (ad_piece mark false ad) ss))) c.in-Some-split_first.ensures.cases.0 (c.loop-segment.invariant.walks mark)) (put mark));
