@@ -97,10 +97,10 @@ said_keeps place d =
     (λ uri was. after Keeps (or_fault (fault_at place Shape) (text_at (codes "duration") d)) (λ duration. said.segment_texts place uri duration d)
     (λ duration is. texts_keep place uri duration d))
 
-next_keeps : (pod ad before : ℕ) (done : List PodSegment) (d : Data) (s : PodSegment) → said.next_segment pod ad before done d ≡ Ok s → Keeps s
-next_keeps pod ad before done d =
-    passed Keeps (nat_le most_pod_segments (before + length done)) (fault_at (in_segment pod ad (length done)) TooMany) (said.segment_said (in_segment pod ad (length done)) d)
-    (λ t. said_keeps (in_segment pod ad (length done)) d)
+next_keeps : (ad : Place) (before : ℕ) (done : List PodSegment) (d : Data) (s : PodSegment) → said.next_segment ad before done d ≡ Ok s → Keeps s
+next_keeps ad before done d =
+    passed Keeps (nat_le most_pod_segments (before + length done)) (fault_at (in_segment ad (length done)) TooMany) (said.segment_said (in_segment ad (length done)) d)
+    (λ t. said_keeps (in_segment ad (length done)) d)
 
 -- ---- lists
 
@@ -202,35 +202,35 @@ not_none n h = grind (arith, nat_tests)
 some_read : {A B : Type 0} (next : List B → A → Outcome B) (xs : List A) (ys : List B) → (length xs == 0) ≡ false → each_after next [] xs ≡ Ok ys → nat_lt 0 (length ys) ≡ true
 some_read next xs ys some h = let e : length ys ≡ length xs = omega (arith, none_after next [] xs 0 refl ys h) in subst (λ n. nat_lt 0 n ≡ true) (sym e) (not_none (length xs) some)
 
-segments_keep : (pod ad before : ℕ) (d : Data) (segments : List PodSegment) → said.segments_said pod ad before d ≡ Ok segments → SegmentsKeep segments
-segments_keep pod ad before d =
-    after SegmentsKeep (or_fault (fault_at (in_ad pod ad) Shape) (list_at (codes "segments") d))
-    (λ list. refuse_if (length list == 0) (fault_at (in_ad pod ad) EmptyPod) (each_after (said.next_segment pod ad before) [] list))
-    (λ list was. passed SegmentsKeep (length list == 0) (fault_at (in_ad pod ad) EmptyPod) (each_after (said.next_segment pod ad before) [] list)
+segments_keep : (ad : Place) (before : ℕ) (d : Data) (segments : List PodSegment) → said.segments_said ad before d ≡ Ok segments → SegmentsKeep segments
+segments_keep ad before d =
+    after SegmentsKeep (or_fault (fault_at ad Shape) (list_at (codes "segments") d))
+    (λ list. refuse_if (length list == 0) (fault_at ad EmptyPod) (each_after (said.next_segment ad before) [] list))
+    (λ list was. passed SegmentsKeep (length list == 0) (fault_at ad EmptyPod) (each_after (said.next_segment ad before) [] list)
     (λ some segments h. (
-      some_read (said.next_segment pod ad before) list segments some h,
-      each_keeps segment_keeps (said.next_segment pod ad before) (next_keeps pod ad before) [] list refl segments h,
+      some_read (said.next_segment ad before) list segments some h,
+      each_keeps segment_keeps (said.next_segment ad before) (next_keeps ad before) [] list refl segments h,
     )))
 
 ad_is : (part : Option said.Part) (key : Option Key) (segments : List PodSegment) → OptionalPart part → OptionalKey key → SegmentsKeep segments → AdKeeps (said.ad_of part key segments)
 ad_is part key segments p k s = grind arith
 
-ad_said_keeps : (pod ad before : ℕ) (d : Data) (a : Ad) → said.ad_said pod ad before d ≡ Ok a → AdKeeps a
-ad_said_keeps pod ad before d =
-    after AdKeeps (optional (said.init_section_said (in_ad pod ad)) (get (codes "map") d))
-    (λ part. optional (said.key_said (in_ad pod ad)) (get (codes "key") d) >>= λ key. said.segments_said pod ad before d >>= λ segments. Ok (said.ad_of part key segments))
-    (λ part p. after AdKeeps (optional (said.key_said (in_ad pod ad)) (get (codes "key") d)) (λ key. said.segments_said pod ad before d >>= λ segments. Ok (said.ad_of part key segments))
-    (λ key k. after AdKeeps (said.segments_said pod ad before d) (λ segments. Ok (said.ad_of part key segments))
+ad_said_keeps : (ad : Place) (before : ℕ) (d : Data) (a : Ad) → said.ad_said ad before d ≡ Ok a → AdKeeps a
+ad_said_keeps ad before d =
+    after AdKeeps (optional (said.init_section_said ad) (get (codes "map") d))
+    (λ part. optional (said.key_said ad) (get (codes "key") d) >>= λ key. said.segments_said ad before d >>= λ segments. Ok (said.ad_of part key segments))
+    (λ part p. after AdKeeps (optional (said.key_said ad) (get (codes "key") d)) (λ key. said.segments_said ad before d >>= λ segments. Ok (said.ad_of part key segments))
+    (λ key k. after AdKeeps (said.segments_said ad before d) (λ segments. Ok (said.ad_of part key segments))
     (λ segments s. answers AdKeeps (said.ad_of part key segments)
-    (ad_is part key segments (optional_is OptionalPart (said.init_section_said (in_ad pod ad)) (get (codes "map") d) tt (λ a x e. init_section_is (in_ad pod ad) a x e) part p)
-    (optional_is OptionalKey (said.key_said (in_ad pod ad)) (get (codes "key") d) tt (λ a x e. key_is (in_ad pod ad) a x e) key k)
-    (segments_keep pod ad before d segments s)))))
+    (ad_is part key segments (optional_is OptionalPart (said.init_section_said ad) (get (codes "map") d) tt (λ a x e. init_section_is ad a x e) part p)
+    (optional_is OptionalKey (said.key_said ad) (get (codes "key") d) tt (λ a x e. key_is ad a x e) key k)
+    (segments_keep ad before d segments s)))))
 
 -- the ads that are read keep the rules
-pub ads_read_keep : (pod : ℕ) (list : List Data) (ads : List Ad) → (length list == 0) ≡ false → each_after (said.next_ad pod) [] list ≡ Ok ads → sum (map segment_count ads) ≤ most_pod_segments → ads_keep ads ≡ true
+pub ads_read_keep : (pod : Place) (list : List Data) (ads : List Ad) → (length list == 0) ≡ false → each_after (said.next_ad pod) [] list ≡ Ok ads → sum (map segment_count ads) ≤ most_pod_segments → ads_keep ads ≡ true
 ads_read_keep pod list ads some h most =
     and_from _ _ (and_from _ _ (some_read (said.next_ad pod) list ads some h) (le-leb _ _ most))
-    (each_keeps ad_keeps (said.next_ad pod) (λ done d a e. ad_said_keeps pod (length done) (sum (map segment_count done)) d a e) [] list refl ads h)
+    (each_keeps ad_keeps (said.next_ad pod) (λ done d a e. ad_said_keeps (in_ad pod (length done)) (sum (map segment_count done)) d a e) [] list refl ads h)
 
 pub some_seen : {A B : Type 0} (f : A → B) (xs : List A) → (length xs == 0) ≡ false → (length (map f xs) == 0) ≡ false
 some_seen f xs h = rw (length-map xs f) h

@@ -14,7 +14,6 @@ use Rattle.serde_json.specs.Find.{get, as_null, as_str, as_object}
 use Rattle.serde_json.specs.Read.{read}
 use Rattle.pod_store.specs.declared.Decisions.{Decisions}
 use Rattle.pod_store.specs.declared.Decisions.TheVariants.{Breaks, Withdraw, Fallback, NoFallback}
-use Rattle.pod_store.specs.declared.fault.DecisionFault.{DecisionFault}
 use Rattle.pod_store.specs.declared.fault.Place.{Place}
 use Rattle.pod_store.specs.declared.fault.DecisionKind.TheVariants.{NotJson, Shape, BadUri, BadDuration, BadKey, EmptyPod, TooMany}
 use Rattle.spec_words.specs.Outcomes.{◌>>=◌, or_fault, mended, refuse_if, optional, each_after}
@@ -105,18 +104,18 @@ segment_said place d =
     or_fault (fault_at place Shape) (text_at (codes "duration") d) >>= λ duration.
     segment_texts place uri duration d
 
--- the segment after these of its ad, if so many of its break stand in the ads before
-abbrev pub next_segment : ℕ → ℕ → ℕ → List PodSegment → Data → Outcome PodSegment
-next_segment pod ad before done d =
-    let place = in_segment pod ad (length done) in
+-- the segment after these of the ad at a place, if so many of its pod stand in the ads before
+abbrev pub next_segment : Place → ℕ → List PodSegment → Data → Outcome PodSegment
+next_segment ad before done d =
+    let place = in_segment ad (length done) in
     refuse_if (nat_le most_pod_segments (before + length done)) (fault_at place TooMany) (segment_said place d)
 
 -- ---- ads
 
-abbrev pub segments_said : ℕ → ℕ → ℕ → Data → Outcome (List PodSegment)
-segments_said pod ad before d =
-    or_fault (fault_at (in_ad pod ad) Shape) (list_at (codes "segments") d) >>= λ list.
-    refuse_if (length list == 0) (fault_at (in_ad pod ad) EmptyPod) (each_after (next_segment pod ad before) [] list)
+abbrev pub segments_said : Place → ℕ → Data → Outcome (List PodSegment)
+segments_said place before d =
+    or_fault (fault_at place Shape) (list_at (codes "segments") d) >>= λ list.
+    refuse_if (length list == 0) (fault_at place EmptyPod) (each_after (next_segment place before) [] list)
 
 abbrev pub ad_of : Option Part → Option Key → List PodSegment → Ad
 ad_of part key segments = record {
@@ -125,27 +124,28 @@ ad_of part key segments = record {
   segments = segments;
 }
 
--- an ad of a break, which has so many segments in the ads before
-abbrev pub ad_said : ℕ → ℕ → ℕ → Data → Outcome Ad
-ad_said pod ad before d =
-    optional (init_section_said (in_ad pod ad)) (get (codes "map") d) >>= λ part.
-    optional (key_said (in_ad pod ad)) (get (codes "key") d) >>= λ key.
-    segments_said pod ad before d >>= λ segments.
+-- the ad at a place, whose pod has so many segments in the ads before
+abbrev pub ad_said : Place → ℕ → Data → Outcome Ad
+ad_said place before d =
+    optional (init_section_said place) (get (codes "map") d) >>= λ part.
+    optional (key_said place) (get (codes "key") d) >>= λ key.
+    segments_said place before d >>= λ segments.
     Ok (ad_of part key segments)
 
-abbrev pub next_ad : ℕ → List Ad → Data → Outcome Ad
-next_ad pod done d = ad_said pod (length done) (sum (map segment_count done)) d
+-- the ad after these of the pod at a place
+abbrev pub next_ad : Place → List Ad → Data → Outcome Ad
+next_ad pod done d = ad_said (in_ad pod (length done)) (sum (map segment_count done)) d
 
 -- ---- breaks
 
 abbrev pub id_of : Decision → List ℕ
 id_of decision = decision.0
 
--- the break's ID and ads
-abbrev pub pod_said : ℕ → List Data → Outcome Pod
-pod_said pod ads =
-    refuse_if (length ads == 0) (fault_at (in_break pod) EmptyPod)
-    (each_after (next_ad pod) [] ads >>= λ said. Ok (record { ads = said }))
+-- the pod of these ads, in a break or in none
+abbrev pub pod_said : Place → List Data → Outcome Pod
+pod_said place ads =
+    refuse_if (length ads == 0) (fault_at place EmptyPod)
+    (each_after (next_ad place) [] ads >>= λ said. Ok (record { ads = said }))
 
 abbrev pub id_said : ℕ → Data → Outcome (List ℕ)
 id_said pod d =
@@ -158,7 +158,7 @@ break_said pod before d =
     id_said pod d >>= λ id.
     or_fault (fault_at (in_break pod) Shape) (list_at (codes "ads") d) >>= λ ads.
     refuse_if (list_any (bytes_eq id) before) (fault_at (in_break pod) Shape)
-    (pod_said pod ads >>= λ said. Ok (id, said))
+    (pod_said (in_break pod) ads >>= λ said. Ok (id, said))
 
 abbrev pub next_break : List Decision → Data → Outcome Decision
 next_break done d = break_said (length done) (map id_of done) d
@@ -173,18 +173,10 @@ abbrev pub withdraw_said : Data → Outcome Decisions
 withdraw_said d =
     or_fault (fault_at nowhere Shape) (as_str d) >>= λ id. refuse_if (not (is_id id)) (fault_at nowhere Shape) (Ok (Withdraw id))
 
--- a fault in an ad of no break
-abbrev pub in_no_break : DecisionFault → DecisionFault
-in_no_break fault = record { kind = fault.kind; place = record { pod = None; ad = fault.place.ad; segment = fault.place.segment } }
-
-abbrev pub of_no_break : {A : Type 0} → Outcome A → Outcome A
-of_no_break (Ok x) = Ok x
-of_no_break (Err fault) = Err (in_no_break fault)
-
--- the ads are those of a break, and stand in none
+-- the ads stand in no break
 abbrev pub fallback_pod : Data → Outcome Decisions
 fallback_pod d =
-    or_fault (fault_at nowhere Shape) (list_at (codes "ads") d) >>= λ ads. of_no_break (pod_said 0 ads) >>= λ pod. Ok (Fallback pod)
+    or_fault (fault_at nowhere Shape) (list_at (codes "ads") d) >>= λ ads. pod_said nowhere ads >>= λ pod. Ok (Fallback pod)
 
 -- null, or the ads of the fallback
 abbrev pub fallback_said : Data → Outcome Decisions

@@ -3,7 +3,7 @@ ghost use Rattle.std.specs.Prelude.{◌≡◌, ◌≤◌, ◌+◌, IfOk, map, co
 ghost use Rattle.serde_json.specs.View.{view};
 ghost use Rattle.serde_json.specs.Find.{get};
 ghost use Rattle.spec_words.specs.Outcomes.{each_after, optional};
-ghost use Rattle.pod_store.specs.Outcome.{Gives, in_break, fault_at};
+ghost use Rattle.pod_store.specs.Outcome.{Gives, fault_at};
 ghost use Rattle.pod_store.specs.Pods.{segment_count};
 ghost use Rattle.decision_files.specs.Decided.{init_section_said, key_said, ad_said, next_ad, pod_said, ad_of};
 ghost use Rattle.decision_files.specs.Inner.Views.{part_of};
@@ -59,27 +59,20 @@ fn ad_of(
     })
 }
 
-// An ad of a break, which has so many segments in the ads before.
-fn ad_said(
-    alloc: Global,
-    pod: usize,
-    ad: usize,
-    before: usize,
-    value: &Value,
-) -> Result<Ad, DecisionFault>
+// The ad at a place, whose pod has so many segments in the ads before.
+fn ad_said(alloc: Global, place: Place, before: usize, value: &Value) -> Result<Ad, DecisionFault>
     requires { before ≤ MAX_POD_SEGMENTS }
-    ensures said { Gives (λ a. a) result (ad_said pod ad before (view value.now)) }
+    ensures said { Gives (λ a. a) result (ad_said place before (view value.now)) }
     ensures most { IfOk result (λ a. before + segment_count a ≤ MAX_POD_SEGMENTS) }
 {
-    let place = Place::in_ad(pod, ad);
     let part = stated_init_section(alloc, place, value)?;
     let key = stated_key(alloc, place, value)?;
-    let segments = segments_said(alloc, pod, ad, before, value)?;
+    let segments = segments_said(alloc, place, before, value)?;
     Ok(ad_of(alloc, part, key, segments)?)
 }
 
-// The ads of these objects.
-fn ads_of(alloc: Global, pod: usize, list: &[Value]) -> Result<Vec<Ad>, DecisionFault>
+// The ads of these objects, of the pod at a place.
+fn ads_of(alloc: Global, pod: Place, list: &[Value]) -> Result<Vec<Ad>, DecisionFault>
     ensures said { Gives (λ v. v.items) result (each_after (next_ad pod) [] (map view list.now)) }
     ensures most { IfOk result (λ v. sum (map segment_count v.items) ≤ MAX_POD_SEGMENTS) }
 {
@@ -87,7 +80,7 @@ fn ads_of(alloc: Global, pod: usize, list: &[Value]) -> Result<Vec<Ad>, Decision
     let mut before: usize = 0;
     let mut rest = list;
     while let Some((value, later)) = rest.split_first() {
-        let ad = ad_said(alloc, pod, done.len(), before, value)?;
+        let ad = ad_said(alloc, pod.in_ad(done.len()), before, value)?;
         before += ad.segments.len();
         done.push(ad)?;
         rest = later;
@@ -95,17 +88,17 @@ fn ads_of(alloc: Global, pod: usize, list: &[Value]) -> Result<Vec<Ad>, Decision
     Ok(done)
 }
 
-/// The pod that `ads` state, for the break that the decision file lists at `pod`, from 0. `EmptyPod` if there are
-/// none; then the faults of each ad in turn; `OutOfMemory` only if an allocation fails.
-pub fn pod_said(alloc: Global, pod: usize, ads: &[Value]) -> Result<Pod, DecisionFault>
-    ensures said { Gives (λ p. p) result (pod_said pod (map view ads.now)) }
+/// The pod that `ads` state, which stand at `place`: in a break, or in none. `EmptyPod` if there are none; then the
+/// faults of each ad in turn; `OutOfMemory` only if an allocation fails.
+pub fn pod_said(alloc: Global, place: Place, ads: &[Value]) -> Result<Pod, DecisionFault>
+    ensures said { Gives (λ p. p) result (pod_said place (map view ads.now)) }
 
     // That there are none is answered whatever memory there is.
-    ensures told { ads.now ≡ [] → result ≡ Err (fault_at (in_break pod) DecisionKind.EmptyPod) }
+    ensures told { ads.now ≡ [] → result ≡ Err (fault_at place DecisionKind.EmptyPod) }
 {
     if ads.is_empty() {
-        return Err(Place::in_break(pod).fault(DecisionKind::EmptyPod));
+        return Err(place.fault(DecisionKind::EmptyPod));
     }
-    let ads = ads_of(alloc, pod, ads)?;
+    let ads = ads_of(alloc, place, ads)?;
     Ok(Pod::new(Items::from_vec(ads)))
 }

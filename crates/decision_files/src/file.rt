@@ -4,13 +4,13 @@ ghost use Rattle.serde_json.specs.View.{view};
 ghost use Rattle.std.specs.Str.{is_utf8};
 ghost use Rattle.spec_words.specs.Outcomes.{each_after, GivesExactly, Tells};
 ghost use Rattle.pod_store.specs.Outcome.{Gives, nowhere, fault_at};
-ghost use Rattle.decision_files.specs.Decided.{id_said, pod_said, break_said, next_break, breaks_said, withdraw_said, in_no_break, of_no_break, fallback_pod, fallback_said, value_said, json_of, decisions_of};
+ghost use Rattle.decision_files.specs.Decided.{id_said, pod_said, break_said, next_break, breaks_said, withdraw_said, fallback_pod, fallback_said, value_said, json_of, decisions_of};
 
 use crate::ads::pod_said;
 use crate::members::{list_at, text_at, values_of};
 use crate::texts::is_id;
 use playlist_model::{Items, Text, text_of};
-use pod_store::{Decision, DecisionFault, DecisionKind, Decisions, IdSet, Place, Pod};
+use pod_store::{Decision, DecisionFault, DecisionKind, Decisions, IdSet, Place};
 use serde_json::Value;
 use std::alloc::Global;
 use std::hash::RandomState;
@@ -42,7 +42,7 @@ fn break_said<'a>(
     if !before.insert(id)? {
         return Err(place.fault(DecisionKind::Shape));
     }
-    let said = pod_said(alloc, pod, ads)?;
+    let said = pod_said(alloc, place, ads)?;
     let id = Text::copy_of(alloc, id)?;
     Ok((id, said))
 }
@@ -90,34 +90,12 @@ fn withdraw_said(alloc: Global, value: &Value) -> Result<Decisions, DecisionFaul
     Ok(Decisions::Withdraw(Text::copy_of(alloc, id)?))
 }
 
-// The same fault in an ad of no break.
-fn in_no_break(fault: DecisionFault) -> DecisionFault
-    ensures { result ≡ in_no_break fault }
-{
-    let Place { ad, segment, .. } = fault.place;
-    let place = Place {
-        pod: None,
-        ad,
-        segment,
-    };
-    place.fault(fault.kind)
-}
-
-// The pod of these ads, which stand in no break.
-fn pod_outside(alloc: Global, ads: &[Value]) -> Result<Pod, DecisionFault>
-    ensures { Gives (λ pod. pod) result (of_no_break (pod_said 0 (map view ads.now))) }
-{
-    match pod_said(alloc, 0, ads) {
-        Ok(pod) => Ok(pod),
-        Err(fault) => Err(in_no_break(fault)),
-    }
-}
-
 fn fallback_pod(alloc: Global, value: &Value) -> Result<Decisions, DecisionFault>
     ensures { Gives (λ d. d) result (fallback_pod (view value.now)) }
 {
-    let ads = list_at(value, "ads").ok_or(Place::nowhere().fault(DecisionKind::Shape))?;
-    let pod = pod_outside(alloc, ads)?;
+    let nowhere = Place::nowhere();
+    let ads = list_at(value, "ads").ok_or(nowhere.fault(DecisionKind::Shape))?;
+    let pod = pod_said(alloc, nowhere, ads)?;
     Ok(Decisions::Fallback(pod))
 }
 

@@ -2,7 +2,7 @@
 ghost use Rattle.std.specs.Prelude.{◌≡◌, ◌≤◌, ◌+◌, ◌<◌, map, length, codes, [], Some, IfOk, OnOk};
 ghost use Rattle.serde_json.specs.View.{view};
 ghost use Rattle.spec_words.specs.Outcomes.{each_after, Tells};
-ghost use Rattle.pod_store.specs.Outcome.{Gives, in_ad, fault_at};
+ghost use Rattle.pod_store.specs.Outcome.{Gives, fault_at};
 ghost use Rattle.decision_files.specs.Json.{list_at};
 ghost use Rattle.decision_files.specs.Decided.{segment_texts, segment_said, next_segment, segments_said};
 
@@ -45,23 +45,22 @@ fn segment_said(alloc: Global, place: Place, value: &Value) -> Result<PodSegment
     segment_texts(alloc, place, uri, duration, value)
 }
 
-// The segment after these of its ad, if so many of its break stand in the ads before.
+// The segment after these of the ad at a place, if so many of its pod stand in the ads before.
 fn next_segment(
     alloc: Global,
-    pod: usize,
-    ad: usize,
+    ad: Place,
     before: usize,
     done: &Vec<PodSegment>,
     value: &Value,
 ) -> Result<PodSegment, DecisionFault>
     requires { before ≤ MAX_POD_SEGMENTS }
     ensures said { Gives (λ s. s) result
-        (next_segment pod ad before done.now.items (view value.now)) }
+        (next_segment ad before done.now.items (view value.now)) }
     ensures told { Tells result
-        (next_segment pod ad before done.now.items (view value.now)) }
+        (next_segment ad before done.now.items (view value.now)) }
     ensures room { OnOk result (before + length done.now.items < MAX_POD_SEGMENTS) }
 {
-    let place = Place::in_segment(pod, ad, done.len());
+    let place = ad.in_segment(done.len());
     if done.len() >= MAX_POD_SEGMENTS - before {
         return Err(place.fault(DecisionKind::TooMany));
     }
@@ -71,48 +70,45 @@ fn next_segment(
 // The segments of these objects.
 fn segments_of(
     alloc: Global,
-    pod: usize,
-    ad: usize,
+    ad: Place,
     before: usize,
     list: &[Value],
 ) -> Result<Vec<PodSegment>, DecisionFault>
     requires { before ≤ MAX_POD_SEGMENTS }
     ensures said { Gives (λ v. v.items) result
-        (each_after (next_segment pod ad before) [] (map view list.now)) }
+        (each_after (next_segment ad before) [] (map view list.now)) }
     ensures most { IfOk result (λ v. before + length v.items ≤ MAX_POD_SEGMENTS) }
 {
     let mut done = Vec::new(alloc);
     let mut rest = list;
     while let Some((value, later)) = rest.split_first() {
-        let segment = next_segment(alloc, pod, ad, before, &done, value)?;
+        let segment = next_segment(alloc, ad, before, &done, value)?;
         done.push(segment)?;
         rest = later;
     }
     Ok(done)
 }
 
-/// The segments that `value`, the ad at `ad` of the break at `pod`, both from 0, states. `before` segments of its pod
-/// come before it, which counts towards the most that a pod may have. The faults, in this order: `Shape`, `EmptyPod`,
-/// then those of each segment in turn; `OutOfMemory` only if an allocation fails.
+/// The segments that `value` states, the ad at the place `ad`. `before` segments of its pod come before it, which
+/// counts towards the most that a pod may have. The faults, in this order: `Shape`, `EmptyPod`, then those of each
+/// segment in turn; `OutOfMemory` only if an allocation fails.
 pub fn segments_said(
     alloc: Global,
-    pod: usize,
-    ad: usize,
+    ad: Place,
     before: usize,
     value: &Value,
 ) -> Result<Vec<PodSegment>, DecisionFault>
     requires { before ≤ MAX_POD_SEGMENTS }
-    ensures said { Gives (λ v. v.items) result (segments_said pod ad before (view value.now)) }
+    ensures said { Gives (λ v. v.items) result (segments_said ad before (view value.now)) }
 
     // That there are none is answered whatever memory there is.
     ensures told { list_at (codes "segments") (view value.now) ≡ Some []
-        → result ≡ Err (fault_at (in_ad pod ad) DecisionKind.EmptyPod) }
+        → result ≡ Err (fault_at ad DecisionKind.EmptyPod) }
     ensures most { IfOk result (λ v. before + length v.items ≤ MAX_POD_SEGMENTS) }
 {
-    let place = Place::in_ad(pod, ad);
-    let list = list_at(value, "segments").ok_or(place.fault(DecisionKind::Shape))?;
+    let list = list_at(value, "segments").ok_or(ad.fault(DecisionKind::Shape))?;
     if list.is_empty() {
-        return Err(place.fault(DecisionKind::EmptyPod));
+        return Err(ad.fault(DecisionKind::EmptyPod));
     }
-    segments_of(alloc, pod, ad, before, list)
+    segments_of(alloc, ad, before, list)
 }

@@ -76,14 +76,7 @@ fn push_next<'a>(
         ++ said_text (segment_owed before.now next.now)) }
     ensures force { IfOk result (λ f. f ≡ after_segment before.now next.now) }
 {
-    push_segment(
-        out,
-        times,
-        last,
-        before.keys,
-        before.init_section,
-        next,
-    )?;
+    push_segment(out, times, last, before.keys, before.init_section, next)?;
     Ok(force_after(before, &next.segment))
 }
 
@@ -231,9 +224,7 @@ fn states_all(before: &InForce<'_>, segments: StitchedItems<'_>) -> bool
 {
     let mut segments = segments;
     match segments.next() {
-        Some(first) => {
-            first.segment.init_section().is_some() || before.init_section.is_none()
-        }
+        Some(first) => { first.segment.init_section().is_some() || before.init_section.is_none() }
         None => false,
     }
 }

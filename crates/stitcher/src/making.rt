@@ -369,12 +369,7 @@ impl<'a> Stitching<'a> {
 
     // Puts `segment`, one of `ad`, at the end, after a discontinuity if it is the `first` of its ad (RFC 8216,
     // section 4.3.2.3).
-    fn put(
-        &mut self,
-        ad: &'a Ad,
-        segment: &'a PodSegment,
-        first: bool,
-    ) -> Result<(), StitchFault>
+    fn put(&mut self, ad: &'a Ad, segment: &'a PodSegment, first: bool) -> Result<(), StitchFault>
         requires { numbers_fit self.old.first ≡ true }
         ensures ok { OnOk result
             ((mark : Mark) → Puts self.old self.new (ad_piece mark first ad.now segment.now ∷ [])) }
@@ -457,12 +452,7 @@ impl<'a> Stitching<'a> {
     }
 
     // Puts at the end what is shown of the pod that a break has in the store.
-    fn put_break(
-        &mut self,
-        id: &str,
-        part: Part,
-        store: &'a PodStore,
-    ) -> Result<(), StitchFault>
+    fn put_break(&mut self, id: &str, part: Part, store: &'a PodStore) -> Result<(), StitchFault>
         requires { numbers_fit self.old.first ≡ true }
         ensures ok { OnOk result
             (Puts self.old self.new (part_of part (pod_with id.now (pod_for store.now id.now)))) }

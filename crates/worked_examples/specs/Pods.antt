@@ -414,14 +414,14 @@ AdsAreChecked = Gives (λ (text : List ℕ). decisions_of (with_ad text)) (
 
 -- the segments of an ad, if so many stand in the ads before (J7)
 abbrev pub said_after : ℕ → Outcome (List PodSegment)
-said_after before = json_of (codes "{\"segments\":[{\"uri\":\"http://a/s\",\"duration\":\"0.000000001\",\"offset\":5,\"length\":100}]}") >>= segments_said 0 1 before
+said_after before = json_of (codes "{\"segments\":[{\"uri\":\"http://a/s\",\"duration\":\"0.000000001\",\"offset\":5,\"length\":100}]}") >>= segments_said (in_ad 0 1) before
 
 abbrev pub SegmentsAreCounted : Type 0
 SegmentsAreCounted = Gives said_after ((most_of_a_pod - 1, Ok (segment 1 ∷ [])) ∷ (most_of_a_pod, Err (fault_at (in_segment 0 1 0) fault.TooMany)) ∷ [])
 
 -- an ad of two segments after these ads
 abbrev pub said_after_ads : List Ad → Outcome Ad
-said_after_ads done = json_of (codes "{\"segments\":[{\"uri\":\"http://a/s\",\"duration\":\"0.000000001\",\"offset\":5,\"length\":100},{\"uri\":\"http://a/s\",\"duration\":\"0.000000002\",\"offset\":5,\"length\":100}]}") >>= next_ad 7 done
+said_after_ads done = json_of (codes "{\"segments\":[{\"uri\":\"http://a/s\",\"duration\":\"0.000000001\",\"offset\":5,\"length\":100},{\"uri\":\"http://a/s\",\"duration\":\"0.000000002\",\"offset\":5,\"length\":100}]}") >>= next_ad (in_break 7) done
 
 abbrev pub AdsAreCounted : Type 0
 AdsAreCounted = Gives said_after_ads (
@@ -433,7 +433,7 @@ AdsAreCounted = Gives said_after_ads (
 
 -- five segments after these
 abbrev pub said_five_after : ℕ → Outcome (List PodSegment)
-said_five_after before = json_of (codes "{\"segments\":[{\"uri\":\"http://a/s\",\"duration\":\"0.000000001\",\"offset\":5,\"length\":100},{\"uri\":\"http://a/s\",\"duration\":\"0.000000002\",\"offset\":5,\"length\":100},{\"uri\":\"http://a/s\",\"duration\":\"0.000000003\",\"offset\":5,\"length\":100},{\"uri\":\"http://a/s\",\"duration\":\"0.000000004\",\"offset\":5,\"length\":100},{\"uri\":\"http://a/s\",\"duration\":\"0.000000005\",\"offset\":5,\"length\":100}]}") >>= segments_said 0 1 before
+said_five_after before = json_of (codes "{\"segments\":[{\"uri\":\"http://a/s\",\"duration\":\"0.000000001\",\"offset\":5,\"length\":100},{\"uri\":\"http://a/s\",\"duration\":\"0.000000002\",\"offset\":5,\"length\":100},{\"uri\":\"http://a/s\",\"duration\":\"0.000000003\",\"offset\":5,\"length\":100},{\"uri\":\"http://a/s\",\"duration\":\"0.000000004\",\"offset\":5,\"length\":100},{\"uri\":\"http://a/s\",\"duration\":\"0.000000005\",\"offset\":5,\"length\":100}]}") >>= segments_said (in_ad 0 1) before
 
 abbrev pub ManySegmentsAreCounted : Type 0
 ManySegmentsAreCounted = Gives said_five_after (

@@ -7,7 +7,7 @@ use Rattle.decision_files.proofs.segments.segments_of.Given as goal
 
 abbrev pub invariant-loop-value : goal.invariant-loop-value
 invariant-loop-value l =
-    (each_after (next_segment l.pod l.ad l.before) l.done.items (map view l.rest) ≡ each_after (next_segment l.pod l.ad l.before) [] (map view l.list))
+    (each_after (next_segment l.ad l.before) l.done.items (map view l.rest) ≡ each_after (next_segment l.ad l.before) [] (map view l.list))
     × (l.before + length l.done.items ≤ most_pod_segments)
 
 abbrev pub decreases-loop-value : goal.decreases-loop-value
