@@ -27,7 +27,7 @@ POD_SEGMENTS = Limit("the segments of a pod", ("crates/pod_store/specs/Limits.an
     ("crates/channel_window/src/placing.rt", "rest_count store.now rest.now }}\n    ensures few {{ result ≤ {n} }}"),
     ("crates/channel_window/src/placing.rt", "marked.now.mark) }}\n    ensures few {{ result ≤ {n} }}"),
     ("crates/channel_window/proofs/Sizes.antt", "sum (map segment_count ads) ≤ {n}\n"),
-    ("crates/channel_window/proofs/placing/place_of/Invariants.antt", "few : l.items ≤ {n};"),
+    ("crates/channel_window/proofs/placing/newest_run_place/Invariants.antt", "few : l.items ≤ {n};"),
     ("crates/worked_examples/specs/Pods.antt", "most_of_a_pod = {n}\n"),
     ("plant/adsplice_rules/decisions.py", "MOST_POD_SEGMENTS = {n:_}\n"),
     ("bench/rivals/decisions/src/main.rs", "count <= {n:_})"),

@@ -18,7 +18,7 @@ from .library import TooLarge
 from .noting import Notes
 from .reading import Unread
 
-IS_TABLE = re.compile(r"(?m)^\w+ = (?:\(.*?\) → )?Gives ")
+IS_TABLE = re.compile(r"(?m)^\w+ = (?:\(.*?\) → )?HasValues ")
 ROW_SECONDS = 5  # (a row takes 0.4 s at most)
 CALL_SECONDS, TIMES = 1, 20  # (a turned equation may take a second, and so many times as long as it takes as it is)
 TOO_LONG, TOO_DEEP = "it takes too long", "it goes too deep"

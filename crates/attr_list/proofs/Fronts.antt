@@ -9,9 +9,9 @@ use Rattle.std.proofs.lemmas.List.{append-nil, take-append-drop, take_at, drop_m
 use Rattle.std.proofs.lemmas.List.Folds.{list_all-append}
 use Rattle.std.proofs.lemmas.Str.{IsUtf8-from_ascii, IsCharBoundary-from_take}
 use Rattle.attr_list.specs.declared.AttrFault.TheVariants.{BadName, NoEquals, BadValue, OpenQuote}
-use Rattle.attr_list.specs.Attributes.{is_comma, is_equals, is_quote, is_name_byte, is_name, ends_plain, piece_name, quoted_value, value_pair, value_of}
+use Rattle.attr_list.specs.Attributes.{is_comma, is_equals, is_quote, is_name_byte, is_name, ends_plain, piece_name, quoted_value, value_pair, pair_of_value}
 use Rattle.attr_list.specs.Scanning.{first_from, first_piece}
-use Rattle.attr_list.specs.Inner.Scanning.{ends_pair, begins_quoted, name_fault, IsNamed, IsValued, HasValueFault}
+use Rattle.attr_list.specs.Inner.Scanning.{ends_pair, begins_quoted, name_fault, StartsWithName, IsValued, HasValueFault}
 use Rattle.attr_list.proofs.Cuts.{position_at, any_at, before_after, begins_with, before_has_none, rest_begins, list_any-none, position_le, position_none}
 use Rattle.attr_list.proofs.Pieces.{first_past, first_inside, first_ended, name_runs, name_without_equals, plain_runs}
 
@@ -61,7 +61,7 @@ unnamed b bytes h = grind arith
 pub no_name : (text name after : List ℕ) → IsNameCut text name after → (length name == 0) ≡ true → name_fault (first_piece text) ≡ Some BadName
 no_name text name after cut none = grind (arith, nil_from_length)
 
-pub has_name : (text name after value : List ℕ) → IsNameCut text name after → (length name == 0) ≡ false → after ≡ 61 ∷ value → IsNamed text name value
+pub has_name : (text name after value : List ℕ) → IsNameCut text name after → (length name == 0) ≡ false → after ≡ 61 ∷ value → StartsWithName text name value
 has_name text name after value cut some e = (is_name_from name cut.named some, cut.whole ∙ ap (λ x. name ++ x) e)
 
 first_of_cut : (text name after : List ℕ) → IsNameCut text name after → (length name == 0) ≡ false → first_piece text ≡ name ++ first_piece after
@@ -142,20 +142,20 @@ pub record IsPlainCut (text value after : List ℕ) : Type 0 where
 pub plain_cut : (text value after : List ℕ) (n : ℕ) → n ≡ position_or_len ends_plain text → value ≡ take n text → after ≡ drop n text → IsPlainCut text value after
 plain_cut text value after n e f g = grind (arith, before_has_none, rest_begins, take-append-drop)
 
-bad_plain : (name piece : List ℕ) → begins_quoted piece ≡ false → list_any ends_plain piece ≡ true → value_of name piece ≡ Err BadValue
+bad_plain : (name piece : List ℕ) → begins_quoted piece ≡ false → list_any ends_plain piece ≡ true → pair_of_value name piece ≡ Err BadValue
 bad_plain name piece h g = grind arith
 
 pub no_plain : (text value after : List ℕ) → IsPlainCut text value after → begins_quoted text ≡ false → (length value == 0) ≡ true → HasValueFault text BadValue
 no_plain text value after cut unquoted none name =
     let empty : value ≡ [] = nil_from_length value (eqb-true _ _ none) in
     let same : text ≡ after = cut.whole ∙ ap (λ x. x ++ after) empty in
-    ap (λ x. value_of name (first_piece x)) same ∙ by name after cut.stopped (ap begins_quoted (sym same) ∙ unquoted)
+    ap (λ x. pair_of_value name (first_piece x)) same ∙ by name after cut.stopped (ap begins_quoted (sym same) ∙ unquoted)
   where
-    by : (name after : List ℕ) → begins_with ends_plain after ≡ true → begins_quoted after ≡ false → value_of name (first_piece after) ≡ Err BadValue
+    by : (name after : List ℕ) → begins_with ends_plain after ≡ true → begins_quoted after ≡ false → pair_of_value name (first_piece after) ≡ Err BadValue
     by name [] h g = refl
     by name (b ∷ after) h g = step (is_comma b) refl
       where
-        step : (c : Bool) → is_comma b ≡ c → value_of name (cond (c && true) [] (b ∷ first_from (cond (is_quote b) true false) after)) ≡ Err BadValue
+        step : (c : Bool) → is_comma b ≡ c → pair_of_value name (cond (c && true) [] (b ∷ first_from (cond (is_quote b) true false) after)) ≡ Err BadValue
         step true e = refl
         step false e = bad_plain name (b ∷ first_from (cond (is_quote b) true false) after) g (or_left _ _ h)
 

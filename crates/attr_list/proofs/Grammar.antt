@@ -9,7 +9,7 @@ use Rattle.std.proofs.lemmas.List.Quantifiers.{all_pairs_push}
 use Rattle.std.proofs.lemmas.List.Folds.{list_any_none}
 use Rattle.std.proofs.lemmas.Slice.Eq.{bytes_eq-Decides}
 use Rattle.attr_list.specs.declared.AttrFault.{AttrFault}
-use Rattle.attr_list.specs.Attributes.{Pair, is_quote, is_name, is_value, is_pair, are_apart, is_named, value_spelling, pair_spelling, attributes_text, IsPair, IsAttributeList, pieces_from, pieces, piece_name, piece_value, has_equals, quoted_value, plain_value, value_pair, value_of, pair_of, add_pair, pairs_from, attributes_of}
+use Rattle.attr_list.specs.Attributes.{Pair, is_quote, is_name, is_value, is_pair, are_apart, is_named, value_spelling, pair_spelling, attributes_text, IsPair, IsAttributeList, pieces_from, pieces, piece_name, piece_value, has_equals, quoted_value, plain_value, value_pair, pair_of_value, pair_of, add_pair, pairs_from, attributes_of}
 use Rattle.attr_list.specs.Inner.Scanning.{ends_pair, StartsWithPair}
 use Rattle.attr_list.proofs.Cuts.{before_has_none}
 use Rattle.attr_list.proofs.Pieces.{pieces_are}
@@ -57,7 +57,7 @@ pair_made name q r pair h = grind arith
 abbrev IsValueOf : List ℕ → List ℕ → Pair → Type 0
 IsValueOf name text pair = (pair.name ≡ name) × (is_value pair.quoted pair.value ≡ true) × (text ≡ value_spelling pair.quoted pair.value)
 
-value_is : (name text : List ℕ) (pair : Pair) → value_of name text ≡ Ok pair → IsValueOf name text pair
+value_is : (name text : List ℕ) (pair : Pair) → pair_of_value name text ≡ Ok pair → IsValueOf name text pair
 value_is name [] pair h = grind arith
 value_is name (b ∷ text) pair h = step (is_quote b) refl h
   where

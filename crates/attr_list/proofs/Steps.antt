@@ -5,9 +5,9 @@ use Rattle.std.proofs.lemmas.Bool.{and_parts, not-true, eqb-true}
 use Rattle.std.proofs.lemmas.List.{take_at}
 use Rattle.attr_list.specs.declared.AttrFault.{AttrFault}
 use Rattle.attr_list.specs.declared.AttrFault.TheVariants.{Twice}
-use Rattle.attr_list.specs.Attributes.{Pair, is_quote, is_name, is_value, is_pair, is_named, is_full, value_spelling, pair_spelling, pieces, quoted_value, value_pair, value_of, pair_of, pairs_from, add_pair, spans_from}
+use Rattle.attr_list.specs.Attributes.{Pair, is_quote, is_name, is_value, is_pair, is_named, is_full, value_spelling, pair_spelling, pieces, quoted_value, value_pair, pair_of_value, pair_of, pairs_from, add_pair, spans_from}
 use Rattle.attr_list.specs.Scanning.{first_piece}
-use Rattle.attr_list.specs.Inner.Scanning.{ends_pair, IsNamed, IsValued, HasValueFault, StartsWithPair}
+use Rattle.attr_list.specs.Inner.Scanning.{ends_pair, StartsWithName, IsValued, HasValueFault, StartsWithPair}
 use Rattle.attr_list.proofs.Cuts.{position_at, before_at, after_at, any_at}
 use Rattle.attr_list.proofs.Pieces.{first_named, later_named, first_valued, later_valued, later_from, pieces_are, name_without_equals}
 
@@ -16,30 +16,30 @@ use Rattle.attr_list.proofs.Pieces.{first_named, later_named, first_valued, late
 quoted_read : (value : List ℕ) → list_any is_quote value ≡ false → quoted_value (value ++ 34 ∷ []) ≡ Ok value
 quoted_read value h = grind (arith, any_at, length-append, position_at, take_at)
 
-plain_read : (name value : List ℕ) → is_value false value ≡ true → value_of name value ≡ Ok (record { name = name; value = value; quoted = false })
+plain_read : (name value : List ℕ) → is_value false value ≡ true → pair_of_value name value ≡ Ok (record { name = name; value = value; quoted = false })
 plain_read name value h = grind arith
 
-pub value_read : (q : Bool) (name value : List ℕ) → is_value q value ≡ true → value_of name (value_spelling q value) ≡ Ok (record { name = name; value = value; quoted = q })
+pub value_read : (q : Bool) (name value : List ℕ) → is_value q value ≡ true → pair_of_value name (value_spelling q value) ≡ Ok (record { name = name; value = value; quoted = q })
 value_read true name value h = ap (value_pair name true) (quoted_read value (not-true _ h))
 value_read false name value h = plain_read name value h
 
 -- ---- a piece that begins with a name and `=`
 
 named_piece : (most : Option ℕ) (before : List Pair) (name rest : List ℕ) → is_name name ≡ true → is_full most (length before) ≡ false
-    → pair_of most before (name ++ 61 ∷ rest) ≡ cond (list_any (is_named name) before) (Err Twice) (value_of name rest)
+    → pair_of most before (name ++ 61 ∷ rest) ≡ cond (list_any (is_named name) before) (Err Twice) (pair_of_value name rest)
 named_piece most before name rest h room = grind (arith, after_at, any_at, before_at, name_without_equals)
 
-pub named_twice : (most : Option ℕ) (before : List Pair) (text name rest : List ℕ) → IsNamed text name rest → is_full most (length before) ≡ false → list_any (is_named name) before ≡ true → pair_of most before (first_piece text) ≡ Err Twice
+pub named_twice : (most : Option ℕ) (before : List Pair) (text name rest : List ℕ) → StartsWithName text name rest → is_full most (length before) ≡ false → list_any (is_named name) before ≡ true → pair_of most before (first_piece text) ≡ Err Twice
 named_twice most before text name rest h room twice = grind (arith, first_named, named_piece)
 
-pub value_faulty : (most : Option ℕ) (before : List Pair) (text name rest : List ℕ) (fault : AttrFault) → IsNamed text name rest → is_full most (length before) ≡ false → list_any (is_named name) before ≡ false → HasValueFault rest fault
+pub value_faulty : (most : Option ℕ) (before : List Pair) (text name rest : List ℕ) (fault : AttrFault) → StartsWithName text name rest → is_full most (length before) ≡ false → list_any (is_named name) before ≡ false → HasValueFault rest fault
     → pair_of most before (first_piece text) ≡ Err fault
 value_faulty most before text name rest fault h room new bad = grind (arith, first_named, named_piece)
 
 pub pair_read : (most : Option ℕ) (before : List Pair) (pair : Pair) → is_pair pair ≡ true → is_full most (length before) ≡ false → list_any (is_named pair.name) before ≡ false → pair_of most before (pair_spelling pair) ≡ Ok pair
 pair_read most before pair h room new = grind (arith, named_piece, value_read)
 
-pub starts_with_pair : (text name rest value after : List ℕ) (quoted : Bool) → IsNamed text name rest → IsValued rest quoted value after → StartsWithPair text (record { name = name; value = value; quoted = quoted }) after
+pub starts_with_pair : (text name rest value after : List ℕ) (quoted : Bool) → StartsWithName text name rest → IsValued rest quoted value after → StartsWithPair text (record { name = name; value = value; quoted = quoted }) after
 starts_with_pair text name rest value after quoted h v = grind (arith, append_assoc)
 
 -- ---- the text goes on after a pair

@@ -111,9 +111,9 @@ abbrev pub value_pair : List ℕ → Bool → Result (List ℕ) AttrFault → Re
 value_pair name quoted (Ok value) = Ok (record { name = name; value = value; quoted = quoted })
 value_pair name quoted (Err e) = Err e
 
-abbrev pub value_of : List ℕ → List ℕ → Result Pair AttrFault
-value_of name [] = Err BadValue
-value_of name (b ∷ text) =
+abbrev pub pair_of_value : List ℕ → List ℕ → Result Pair AttrFault
+pair_of_value name [] = Err BadValue
+pair_of_value name (b ∷ text) =
     if is_quote b then value_pair name true (quoted_value text)
     else value_pair name false (plain_value (b ∷ text))
 
@@ -129,7 +129,7 @@ pair_of most before piece =
     else (if not (is_name (piece_name piece)) then Err BadName
     else (if not (has_equals piece) then Err NoEquals
     else (if list_any (is_named (piece_name piece)) before then Err Twice
-    else value_of (piece_name piece) (piece_value piece))))
+    else pair_of_value (piece_name piece) (piece_value piece))))
 
 abbrev pub add_pair : List Pair → Result Pair AttrFault → (List Pair → Result (List Pair) AttrFault) → Result (List Pair) AttrFault
 add_pair before (Ok pair) next = next (before ++ pair ∷ [])

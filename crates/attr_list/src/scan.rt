@@ -3,7 +3,7 @@ ghost use Rattle.std.specs.Prelude.{◌≡◌, ◌∷◌, not, false, Some, Matc
 ghost use Rattle.std.specs.List.{position_or_len};
 ghost use Rattle.attr_list.specs.Attributes.{is_name_byte, ends_plain};
 ghost use Rattle.attr_list.specs.Scanning.{first_piece};
-ghost use Rattle.attr_list.specs.Inner.Scanning.{ends_pair, begins_quoted, name_fault, IsNamed, IsValued, HasValueFault};
+ghost use Rattle.attr_list.specs.Inner.Scanning.{ends_pair, begins_quoted, name_fault, StartsWithName, IsValued, HasValueFault};
 
 use crate::AttrFault;
 
@@ -19,7 +19,7 @@ pub(crate) struct ValueText<'a> {
 /// there, or another character ends it; `NoEquals` if a comma or the end does.
 pub(crate) fn split_name(text: &str) -> Result<(&str, &str), AttrFault>
     ensures { MatchResult result
-        (λ parts. IsNamed text.now parts.0.now parts.1.now)
+        (λ parts. StartsWithName text.now parts.0.now parts.1.now)
         (λ e. name_fault (first_piece text.now) ≡ Some e) }
 {
     let (name, after) = text.split_at(name_len(text));

@@ -9,8 +9,8 @@ use Rattle.break_finder.specs.declared.described.Described.{Described}
 use Rattle.break_finder.specs.Breaks.{Break, and_tag}
 use Rattle.break_finder.specs.Known.{Accepted, is_tag_of, is_this, more_said, carry}
 use Rattle.break_finder.specs.Kept.{break_at}
-use Rattle.break_finder.specs.Inner.Kept.{Pairs}
-use Rattle.break_finder.specs.Inner.Known.{break_stands, with_tag, AreSaid, walked}
+use Rattle.break_finder.specs.Inner.Kept.{BreaksById}
+use Rattle.break_finder.specs.Inner.Known.{break_stands, with_tag, TagsSayNothingNew, walked}
 use Rattle.break_finder.proofs.Walked.{Fits, walk_front, walked_is_carried}
 use Rattle.break_finder.proofs.KeptLaws.{fits_kept}
 
@@ -28,7 +28,7 @@ tagged_more : (id : List ℕ) (tag : DateRange) (tags : List DateRange) → list
 tagged_more id tag tags h = ap (λ b. is_tag_of id tag || b) h ∙ either_true (is_tag_of id tag)
 
 all_stand : (all : List DateRange) (carried : Option (List ℕ)) (breaks : List Break) (tags : List DateRange) → ((id : List ℕ) → list_any (is_tag_of id) tags ≡ true → list_any (is_tag_of id) all ≡ true)
-    → AreSaid breaks tags → filter (break_stands all carried) breaks ≡ breaks
+    → TagsSayNothingNew breaks tags → filter (break_stands all carried) breaks ≡ breaks
 all_stand all carried [] tags more h = refl
 all_stand all carried (b ∷ breaks) [] more h = absurd h
 all_stand all carried (b ∷ breaks) (t ∷ tags) more h =
@@ -50,7 +50,7 @@ not_true true e = absurd (true≢false (sym e))
 not_true false e = refl
 
 -- no tag of the later breaks is one of the first
-others : (b : Break) (q : List ℕ → Bool) (breaks : List Break) (tags : List DateRange) → ((id : List ℕ) → q id ≡ true → bytes_eq b.id id ≡ false) → Fits q breaks → AreSaid breaks tags
+others : (b : Break) (q : List ℕ → Bool) (breaks : List Break) (tags : List DateRange) → ((id : List ℕ) → q id ≡ true → bytes_eq b.id id ≡ false) → Fits q breaks → TagsSayNothingNew breaks tags
     → (filter (is_tag_of b.id) tags ≡ []) × (filter (λ (t : DateRange). not (bytes_eq b.id t.id)) tags ≡ tags)
 unfolding Fits
 others b q [] [] apart f h = (refl, refl)
@@ -63,7 +63,7 @@ others b q (x ∷ breaks) (t ∷ tags) apart f h =
       ap (λ c. cond (not c) (t ∷ filter (λ (u : DateRange). not (bytes_eq b.id u.id)) tags) (filter (λ (u : DateRange). not (bytes_eq b.id u.id)) tags)) other ∙ ap (λ ts. t ∷ ts) later.1,
     )
 
-unchanged : (p : List ℕ → Bool) (breaks : List Break) (tags : List DateRange) → Fits p breaks → AreSaid breaks tags → fold with_tag breaks tags ≡ breaks
+unchanged : (p : List ℕ → Bool) (breaks : List Break) (tags : List DateRange) → Fits p breaks → TagsSayNothingNew breaks tags → fold with_tag breaks tags ≡ breaks
 unfolding Fits
 unchanged p [] [] f h = refl
 unchanged p [] (t ∷ tags) f h = absurd h
@@ -81,8 +81,8 @@ unchanged p (b ∷ breaks) (t ∷ tags) f h =
 -- ---- a refresh
 
 -- nothing new is said: what is known stays
-pub nothing_said_anew : (r : Accepted) (breaks : List Break) (tags : List DateRange) (es : Pairs) → map break_at es ≡ breaks → tags ≡ r.playlist.date_ranges → IsDistinct bytes_eq (keys_of es)
-    → AreSaid (map break_at es) tags → breaks ≡ carry r breaks
+pub nothing_said_anew : (r : Accepted) (breaks : List Break) (tags : List DateRange) (es : BreaksById) → map break_at es ≡ breaks → tags ≡ r.playlist.date_ranges → IsDistinct bytes_eq (keys_of es)
+    → TagsSayNothingNew (map break_at es) tags → breaks ≡ carry r breaks
 nothing_said_anew r breaks tags es view_is tags_are distinct said =
     let known = map break_at es in
     let fits = fits_kept es distinct in

@@ -12,7 +12,7 @@ use Rattle.std.proofs.lemmas.List.Folds.{find-append}
 use Rattle.std.proofs.lemmas.Slice.Eq.{bytes_eq-Decides}
 use Rattle.break_finder.specs.Breaks.{is_near}
 use Rattle.break_finder.specs.Known.{is_this}
-use Rattle.break_finder.specs.Entrances.{Entrance, TimeSpan, entrance_id, taken, is_within, is_in, but, Tells}
+use Rattle.break_finder.specs.Entrances.{Entrance, TimeSpan, entrance_id, first_entrance, is_within, is_in, but, TellsEntrances}
 use Rattle.break_finder.specs.Inner.Entrances.{is_enterable, second_of}
 
 -- ---- one break
@@ -24,15 +24,15 @@ one_step e true false last = refl
 one_step e false early last = refl
 
 -- if it can be entered, it is, if it isn't the last one entered
-one_taken : (tolerance : ℕ) (last : Option (List ℕ)) (instant : ℤ) (e : Entrance) → taken tolerance last instant (e ∷ []) ≡ cond (is_enterable tolerance instant e) (but (Some e.id) None last) None
+one_taken : (tolerance : ℕ) (last : Option (List ℕ)) (instant : ℤ) (e : Entrance) → first_entrance tolerance last instant (e ∷ []) ≡ cond (is_enterable tolerance instant e) (but (Some e.id) None last) None
 one_taken tolerance last instant e = grind arith
 
 pub open_tells : (tolerance : ℕ) (e : Entrance) (span : TimeSpan) → span.first ≡ Some e.id → span.second ≡ None
-    → ((instant : ℤ) → is_in span instant ≡ true → is_enterable tolerance instant e ≡ true) → Tells tolerance (e ∷ []) span
+    → ((instant : ℤ) → is_in span instant ≡ true → is_enterable tolerance instant e ≡ true) → TellsEntrances tolerance (e ∷ []) span
 open_tells tolerance e span first second can instant last inside = grind arith
 
 pub closed_tells : (tolerance : ℕ) (e : Entrance) (span : TimeSpan) → span.first ≡ None
-    → ((instant : ℤ) → is_in span instant ≡ true → is_enterable tolerance instant e ≡ false) → Tells tolerance (e ∷ []) span
+    → ((instant : ℤ) → is_in span instant ≡ true → is_enterable tolerance instant e ≡ false) → TellsEntrances tolerance (e ∷ []) span
 closed_tells tolerance e span first cannot instant last inside = grind arith
 
 -- ---- more breaks
@@ -42,7 +42,7 @@ taken_step None y = refl
 taken_step (Some e) y = refl
 
 taken_append : (tolerance : ℕ) (last : Option (List ℕ)) (instant : ℤ) (before after : List Entrance)
-    → taken tolerance last instant (before ++ after) ≡ option_or (taken tolerance last instant before) (taken tolerance last instant after)
+    → first_entrance tolerance last instant (before ++ after) ≡ option_or (first_entrance tolerance last instant before) (first_entrance tolerance last instant after)
 taken_append tolerance last instant before after = grind (arith, find-append, taken_step)
 
 this_last : (id : List ℕ) (last : Option (List ℕ)) → is_this id last ≡ true → last ≡ Some id
@@ -62,10 +62,10 @@ within_more from to from' to' instant low high inside = grind (arith, ints, nat_
 pub both_tell : (tolerance : ℕ) (before after : List Entrance) (a b span : TimeSpan)
     → a.from ≤ℤ span.from → b.from ≤ℤ span.from → span.to ≤ℤ a.to → span.to ≤ℤ b.to
     → span.first ≡ option_or a.first b.first → span.second ≡ second_of a.first a.second b.first b.second
-    → Tells tolerance before a → Tells tolerance after b → Tells tolerance (before ++ after) span
+    → TellsEntrances tolerance before a → TellsEntrances tolerance after b → TellsEntrances tolerance (before ++ after) span
 both_tell tolerance before after a b span from_a from_b to_a to_b first second one two instant last inside =
     taken_append tolerance last instant before after
-    ∙ ap (λ x. option_or x (taken tolerance last instant after)) (one instant last (within_more a.from a.to span.from span.to instant from_a to_a inside))
+    ∙ ap (λ x. option_or x (first_entrance tolerance last instant after)) (one instant last (within_more a.from a.to span.from span.to instant from_a to_a inside))
     ∙ ap (option_or (but a.first a.second last)) (two instant last (within_more b.from b.to span.from span.to instant from_b to_b inside))
     ∙ chosen a.first a.second b.first b.second last
     ∙ sym (ap (λ x. but x span.second last) first ∙ ap (λ x. but (option_or a.first b.first) x last) second)
@@ -116,9 +116,9 @@ pub three_tell : (tolerance : ℕ) (e : Entrance) (before within after : TimeSpa
     → before.to ≡ within.from → before.first ≡ None → after.from ≡ within.to → after.first ≡ None
     → within.first ≡ Some e.id → within.second ≡ None
     → ((instant : ℤ) → is_enterable tolerance instant e ≡ is_in within instant)
-    → All (Tells tolerance (e ∷ [])) spans
+    → All (TellsEntrances tolerance (e ∷ [])) spans
 three_tell tolerance e before within after spans these low before_none high after_none first second window =
-    let P = Tells tolerance (e ∷ []) in
+    let P = TellsEntrances tolerance (e ∷ []) in
     let one : P before = closed_tells tolerance e before before_none (λ instant inside. window instant ∙ too_early before.from within.from within.to instant (ap (λ to. is_within before.from to instant) (sym low) ∙ inside)) in
     let two : P within = open_tells tolerance e within first second (λ instant inside. window instant ∙ inside) in
     let three : P after = closed_tells tolerance e after after_none (λ instant inside. window instant ∙ too_late within.from within.to after.to instant (ap (λ from. is_within from after.to instant) (sym high) ∙ inside)) in

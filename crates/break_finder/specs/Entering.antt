@@ -1,8 +1,7 @@
 -- Which break a segment is inside, or enters.
 use Rattle.std.specs.Prelude.{ℕ, Bool, false, not, ◌&&◌, List, find, ℤ, Option, Some, None, option_map, is_none, if◌then◌else◌}
 use Rattle.pod_store.specs.Pods.{Pod, total, pod_fits}
-use Rattle.pod_store.specs.Marks.{Mark}
-use Rattle.pod_store.specs.Store.{Store, pod_for, fits}
+use Rattle.pod_store.specs.Store.{Store, pod_for, has_fitting_pod}
 use Rattle.break_finder.specs.declared.why.Why.{Why}
 use Rattle.break_finder.specs.declared.why.Why.TheVariants.{Filled, NotKnown, NoStart, NotSignalled, NotDecided, DoesNotFit, Waiting}
 use Rattle.break_finder.specs.Signals.{is_leaving}
@@ -36,12 +35,12 @@ abbrev pub starts_at : EntryLimits → ℤ → Described → Bool
 starts_at m instant said = is_signalled said && is_near instant m.tolerance said.start
 
 -- and it is before the end of the break, which lasts so long by its pod
-abbrev pub is_at : EntryLimits → ℤ → Described → ℕ → Bool
-is_at m instant said length = starts_at m instant said && is_not_past instant m.tolerance (end_of said length)
+abbrev pub is_within_break : EntryLimits → ℤ → Described → ℕ → Bool
+is_within_break m instant said length = starts_at m instant said && is_not_past instant m.tolerance (end_of said length)
 
 -- a segment at this instant enters the break, if it has this pod
 abbrev pub can_enter : EntryLimits → ℤ → Break → Pod → Bool
-can_enter m instant b pod = is_at m instant b.said (total pod) && pod_fits m.target_duration m.with_init_sections pod && not (is_this b.id m.last)
+can_enter m instant b pod = is_within_break m instant b.said (total pod) && pod_fits m.target_duration m.with_init_sections pod && not (is_this b.id m.last)
 
 abbrev pub enters_with : EntryLimits → ℤ → Break → Option Pod → Bool
 enters_with m instant b None = false
@@ -52,23 +51,13 @@ enters_with m instant b (Some pod) = can_enter m instant b pod
 abbrev pub enters_break : EntryLimits → Store → ℤ → Break → Bool
 enters_break m store instant b = enters_with m instant b (pod_for store b.id)
 
-abbrev pub id_of : Break → List ℕ
-id_of b = b.id
+abbrev pub id_of_break : Break → List ℕ
+id_of_break b = b.id
 
 -- the first known break that a segment at this instant enters
 abbrev pub entered : EntryLimits → Store → List Break → Option ℤ → Option (List ℕ)
 entered m store breaks None = None
-entered m store breaks (Some instant) = option_map id_of (find (enters_break m store instant) breaks)
-
--- ---- marks
-
-abbrev pub mark_with : List ℕ → Option Pod → Option Mark
-mark_with id None = None
-mark_with id (Some pod) = Some (record { id = id; pod = pod })
-
-abbrev pub mark_of : Store → Option (List ℕ) → Option Mark
-mark_of store None = None
-mark_of store (Some id) = mark_with id (pod_for store id)
+entered m store breaks (Some instant) = option_map id_of_break (find (enters_break m store instant) breaks)
 
 -- ---- why
 
@@ -78,7 +67,7 @@ why_said said id target with_init_sections store =
     if is_none said.start then NoStart
     else (if not (is_leaving said.scte35_out) then NotSignalled
     else (if is_none (pod_for store id) then NotDecided
-    else (if not (fits store id target with_init_sections) then DoesNotFit else Waiting)))
+    else (if not (has_fitting_pod store id target with_init_sections) then DoesNotFit else Waiting)))
 
 abbrev pub why_known : Option Described → List ℕ → ℕ → Bool → Store → Why
 why_known None id target with_init_sections store = NotKnown

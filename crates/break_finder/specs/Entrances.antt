@@ -46,8 +46,8 @@ is_entered tolerance last instant e =
     is_near instant tolerance (Some e.start) && is_not_past instant tolerance e.end && not (is_this e.id last)
 
 -- the ID of the first that is
-abbrev pub taken : ℕ → Option (List ℕ) → ℤ → List Entrance → Option (List ℕ)
-taken tolerance last instant found = option_map entrance_id (find (is_entered tolerance last instant) found)
+abbrev pub first_entrance : ℕ → Option (List ℕ) → ℤ → List Entrance → Option (List ℕ)
+first_entrance tolerance last instant found = option_map entrance_id (find (is_entered tolerance last instant) found)
 
 -- ---- spans
 
@@ -73,9 +73,9 @@ abbrev pub but : Option (List ℕ) → Option (List ℕ) → Option (List ℕ) �
 but first second last = if is_last first last then second else first
 
 -- at each instant in the span it tells which of these is entered, after whichever was entered last
-abbrev pub Tells : ℕ → List Entrance → TimeSpan → Type 0
-Tells tolerance found span =
-    (instant : ℤ) (last : Option (List ℕ)) → is_in span instant ≡ true → taken tolerance last instant found ≡ but span.first span.second last
+abbrev pub TellsEntrances : ℕ → List Entrance → TimeSpan → Type 0
+TellsEntrances tolerance found span =
+    (instant : ℤ) (last : Option (List ℕ)) → is_in span instant ≡ true → first_entrance tolerance last instant found ≡ but span.first span.second last
 
 -- ---- the breaks that can be entered, with the tolerance by which they are
 

@@ -6,9 +6,9 @@ ghost use Rattle.indexmap.specs.IndexMap.{IsUnique};
 ghost use Rattle.pod_store.specs.Store.{is_one_of};
 ghost use Rattle.break_finder.specs.Breaks.{and_tag};
 ghost use Rattle.break_finder.specs.Kept.{break_at};
-ghost use Rattle.break_finder.specs.Inner.Kept.{kept_for, said_or_nothing, stands_with, is_kept_with};
+ghost use Rattle.break_finder.specs.Inner.Kept.{break_kept_for, said_or_nothing, stands_with, is_kept_with};
 ghost use Rattle.break_finder.specs.Known.{is_tag_of, is_this};
-ghost use Rattle.break_finder.specs.Inner.Known.{break_stands, with_tag, AreSaid};
+ghost use Rattle.break_finder.specs.Inner.Known.{break_stands, with_tag, TagsSayNothingNew};
 
 use crate::break_id::BreakId;
 use crate::described::{Described, and_tag, nothing_said, says_nothing_new};
@@ -78,7 +78,7 @@ fn keep_standing(kept: &mut Breaks, ids: &IdSet<'_>, carried: Option<&str>)
 
 // What is said of a break so far.
 fn said_so_far(breaks: &Breaks, id: &str) -> Described
-    ensures { result ≡ said_or_nothing (kept_for id.now breaks.now.entries) }
+    ensures { result ≡ said_or_nothing (break_kept_for id.now breaks.now.entries) }
 {
     match kept_for(breaks, id) {
         Some(said) => said,
@@ -130,7 +130,8 @@ fn is_said(id: &str, said: &Described, tag: &DateRange) -> bool
 /// Whether each of `date_ranges` is a tag of the break at its place among `breaks`, and says nothing that isn't said of it
 /// already. So it mostly is from refresh to refresh. Takes no memory.
 pub fn are_said(breaks: &Breaks, date_ranges: &[Shared<DateRange>]) -> bool
-    ensures said { result ≡ true → AreSaid (map break_at breaks.now.entries) date_ranges.now }
+    ensures said { result ≡ true
+        → TagsSayNothingNew (map break_at breaks.now.entries) date_ranges.now }
     ensures unique { IsUnique bytes_eq breaks.now }
 {
     if breaks.len() != date_ranges.len() {
@@ -151,7 +152,7 @@ pub fn are_said(breaks: &Breaks, date_ranges: &[Shared<DateRange>]) -> bool
 
 /// Copies of those `breaks` that have a tag among `date_ranges`, or whose ID is `carried`. Fails only if an
 /// allocation fails.
-pub fn standing(
+pub fn copy_standing(
     alloc: Global,
     breaks: &Breaks,
     date_ranges: &[Shared<DateRange>],

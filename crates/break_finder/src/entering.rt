@@ -6,11 +6,11 @@ ghost use Rattle.pod_store.specs.Store.{Store};
 ghost use Rattle.break_finder.specs.Breaks.{Break};
 ghost use Rattle.break_finder.specs.Kept.{break_at};
 ghost use Rattle.break_finder.specs.Entering.{EntryLimits, entered};
-ghost use Rattle.break_finder.specs.Entrances.{entrances_in, is_within, taken, Tells};
+ghost use Rattle.break_finder.specs.Entrances.{entrances_in, is_within, first_entrance, TellsEntrances};
 
 use crate::entrance::{Candidates, Entrance, entrance_of, first_candidate, first_entered};
 use crate::kept::Breaks;
-use crate::spans::{TimeSpan, TimesWithin, place_of, span_at, spans_of};
+use crate::spans::{TimeSpan, TimesWithin, place_in_spans, span_at, spans_of};
 use fixed_duration::Nanos;
 use playlist_model::{Instant, Shared, Text};
 use pod_store::PodStore;
@@ -39,14 +39,14 @@ pub struct Entrances<'a> {
 
 impl<'a> Model for Entrances<'a> {
     ghost use Rattle.std.specs.List.{All};
-    ghost use Rattle.break_finder.specs.Entrances.{Entrances, Tells};
+    ghost use Rattle.break_finder.specs.Entrances.{Entrances, TellsEntrances};
     ghost use Rattle.break_finder.specs.Candidates.{found_in};
 
     ghost Value = { Entrances };
 
     ghost view = { λ a. record { tolerance = a.tolerance; found = found_in a.candidates a.list.items } };
 
-    ghost invariant = { λ a. All (Tells a.tolerance (found_in a.candidates a.list.items)) a.spans.items };
+    ghost invariant = { λ a. All (TellsEntrances a.tolerance (found_in a.candidates a.list.items)) a.spans.items };
 }
 
 // The spans of these breaks, if it pays to make them for so many segments.
@@ -56,7 +56,7 @@ fn spans_for<'a>(
     list: &[Entrance<'a>],
     segments: usize,
 ) -> Result<Vec<TimeSpan<'a>>, AllocError>
-    ensures { IfOk result (λ v. All (Tells tolerance list.now) v.items) }
+    ensures { IfOk result (λ v. All (TellsEntrances tolerance list.now) v.items) }
 {
     if segments < FEW_SEGMENTS {
         return Ok(Vec::new(alloc));
@@ -65,7 +65,7 @@ fn spans_for<'a>(
 }
 
 // Those of known breaks that can be entered, in a list.
-fn listed<'a>(
+fn list_entrances<'a>(
     alloc: Global,
     target: u64,
     with_init_sections: bool,
@@ -91,7 +91,11 @@ fn listed<'a>(
 }
 
 // Nothing is listed: each segment looks among all.
-fn unlisted<'a>(alloc: Global, tolerance: Nanos, candidates: Candidates<'a>) -> Entrances<'a>
+fn entrances_without_list<'a>(
+    alloc: Global,
+    tolerance: Nanos,
+    candidates: Candidates<'a>,
+) -> Entrances<'a>
     ensures { result ≡ record { tolerance = tolerance; found = entrances_in candidates.entry.target candidates.entry.with_init_sections candidates.entry.store.now (map break_at candidates.entry.breaks.now.entries) } }
 {
     Entrances {
@@ -127,9 +131,9 @@ pub fn entrances_of<'a>(
             store,
             breaks,
         };
-        return Ok(unlisted(alloc, tolerance, candidates));
+        return Ok(entrances_without_list(alloc, tolerance, candidates));
     }
-    let list = listed(alloc, target, with_init_sections, store, breaks)?;
+    let list = list_entrances(alloc, target, with_init_sections, store, breaks)?;
     let spans = spans_for(alloc, tolerance, list.as_slice(), segments)?;
     Ok(Entrances {
         tolerance,
@@ -144,7 +148,7 @@ impl<'a> Entrances<'a> {
     // The same, without the spans.
     fn first_found(&self, instant: Instant, last: Option<&str>) -> Option<&'a Shared<Text>>
         ensures { option_map (λ id. id.now) result
-            ≡ taken self.now.tolerance (option_copied last.entry) instant self.now.found }
+            ≡ first_entrance self.now.tolerance (option_copied last.entry) instant self.now.found }
     {
         match &self.candidates {
             Some(candidates) => first_candidate(candidates, self.tolerance, last, instant),
@@ -156,12 +160,12 @@ impl<'a> Entrances<'a> {
     #[inline(always)]
     fn first(&mut self, instant: Instant, last: Option<&str>) -> Option<&'a Shared<Text>>
         ensures taken { option_copied result
-            ≡ taken self.old.tolerance (option_copied last.entry) instant self.old.found }
+            ≡ first_entrance self.old.tolerance (option_copied last.entry) instant self.old.found }
         ensures kept { self.new ≡ self.old }
     {
-        self.place = place_of(self.spans.as_slice(), self.place, instant);
+        self.place = place_in_spans(self.spans.as_slice(), self.place, instant);
         match span_at(self.spans.as_slice(), self.place, instant) {
-            Some(span) => span.entered(last),
+            Some(span) => span.break_entered(last),
             None => self.first_found(instant, last),
         }
     }
@@ -171,7 +175,7 @@ impl<'a> Entrances<'a> {
     #[inline(always)]
     fn is_in_closed_span(&self, instant: Instant) -> bool
         ensures { result ≡ true → (last : Option (List ℕ))
-            → taken self.now.tolerance last instant self.now.found ≡ None }
+            → first_entrance self.now.tolerance last instant self.now.found ≡ None }
     {
         match span_at(self.spans.as_slice(), self.place, instant) {
             Some(span) => span.is_closed(),
@@ -206,7 +210,7 @@ impl<'a> Entrances<'a> {
             → is_within times.from times.to i ≡ true → entered m store breaks (Some i) ≡ None) }
     {
         let span = span_at(self.spans.as_slice(), self.place, instant?)?;
-        if span.entered(last).is_some() {
+        if span.break_entered(last).is_some() {
             return None;
         }
         Some(span.times())
@@ -215,7 +219,7 @@ impl<'a> Entrances<'a> {
     /// The ID of the first known break, in the order of the IDs, that a segment which begins at `instant` enters. The
     /// instant differs from the break's start by at most the tolerance, and is more than the tolerance before its
     /// end; and the break isn't `last`, the one that was entered last. Takes no memory.
-    pub fn entered(
+    pub fn find_entered(
         &mut self,
         instant: Option<Instant>,
         last: Option<&str>,

@@ -3,7 +3,7 @@ ghost use Rattle.std.specs.Prelude.{◌≡◌, Bool, ℕ, List, map, option_map}
 ghost use Rattle.std.specs.Option.{option_copied};
 ghost use Rattle.pod_store.specs.Store.{pod_for};
 ghost use Rattle.break_finder.specs.Known.{is_this};
-ghost use Rattle.break_finder.specs.Entrances.{entrance_of, entrances_in, is_entered, taken};
+ghost use Rattle.break_finder.specs.Entrances.{entrance_of, entrances_in, is_entered, first_entrance};
 ghost use Rattle.break_finder.specs.Inner.Entrances.{is_entered_if};
 ghost use Rattle.break_finder.specs.Kept.{break_at};
 
@@ -37,7 +37,7 @@ impl<'a> Model for Entrance<'a> {
 }
 
 /// Whether `id` is the ID `last`.
-pub fn is_last(last: Option<&str>, id: &str) -> bool
+pub fn is_last_entered(last: Option<&str>, id: &str) -> bool
     ensures { result ≡ is_this id.now (option_copied last.entry) }
 {
     match last {
@@ -56,7 +56,7 @@ fn is_entered(
 {
     is_near(instant, tolerance, Some(entrance.start))
         && is_not_past(instant, tolerance, entrance.end)
-        && !is_last(last, entrance.id.as_str())
+        && !is_last_entered(last, entrance.id.as_str())
 }
 
 /// How the break `id`, of which this is `said`, can be entered. `None` if it has no start, isn't signalled, has no
@@ -93,7 +93,8 @@ pub fn first_entered<'a>(
     instant: Instant,
 ) -> Option<&'a Shared<Text>>
     ensures { option_map
-        (λ id. id.now) result ≡ taken tolerance (option_copied last.entry) instant list.now }
+        (λ id. id.now) result
+        ≡ first_entrance tolerance (option_copied last.entry) instant list.now }
 {
     for entrance in list {
         if is_entered(tolerance, last, instant, entrance) {
@@ -156,7 +157,7 @@ pub fn first_candidate<'a>(
     instant: Instant,
 ) -> Option<&'a Shared<Text>>
     ensures { option_map (λ id. id.now) result
-        ≡ taken tolerance (option_copied last.entry) instant
+        ≡ first_entrance tolerance (option_copied last.entry) instant
         (entrances_in candidates.now.target candidates.now.with_init_sections candidates.now.store.now
         (map break_at candidates.now.breaks.now.entries)) }
 {

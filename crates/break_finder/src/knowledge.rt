@@ -1,16 +1,16 @@
 //! What is known of breaks.
 ghost use Rattle.std.specs.Prelude.{List, ℤ, Option, [], ◌∷◌, ◌≡◌, ◌<◌, ◌^◌, option_map, slice_get, IfOk};
 ghost use Rattle.std.specs.Option.{option_copied};
-ghost use Rattle.pod_store.specs.Store.{pod_for, fits};
+ghost use Rattle.pod_store.specs.Store.{pod_for, has_fitting_pod};
 ghost use Rattle.break_finder.specs.Breaks.{said_of};
 ghost use Rattle.break_finder.specs.Known.{Accepted, carry, known};
 ghost use Rattle.break_finder.specs.Laws.{CarriesKnown};
 ghost use Rattle.break_finder.specs.Entrances.{entrances_in};
-ghost use Rattle.break_finder.specs.Entering.{is_inside, is_inside_said, id_of, why, why_said};
+ghost use Rattle.break_finder.specs.Entering.{is_inside, is_inside_said, id_of_break, why, why_said};
 ghost use Rattle.break_finder.specs.Stays.{stays_at};
 ghost use Rattle.break_finder.specs.Signals.{is_leaving};
 
-use crate::carry::{add_tags, are_said, standing};
+use crate::carry::{add_tags, are_said, copy_standing};
 use crate::described::{Described, is_leaving};
 use crate::end::{End, end_of, is_before_end};
 use crate::entering::{Entrances, entrances_of};
@@ -154,7 +154,8 @@ impl Knowledge {
 
     /// The ID of the known break at `place`, from 0, in the order in which they became known. `None` past the last.
     pub fn ids(&self, place: usize) -> Option<&str>
-        ensures { option_map (λ id. id.now) result ≡ option_map id_of (slice_get self.now place) }
+        ensures { option_map (λ id. id.now) result
+            ≡ option_map id_of_break (slice_get self.now place) }
     {
         match self.breaks.get_index(place) {
             Some((id, _)) => Some(id.as_str()),
@@ -223,7 +224,7 @@ impl Knowledge {
                 breaks: self.breaks.clone()?,
             });
         }
-        let mut breaks = standing(alloc, &self.breaks, date_ranges, newest)?;
+        let mut breaks = copy_standing(alloc, &self.breaks, date_ranges, newest)?;
         add_tags(alloc, &mut breaks, date_ranges)?;
         Ok(Knowledge {
             breaks: Shared::new(alloc, breaks)?,

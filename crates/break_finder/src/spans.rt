@@ -4,11 +4,11 @@ ghost use Rattle.std.specs.List.{All};
 ghost use Rattle.std.specs.Option.{option_copied, option_or};
 ghost use Rattle.break_finder.specs.Breaks.{is_near, is_not_past};
 ghost use Rattle.break_finder.specs.Ends.{end_view};
-ghost use Rattle.break_finder.specs.Entrances.{Entrance, but, is_in, is_within, Tells};
+ghost use Rattle.break_finder.specs.Entrances.{Entrance, but, is_in, is_within, TellsEntrances};
 ghost use Rattle.break_finder.specs.Inner.Entrances.{is_enterable, second_of};
 
 use crate::end::End;
-use crate::entrance::{Entrance, is_last};
+use crate::entrance::{Entrance, is_last_entered};
 use fixed_duration::Nanos;
 use playlist_model::{Instant, Shared, Text};
 use std::alloc::{AllocError, Global};
@@ -66,7 +66,7 @@ fn but<'a>(
     let Some(id) = first else {
         return None;
     };
-    if is_last(last, id.as_str()) {
+    if is_last_entered(last, id.as_str()) {
         return second;
     }
     first
@@ -117,7 +117,7 @@ impl<'a> TimeSpan<'a> {
     }
 
     /// The ID of the break that a segment in this span enters, if the break `last` was entered last.
-    pub fn entered(&self, last: Option<&str>) -> Option<&'a Shared<Text>>
+    pub fn break_entered(&self, last: Option<&str>) -> Option<&'a Shared<Text>>
         ensures { option_copied result
             ≡ but self.now.first self.now.second (option_copied last.entry) }
     {
@@ -126,7 +126,7 @@ impl<'a> TimeSpan<'a> {
 }
 
 // What two spans have in common, if the breaks of the one come before those of the other.
-fn met<'a>(ours: &TimeSpan<'a>, theirs: &TimeSpan<'a>) -> TimeSpan<'a>
+fn overlap<'a>(ours: &TimeSpan<'a>, theirs: &TimeSpan<'a>) -> TimeSpan<'a>
     ensures from_ours { ours.now.from ≤ℤ result.from }
     ensures from_theirs { theirs.now.from ≤ℤ result.from }
     ensures to_ours { result.to ≤ℤ ours.now.to }
@@ -145,8 +145,9 @@ fn met<'a>(ours: &TimeSpan<'a>, theirs: &TimeSpan<'a>) -> TimeSpan<'a>
 
 // These spans, but the first one if it ends here or before.
 fn from_here<'s, 'a>(spans: &'s [TimeSpan<'a>], end: i128) -> &'s [TimeSpan<'a>]
-    ensures { (tolerance : ℕ) (found : List Entrance) → All (Tells tolerance found) spans.now
-        → All (Tells tolerance found) result.now }
+    ensures { (tolerance : ℕ) (found : List Entrance)
+        → All (TellsEntrances tolerance found) spans.now
+        → All (TellsEntrances tolerance found) result.now }
 {
     match spans.split_first() {
         Some((span, later)) => {
@@ -160,15 +161,16 @@ fn from_here<'s, 'a>(spans: &'s [TimeSpan<'a>], end: i128) -> &'s [TimeSpan<'a>]
 }
 
 // The spans of breaks and of others that come after these, of those of each.
-fn joined<'a>(
+fn join_spans<'a>(
     alloc: Global,
     ours: &[TimeSpan<'a>],
     theirs: &[TimeSpan<'a>],
 ) -> Result<Vec<TimeSpan<'a>>, AllocError>
     ensures tells { IfOk result
-        (λ v. (tolerance : ℕ) (before after : List Entrance) → All (Tells tolerance before) ours.now
-        → All (Tells tolerance after) theirs.now
-        → All (Tells tolerance (before ++ after)) v.items) }
+        (λ v. (tolerance : ℕ) (before after : List Entrance)
+        → All (TellsEntrances tolerance before) ours.now
+        → All (TellsEntrances tolerance after) theirs.now
+        → All (TellsEntrances tolerance (before ++ after)) v.items) }
 
     // There are no more of them than of both.
     ensures few { IfOk result (λ v. length v.items ≤ length ours.now + length theirs.now) }
@@ -184,7 +186,7 @@ fn joined<'a>(
         let Some((their, _)) = theirs.split_first() else {
             return Ok(done);
         };
-        let span = met(our, their);
+        let span = overlap(our, their);
         let end = span.to;
         done.push(span)?;
         ours = from_here(ours, end);
@@ -194,7 +196,7 @@ fn joined<'a>(
 }
 
 // The first instant at which a break can be entered that starts here.
-fn opening(start: Instant, tolerance: Nanos) -> i128
+fn first_instant(start: Instant, tolerance: Nanos) -> i128
     ensures { result ≡ start -ℤ pos tolerance }
 {
     i128::from(start.0) - i128::from(tolerance.0)
@@ -214,13 +216,13 @@ fn late_before(start: Instant, tolerance: Nanos, end: i128) -> i128
         ≡ is_within (start -ℤ pos tolerance) result instant }
 {
     if end <= i128::from(start.0) {
-        return opening(start, tolerance);
+        return first_instant(start, tolerance);
     }
     late(start, tolerance).min(end - i128::from(tolerance.0))
 }
 
 // The same of one with this end, if any.
-fn closing(start: Instant, tolerance: Nanos, end: Option<End>) -> i128
+fn late_with_end(start: Instant, tolerance: Nanos, end: Option<End>) -> i128
     ensures { (instant : ℤ)
         → (is_near instant tolerance (Some start)
         && is_not_past instant tolerance (option_map end_view end))
@@ -254,8 +256,8 @@ fn open_span<'a>(tolerance: Nanos, entrance: &Entrance<'a>) -> TimeSpan<'a>
     ensures second { result.second ≡ None }
 {
     TimeSpan {
-        from: opening(entrance.start, tolerance),
-        to: closing(entrance.start, tolerance, entrance.end),
+        from: first_instant(entrance.start, tolerance),
+        to: late_with_end(entrance.start, tolerance, entrance.end),
         first: Some(entrance.id),
         second: None,
     }
@@ -267,7 +269,7 @@ fn spans_of_one<'a>(
     tolerance: Nanos,
     entrance: &Entrance<'a>,
 ) -> Result<Vec<TimeSpan<'a>>, AllocError>
-    ensures tells { IfOk result (λ v. All (Tells tolerance (entrance.now ∷ [])) v.items) }
+    ensures tells { IfOk result (λ v. All (TellsEntrances tolerance (entrance.now ∷ [])) v.items) }
     ensures three { IfOk result (λ v. length v.items ≡ 3) }
 {
     let within = open_span(tolerance, entrance);
@@ -288,7 +290,7 @@ fn spans_halved<'a>(
     halvings: usize,
 ) -> Result<Vec<TimeSpan<'a>>, AllocError>
     requires { length list.now ≤ 2 ^ halvings }
-    ensures tells { IfOk result (λ v. All (Tells tolerance list.now) v.items) }
+    ensures tells { IfOk result (λ v. All (TellsEntrances tolerance list.now) v.items) }
     ensures few { IfOk result (λ v. length v.items ≤ 3 * length list.now) }
 {
     let Some(first) = list.first() else {
@@ -301,7 +303,7 @@ fn spans_halved<'a>(
     let (before, after) = list.split_at(list.len() / 2);
     let ours = spans_halved(alloc, tolerance, before, left)?;
     let theirs = spans_halved(alloc, tolerance, after, left)?;
-    joined(alloc, ours.as_slice(), theirs.as_slice())
+    join_spans(alloc, ours.as_slice(), theirs.as_slice())
 }
 
 /// The spans of time in which the breaks of `list` are entered, by `tolerance`: at most three for each break. Fails
@@ -311,14 +313,14 @@ pub fn spans_of<'a>(
     tolerance: Nanos,
     list: &[Entrance<'a>],
 ) -> Result<Vec<TimeSpan<'a>>, AllocError>
-    ensures tells { IfOk result (λ v. All (Tells tolerance list.now) v.items) }
+    ensures tells { IfOk result (λ v. All (TellsEntrances tolerance list.now) v.items) }
     ensures few { IfOk result (λ v. length v.items ≤ 3 * length list.now) }
 {
     spans_halved(alloc, tolerance, list, HALVINGS)
 }
 
 /// The place, from 0, of that one of `spans` in which `instant` is, which often is `place`.
-pub fn place_of(spans: &[TimeSpan<'_>], place: usize, instant: Instant) -> usize {
+pub fn place_in_spans(spans: &[TimeSpan<'_>], place: usize, instant: Instant) -> usize {
     let instant = i128::from(instant.0);
     match spans.get(place) {
         Some(span) if span.holds(instant) => place,
@@ -333,8 +335,9 @@ pub fn span_at<'s, 'a>(
     instant: Instant,
 ) -> Option<&'s TimeSpan<'a>>
     ensures inside { IfSome result (λ span. is_in span.now instant ≡ true) }
-    ensures tells { (tolerance : ℕ) (found : List Entrance) → All (Tells tolerance found) spans.now
-        → IfSome result (λ span. Tells tolerance found span.now) }
+    ensures tells { (tolerance : ℕ) (found : List Entrance)
+        → All (TellsEntrances tolerance found) spans.now
+        → IfSome result (λ span. TellsEntrances tolerance found span.now) }
 {
     match spans.get(place) {
         Some(span) if span.holds(i128::from(instant.0)) => Some(span),

@@ -4,17 +4,17 @@ use Rattle.std.specs.List.{flat_map}
 use Rattle.pod_store.specs.declared.fault.DecisionKind.{DecisionKind}
 use Rattle.pod_store.specs.declared.fault.DecisionKind.TheVariants as decision
 use Rattle.pod_store.specs.FaultTexts.{fault_text}
-use Rattle.pod_store.specs.Outcome.{Outcome}
+use Rattle.pod_store.specs.Outcome.{DecisionOutcome}
 use Rattle.pod_store.specs.Store.{Store}
 use Rattle.break_finder.specs.declared.why.Why.{Why}
 use Rattle.break_finder.specs.Breaks.{Break}
-use Rattle.break_finder.specs.Entering.{id_of}
+use Rattle.break_finder.specs.Entering.{id_of_break}
 use Rattle.channel_spec.specs.declared.fault.RefreshFault.{RefreshFault}
 use Rattle.channel_spec.specs.declared.fault.RefreshFault.TheVariants as fault
 use Rattle.http_messages.specs.declared.message.Reply.{Reply}
 use Rattle.http_messages.specs.declared.message.ContentType.TheVariants.{Playlist}
 use Rattle.http_messages.specs.declared.message.Allow.{Allow}
-use Rattle.http_messages.specs.Replies.{bare, plain}
+use Rattle.http_messages.specs.Replies.{bare, plain_reply}
 use Rattle.channel_api.specs.declared.channel_body.BodyFault.{BodyFault}
 use Rattle.channel_api.specs.declared.channel_body.BodyFault.TheVariants as body
 use Rattle.channel_spec.specs.FaultTexts.{refresh_fault_text}
@@ -22,7 +22,7 @@ use Rattle.channel_api.specs.FaultTexts.{body_fault_text, why_word}
 
 -- a text and a line feed
 abbrev pub line : ℕ → List ℕ → Reply
-line status text = plain status (text ++ codes "\n")
+line status text = plain_reply status (text ++ codes "\n")
 
 abbrev pub not_found : Reply
 not_found = line 404 (codes "not found")
@@ -64,7 +64,7 @@ decision_status decision.Full = 409
 decision_status decision.Unknown = 409
 decision_status _ = 422
 
-abbrev pub decisions_reply : Outcome Store → Reply
+abbrev pub decisions_reply : DecisionOutcome Store → Reply
 decisions_reply (Ok store) = bare 204
 decisions_reply (Err fault) = line (decision_status fault.kind) (fault_text fault)
 
@@ -75,17 +75,17 @@ live_reply None = not_found
 live_reply (Some text) = record { status = 200; allow = None; content = Some (record { media = Playlist; text = text }) }
 
 -- an ID, a tab, a word and a line feed
-abbrev pub line_of : List ℕ → List ℕ → List ℕ
-line_of id word = id ++ (codes "\t" ++ (word ++ codes "\n"))
+abbrev pub id_line : List ℕ → List ℕ → List ℕ
+id_line id word = id ++ (codes "\t" ++ (word ++ codes "\n"))
 
 -- a known ID, and why its break is filled or not
 abbrev pub why_line : (List ℕ → Why) → List ℕ → List ℕ
-why_line reason id = line_of id (why_word (reason id))
+why_line reason id = id_line id (why_word (reason id))
 
 abbrev pub why_text : (List ℕ → Why) → List Break → List ℕ
-why_text reason breaks = flat_map (why_line reason) (map id_of breaks)
+why_text reason breaks = flat_map (why_line reason) (map id_of_break breaks)
 
 -- a text, or no content if that is empty
 abbrev pub text_reply : List ℕ → Reply
 text_reply [] = bare 200
-text_reply (b ∷ text) = plain 200 (b ∷ text)
+text_reply (b ∷ text) = plain_reply 200 (b ∷ text)

@@ -8,15 +8,9 @@ use Rattle.matchit.specs.Router.{RouteOf}
 use Rattle.matchit.specs.Seek.{first}
 use Rattle.matchit.specs.declared.error.InsertError.{InsertError}
 use Rattle.matchit.specs.declared.error.InsertError.TheVariants.{OutOfMemory}
-use Rattle.spec_words.specs.Bytes.{hyphen}
+use Rattle.spec_words.specs.Bytes.{hyphen, slash, question_mark}
 use Rattle.channel_api.specs.declared.routes.Resource.{Resource}
 use Rattle.channel_api.specs.declared.routes.Resource.TheVariants.{Channel, Origin, Decisions, Live, Why}
-
-abbrev pub slash : ℕ
-slash = 47
-
-abbrev pub question_mark : ℕ
-question_mark = 63
 
 abbrev pub is_name_byte : ℕ → Bool
 is_name_byte b = is_ascii_lowercase b || is_ascii_digit b || b == hyphen

@@ -120,7 +120,7 @@ fn value_said(alloc: Global, value: &Value) -> Result<Wanted, BodyFault>
 /// What `body` says, with which a request makes a channel: its base, and its tolerance in nanoseconds. A tolerance
 /// that is no duration is answered as one that is too long. `NotJson` if `body` is no JSON; `Shape` if it isn't an
 /// object with a base that is a text, or its tolerance is no text; `OutOfMemory` only if an allocation fails.
-pub fn read_body(alloc: Global, body: &[u8]) -> Result<Wanted, BodyFault>
+pub fn read_wanted(alloc: Global, body: &[u8]) -> Result<Wanted, BodyFault>
     ensures ok { IfOk result (λ w. body_said body.now ≡ Ok (w.base, w.tolerance)) }
     ensures err { IfErr result (λ e. RefusesBody e (body_said body.now)) }
 {

@@ -8,7 +8,7 @@ mod reasons;
 mod replies;
 mod routes;
 
-pub use channel_body::{BodyFault, Wanted, read_body};
+pub use channel_body::{BodyFault, Wanted, read_wanted};
 pub use named::{Naming, put_named, remove_named};
 pub use reasons::why_word;
 pub use replies::{

@@ -1,7 +1,7 @@
 //! Values under names, in the order in which they came.
 ghost use Rattle.std.specs.Prelude.{◌≡◌, is_some};
 ghost use Rattle.std.specs.Map.{lookup, remove_entry};
-ghost use Rattle.channel_api.specs.Named.{is_at, PutsNamed};
+ghost use Rattle.channel_api.specs.Named.{has_this_key, PutsNamed};
 
 use indexmap::IndexMap;
 use std::alloc::{AllocError, Global};
@@ -43,8 +43,8 @@ pub fn put_named<V: Drop>(
 
 /// Removes the value under `name` from `values`, and says whether there was one.
 pub fn remove_named<V: Drop>(values: &mut IndexMap<String, V>, name: &str) -> bool
-    ensures there { result ≡ is_some (lookup (is_at name.now) values.old.entries) }
-    ensures entries { values.new.entries ≡ remove_entry (is_at name.now) values.old.entries }
+    ensures there { result ≡ is_some (lookup (has_this_key name.now) values.old.entries) }
+    ensures entries { values.new.entries ≡ remove_entry (has_this_key name.now) values.old.entries }
 {
     values.shift_remove(name).is_some()
 }

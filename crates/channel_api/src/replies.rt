@@ -1,7 +1,7 @@
 //! The replies of the edge, no channel among them.
 ghost use Rattle.std.specs.Prelude.{◌≡◌, ◌≢◌, ◌<◌, [], ◌++◌, length, string_bytes, IfOk, IsErr, OnOk, Err};
 ghost use Rattle.channel_api.specs.FaultTexts.{why_word};
-ghost use Rattle.channel_api.specs.Replies.{line, line_of, not_found, not_allowed, body_fault_reply, refresh_status, refused_refresh, decision_status, decisions_reply, text_reply};
+ghost use Rattle.channel_api.specs.Replies.{line, id_line, not_found, not_allowed, body_fault_reply, refresh_status, refused_refresh, decision_status, decisions_reply, text_reply};
 
 use crate::channel_body::BodyFault;
 use crate::reasons::why_word;
@@ -97,7 +97,7 @@ pub fn refused_decisions(alloc: Global, fault: DecisionFault) -> Result<Reply, A
 /// fails.
 pub fn push_line(lines: &mut String, id: &str, why: Why) -> Result<(), AllocError>
     ensures { OnOk result (string_bytes lines.new
-        ≡ string_bytes lines.old ++ line_of id.now (why_word why)) }
+        ≡ string_bytes lines.old ++ id_line id.now (why_word why)) }
 {
     lines.push_str(id)?;
     lines.push_str("\t")?;

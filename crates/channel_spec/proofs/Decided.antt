@@ -8,12 +8,12 @@ use Rattle.playlist_model.specs.declared.Playlist.{Playlist}
 use Rattle.playlist_model.specs.declared.PlaylistKind.{PlaylistKind}
 use Rattle.playlist_model.specs.declared.PlaylistKind.TheVariants.{Event, Vod}
 use Rattle.playlist_model.specs.LookBack.{or_earlier}
-use Rattle.playlist_model.specs.Same.{same_segment, kept_parts}
+use Rattle.playlist_model.specs.Same.{same_segment, kept_parts, kind_eq}
 use Rattle.playlist_model.proofs.SameSegments.{same_segment_decides}
 use Rattle.channel_spec.specs.declared.fault.RefreshFault.{RefreshFault}
 use Rattle.channel_spec.specs.declared.fault.RefreshFault.TheVariants.{VersionChanged, TargetChanged, TypeChanged, MapsChanged, Back, Gap, Shrunk, Changed, Ended}
 use Rattle.channel_spec.specs.Sound.{RiseFrom, IsSoundPlaylist}
-use Rattle.channel_spec.specs.Successor.{AgreesWith, Succeeds, fault_if, first_number, end_number, first_discontinuity, last_discontinuity, has_init_sections, kind_eq, are_different, difference, first_changed, discontinuity_out_of_range, is_same_window, successor_fault}
+use Rattle.channel_spec.specs.Successor.{AgreesWith, MayFollow, fault_if, first_number, end_number, first_discontinuity, last_discontinuity, has_init_sections, are_different, difference, first_changed, discontinuity_out_of_range, is_same_window, successor_fault}
 use Rattle.channel_spec.specs.LiveLaws.{NoFaultSucceeds}
 use Rattle.channel_spec.proofs.Windows.{In, all_from}
 use Rattle.channel_spec.proofs.Passed.{passed}
@@ -137,10 +137,10 @@ still_ended false is same h = refl
 
 -- ---- both ways
 
-no_fault_succeeds_to : (old new : Playlist) → IsSoundPlaylist old → successor_fault old new ≡ None → Succeeds new old
+no_fault_succeeds_to : (old new : Playlist) → IsSoundPlaylist old → successor_fault old new ≡ None → MayFollow new old
 no_fault_succeeds_to old new r e = grind (arith, passed, agree, near)
 
-succeeds_no_fault : (old new : Playlist) → Succeeds new old → successor_fault old new ≡ None
+succeeds_no_fault : (old new : Playlist) → MayFollow new old → successor_fault old new ≡ None
 succeeds_no_fault old new s =
     none_of _ _ (no_fault _ VersionChanged (turned _ (eq-eqb new.version old.version s.version)))
     (none_of _ _ (no_fault _ TargetChanged (turned _ (eq-eqb new.target_duration old.target_duration s.target_duration)))

@@ -8,7 +8,7 @@ use Rattle.playlist_model.specs.declared.Segment.{Segment}
 use Rattle.pod_store.specs.Pods.{PodSegment, Ad, ad_total, total}
 use Rattle.pod_store.specs.Marks.{Mark, Marked, newest_mark, continues, are_one}
 use Rattle.stitcher.specs.Stitched.{Piece, ad_piece, ad_pieces, pieces_of_ads, pod_pieces, stitched}
-use Rattle.channel_spec.specs.Marking.{Moment, last_entered, instant_of, next_mark, next_shown, show_all}
+use Rattle.channel_spec.specs.Marking.{Moment, last_entered, segment_instant, next_mark, next_shown, show_all}
 use Rattle.channel_spec.specs.LiveLaws.{Linked}
 use Rattle.channel_spec.specs.BreakLaws.{lasts}
 use Rattle.channel_spec.specs.Kept.{marked_on, entered_with}
@@ -129,8 +129,8 @@ length_split m x front gone entered [] e l = refl
 length_split m x front gone entered (s ∷ later) e l =
     let before = x ∷ (front ++ gone) in
     let here = marked_on m (x ∷ front) entered s later in
-    let same : next_shown m before s later ≡ here = ap (λ l. record { segment = s; instant = instant_of before s later; mark = next_mark m x.mark l (instant_of before s later) }) (sym e) in
-    let links : Linked (here ∷ before) = subst (λ h. Linked (h ∷ before)) same (link_step m before (instant_of before s later) (newest_mark before) refl, l) in
+    let same : next_shown m before s later ≡ here = ap (λ l. record { segment = s; instant = segment_instant before s later; mark = next_mark m x.mark l (segment_instant before s later) }) (sym e) in
+    let links : Linked (here ∷ before) = subst (λ h. Linked (h ∷ before)) same (link_step m before (segment_instant before s later) (newest_mark before) refl, l) in
     ap (λ h. length_of (show_all m (h ∷ before) later)) same
     ∙ length_split m here (x ∷ front) gone (entered_with here.mark entered) later (ap (entered_with here.mark) e ∙ sym (entered_cons here.mark before)) links
     ∙ ap (λ n. length_on m (here ∷ x ∷ front) (entered_with here.mark entered) n later) (extend here.mark x.mark s.duration (run_length before) (continues here before) links.0)

@@ -11,8 +11,8 @@ use Rattle.break_finder.specs.Known.{Accepted}
 use Rattle.pod_store.specs.Marks.{Mark, Marked, continues}
 use Rattle.channel_spec.specs.Marking.{Moment, history_after, is_new, next_shown, show_all}
 use Rattle.stitcher.specs.Stitched.{Piece, Numbers, is_kept, pod_pieces, run_pieces, stitched, newest_place, first_numbers, numbered, steps_between, up_to}
-use Rattle.channel_spec.specs.Successor.{first_number, end_number, first_discontinuity, has_init_sections, Succeeds}
-use Rattle.channel_spec.specs.Live.{Event, decided, refreshed, succession_fault, last_playlist, moment, list_of, Told, start_after, place_of, breaks_in_use, after_refresh, refusal, happens, told, owed_for, owed, has_ended}
+use Rattle.channel_spec.specs.Successor.{first_number, end_number, first_discontinuity, has_init_sections, MayFollow}
+use Rattle.channel_spec.specs.Live.{Event, decided, refreshed, succession_fault, last_playlist, moment, whole_stitched_list, Told, start_after, item_place, breaks_in_use, after_refresh, refusal, happens, told, owed_for, owed, has_ended}
 use Rattle.channel_spec.specs.Sound.{IsSoundPlaylist, IsSoundEvent}
 use Rattle.stitcher.specs.Paced.{first_of_run, run_length, older, due, newest_pieces, due_stitched, due_list}
 use Rattle.channel_spec.specs.LiveLaws.{GoesOn, OnlyGrows, EachSucceeds}
@@ -90,7 +90,7 @@ inside_due m ended more (s ∷ before) a h =
     let longer = length_grows (due_stitched false (s ∷ before)) (due_stitched ended (more ++ (s ∷ before))) (due_grows ended more (s ∷ before)) in
     omega (arith, place_is (s ∷ before), some, size, longer)
 
-pub within_due : (m ended : Bool) (number : ℕ) (history : List Marked) → AllByRecursion (IsAlike m) history → 0 < length (up_to number history) → place_of number history < length (due_stitched ended history)
+pub within_due : (m ended : Bool) (number : ℕ) (history : List Marked) → AllByRecursion (IsAlike m) history → 0 < length (up_to number history) → item_place number history < length (due_stitched ended history)
 within_due m ended number history a h =
     let g = up_to_within number history in
     let alike = all_after (IsAlike m) g.0 (up_to number history) (subst (λ h. AllByRecursion (IsAlike m) h) g.1 a) in
@@ -161,7 +161,7 @@ above_due m ended over later x history k a e n =
 item_above : (m ended over : Bool) (number : ℕ) (newest : Marked) (before more : List Marked) → AllByRecursion (IsAlike m) (more ++ (newest ∷ before))
     → ((later : List Marked) (x : Marked) → more ≡ later ++ (x ∷ []) → number ≡ newest.segment.media_sequence + 1 → x.segment.discontinuity_sequence ≤ newest_discontinuity (newest ∷ before) + 1000)
     → 0 < length (up_to number (more ++ (newest ∷ before))) → Begins number more newest before
-    → length (due_stitched ended (newest ∷ before)) ≤ place_of number (more ++ (newest ∷ before)) → Above (due_stitched over (more ++ (newest ∷ before))) (due_stitched ended (newest ∷ before))
+    → length (due_stitched ended (newest ∷ before)) ≤ item_place number (more ++ (newest ∷ before)) → Above (due_stitched over (more ++ (newest ∷ before))) (due_stitched ended (newest ∷ before))
 item_above m ended over number newest before more a near some (stays p) h =
     let history = newest ∷ before in
     let k = within_due m ended number history (all_after (IsAlike m) more history a) (omega (arith, some, ap length p)) in
@@ -186,7 +186,7 @@ item_above m ended over number newest before more a near some (next x later p q 
 -- the last playlist's history, and a window that begins no later than its first segment's item
 pub record WindowStanding (last : Playlist) (history : List Marked) (start : ℕ) : Type 0 where
   pub standing : Standing last history
-  pub begins_by : start ≤ place_of (first_number last.segments) history
+  pub begins_by : start ≤ item_place (first_number last.segments) history
 
 some_up_to : (last : Playlist) (history : List Marked) → Standing last history → 0 < length (up_to (first_number last.segments) history)
 some_up_to last history s = grind (arith, up_to_some)
@@ -226,7 +226,7 @@ begun_step : (start was place : ℕ) (old new : List Piece) → start ≤ was �
 begun_step start was place old new h k i s a b = grind arith
 
 begun : (m : Moment) (last playlist : Playlist) (history : List Marked) (start : ℕ) → WindowStanding last history start → Passed last playlist → Standing playlist (history_after m history playlist)
-    → Begun start (start_after (Some last) start history playlist (history_after m history playlist)) (place_of (first_number playlist.segments) (history_after m history playlist))
+    → Begun start (start_after (Some last) start history playlist (history_after m history playlist)) (item_place (first_number playlist.segments) (history_after m history playlist))
     (due_stitched last.end_list history) (due_stitched playlist.end_list (history_after m history playlist))
 begun m last playlist [] start s p t = absurd (omega (arith, s.standing.some))
 begun m last playlist (newest ∷ before) start s p t =
@@ -245,12 +245,12 @@ begun m last playlist (newest ∷ before) start s p t =
     let d = first_shown m history new later x (g.1 ∙ ap (λ xs. xs ++ history) e ∙ append_assoc later (x ∷ []) history) in
     omega (arith, d, ap first_discontinuity all, p.near (c ∙ end), s.standing.discontinuity_sequence) in
     let some_new = up_to_some k (end_number playlist.segments) (g.0 ++ history) falls (omega (arith, t.read.some)) (omega (arith, t.long, ap length g.1)) in
-    let done = begun_step start (place_of n history) (place_of k (g.0 ++ history)) (due_stitched last.end_list history) (due_stitched playlist.end_list (g.0 ++ history))
+    let done = begun_step start (item_place n history) (item_place k (g.0 ++ history)) (due_stitched last.end_list history) (due_stitched playlist.end_list (g.0 ++ history))
     s.begins_by (place_grows (up_to n history) (up_to k (g.0 ++ history)) (up_to_grows n k g.0 history p.not_back)) (start_inside last history start s last.end_list)
     (within_due b playlist.end_list k (g.0 ++ history) whole some_new)
     (item_above b last.end_list playlist.end_list k newest before g.0 whole near some_new (begins k (end_number playlist.segments) g.0 newest before falls (omega (arith, end, p.no_gap))))
     (k == n) in
-    subst (λ h. Begun start (start_after (Some last) start history playlist h) (place_of k h) (due_stitched last.end_list history) (due_stitched playlist.end_list h)) (sym g.1) done
+    subst (λ h. Begun start (start_after (Some last) start history playlist h) (item_place k h) (due_stitched last.end_list history) (due_stitched playlist.end_list h)) (sym g.1) done
 
 pub first_stays : (m : Moment) (last playlist : Playlist) (history : List Marked) → Standing last history → first_numbers (history_after m history playlist) ≡ first_numbers history
 first_stays m last playlist [] s = absurd (omega (arith, s.some))
@@ -289,7 +289,7 @@ plain_standing (r ∷ before) history start h = h.standing
 
 start_step : (m : Moment) (accepted : List Accepted) (history : List Marked) (start : ℕ) (playlist : Playlist) → WindowOf accepted history start → succession_fault (last_playlist accepted) playlist ≡ None
     → Standing playlist (history_after m history playlist)
-    → start_after (last_playlist accepted) start history playlist (history_after m history playlist) ≤ place_of (first_number playlist.segments) (history_after m history playlist)
+    → start_after (last_playlist accepted) start history playlist (history_after m history playlist) ≤ item_place (first_number playlist.segments) (history_after m history playlist)
 unfolding WindowOf
 start_step m accepted history start playlist h f t = grind (arith, begun, passed)
 
@@ -333,7 +333,7 @@ same_start a b start other e true k = refl
 same_start a b start other e false k = absurd (eqb-false a b k e)
 
 succeeds : (tolerance : ℕ) (p : Told) (a : Accepted) (earlier : List Accepted) (playlist : Playlist) → p.accepted ≡ a ∷ earlier → WindowStanding a.playlist p.history p.start → Passed a.playlist playlist → IsSoundPlaylist playlist
-    → Standing playlist (history_after (moment tolerance p playlist) p.history playlist) → Succeeds (owed_for (after_refresh tolerance p playlist) playlist) (owed_for p a.playlist)
+    → Standing playlist (history_after (moment tolerance p playlist) p.history playlist) → MayFollow (owed_for (after_refresh tolerance p playlist) playlist) (owed_for p a.playlist)
 succeeds tolerance p a earlier playlist e s q r t =
     let m = moment tolerance p playlist in
     let last = a.playlist in
@@ -359,7 +359,7 @@ succeeds tolerance p a earlier playlist e s q r t =
       end_list = λ over.
           let all = q.end_list over in
           let none = no_new m last playlist history s.standing q r all.2 in
-          let stay = same_start (first_number playlist.segments) (first_number last.segments) p.start (min (place_of (first_number playlist.segments) history) (length (due_stitched last.end_list history))) all.1 _ refl in
+          let stay = same_start (first_number playlist.segments) (first_number last.segments) p.start (min (item_place (first_number playlist.segments) history) (length (due_stitched last.end_list history))) all.1 _ refl in
           let same : (owed_for (after_refresh tolerance p playlist) playlist).segments ≡ (owed_for p last).segments =
           is
           ∙ ap (λ h. cut (first_numbers h) (start_after (Some last) p.start history playlist h) (due_stitched playlist.end_list h)) none
@@ -370,7 +370,7 @@ succeeds tolerance p a earlier playlist e s q r t =
     }
 
 pub from_told : (tolerance : ℕ) (p : Told) (accepted : List Accepted) (playlist last : Playlist) → p.accepted ≡ accepted → Holds p → IsSoundPlaylist playlist → refusal tolerance p playlist ≡ None
-    → owed p ≡ Some last → Succeeds (owed_for (after_refresh tolerance p playlist) playlist) last
+    → owed p ≡ Some last → MayFollow (owed_for (after_refresh tolerance p playlist) playlist) last
 unfolding WindowOf
 from_told tolerance p [] playlist last e h r f o =
     let none : owed p ≡ None = ap (λ a. option_map (owed_for p) (last_playlist a)) e in absurd (cc)
@@ -381,13 +381,13 @@ from_told tolerance p (a ∷ earlier) playlist last e h r f o =
     let was : WindowStanding a.playlist p.history p.start = subst (λ x. WindowOf x p.history p.start) e h.standing in
     let q = passed a.playlist playlist (subst (λ x. succession_fault (last_playlist x) playlist ≡ None) e none) in
     let t = new_standing (moment tolerance p playlist) p.accepted p.history playlist (plain_standing p.accepted p.history p.start h.standing) r refl h.store none in
-    subst (λ x. Succeeds (owed_for (after_refresh tolerance p playlist) playlist) x) same (succeeds tolerance p a earlier playlist e was q r t)
+    subst (λ x. MayFollow (owed_for (after_refresh tolerance p playlist) playlist) x) same (succeeds tolerance p a earlier playlist e was q r t)
 
 pub each_succeeds : EachSucceeds
 each_succeeds tolerance playlist before last g f o =
     let p = told tolerance before in
     let now : told tolerance (refreshed playlist ∷ before) ≡ after_refresh tolerance p playlist = ap (λ o. cond (is_none o) (after_refresh tolerance p playlist) p) f in
-    subst (λ u. Succeeds (owed_for u playlist) last) (sym now)
+    subst (λ u. MayFollow (owed_for u playlist) last) (sym now)
     (from_told tolerance p p.accepted playlist last refl (holds tolerance before g.1) g.0 f o)
 
 -- ---- the paced list only grows
@@ -411,16 +411,16 @@ refresh_grows tolerance p (a ∷ earlier) playlist e h r f =
     (numbered_on (first_numbers p.history) (due_stitched a.playlist.end_list p.history) (due_stitched playlist.end_list new) g)
 
 grow_by : (tolerance : ℕ) (p : Told) (playlist : Playlist) → Holds p → IsSoundPlaylist playlist → (o : Option RefreshFault) → refusal tolerance p playlist ≡ o
-    → GoesOn (list_of p) (list_of (cond (is_none o) (after_refresh tolerance p playlist) p))
+    → GoesOn (whole_stitched_list p) (whole_stitched_list (cond (is_none o) (after_refresh tolerance p playlist) p))
 grow_by tolerance p playlist h r None e = refresh_grows tolerance p p.accepted playlist refl h r (first_none (succession_fault (last_playlist p.accepted) playlist) _ e)
-grow_by tolerance p playlist h r (Some x) e = goes_nowhere (list_of p)
+grow_by tolerance p playlist h r (Some x) e = goes_nowhere (whole_stitched_list p)
 
-event_grows : (tolerance : ℕ) (p : Told) (event : Event) → Holds p → IsSoundEvent event → GoesOn (list_of p) (list_of (happens tolerance p event))
-event_grows tolerance p (decided ds) h g = goes_nowhere (list_of p)
+event_grows : (tolerance : ℕ) (p : Told) (event : Event) → Holds p → IsSoundEvent event → GoesOn (whole_stitched_list p) (whole_stitched_list (happens tolerance p event))
+event_grows tolerance p (decided ds) h g = goes_nowhere (whole_stitched_list p)
 event_grows tolerance p (refreshed playlist) h g = grow_by tolerance p playlist h g (refusal tolerance p playlist) refl
 
 pub only_grows : OnlyGrows
-only_grows tolerance [] before g = goes_nowhere (list_of (told tolerance before))
+only_grows tolerance [] before g = goes_nowhere (whole_stitched_list (told tolerance before))
 only_grows tolerance (event ∷ later) before g =
-    goes_on_through (list_of (told tolerance before)) (list_of (told tolerance (later ++ before))) (list_of (told tolerance (event ∷ (later ++ before))))
+    goes_on_through (whole_stitched_list (told tolerance before)) (whole_stitched_list (told tolerance (later ++ before))) (whole_stitched_list (told tolerance (event ∷ (later ++ before))))
     (only_grows tolerance later before g.1) (event_grows tolerance (told tolerance (later ++ before)) event (holds tolerance (later ++ before) g.1) g.0)

@@ -2,11 +2,11 @@
 use Rattle.std.proofs.Common.{◌≡◌, ℕ, Bool, true, false, cond, not, List, [], ◌∷◌, refl, ap, sym, ◌∙◌, arith}
 use Rattle.std.specs.Prelude.{Option, Some, None, IsSome, option_map, ℤ, find}
 use Rattle.pod_store.specs.Pods.{Pod, pod_fits}
-use Rattle.pod_store.specs.Marks.{Mark}
+use Rattle.pod_store.specs.Marks.{Mark, mark_with, mark_in}
 use Rattle.pod_store.specs.Store.{pod_for}
 use Rattle.break_finder.specs.Breaks.{Break, break_of}
 use Rattle.break_finder.specs.Known.{is_this}
-use Rattle.break_finder.specs.Entering.{mark_of, mark_with, enters_break, enters_with, id_of}
+use Rattle.break_finder.specs.Entering.{enters_break, enters_with, id_of_break}
 use Rattle.break_finder.proofs.Carried.{same_bytes}
 use Rattle.channel_spec.specs.Marking.{Moment, limits, entered}
 
@@ -51,7 +51,7 @@ unfolding IsEntered
 pod_step m instant last b k o e t = grind arith
 
 break_step : (m : Moment) (instant : ℤ) (last : Option (List ℕ)) (o : Option Break) → find (enters_break (limits m last) m.store instant) m.breaks ≡ o
-    → IsEntered m last (mark_of m.store (option_map id_of o))
+    → IsEntered m last (mark_in m.store (option_map id_of_break o))
 unfolding IsEntered
 break_step m instant last o e = grind (arith, pod_step, found_known, found_test)
 

@@ -19,7 +19,7 @@ use Rattle.break_finder.specs.Entering as entering
 use Rattle.break_finder.specs.Known.{is_this}
 use Rattle.channel_spec.specs.Marking.{Moment, entered, last_entered, newest_end, next_shown, show_all}
 use Rattle.channel_spec.specs.Successor.{first_number, end_number}
-use Rattle.channel_spec.specs.Live.{refreshed, Told, told, nothing_told, last_playlist, place_of, after_refresh, moment, item_segment, window_after}
+use Rattle.channel_spec.specs.Live.{refreshed, Told, told, nothing_told, last_playlist, item_place, after_refresh, moment, item_segment, window_after}
 use Rattle.channel_spec.specs.LiveLaws.{Linked}
 use Rattle.channel_spec.specs.Sound.{IsSoundPlaylist}
 use Rattle.channel_spec.specs.BreakLaws.{is_of_pod}
@@ -133,7 +133,7 @@ first_written m s later e r =
     let first : n ≡ segment_numbers s = ap first_numbers g.1 ∙ (first_numbers_stay g.0 here [] ∙ ap (numbers_from s) (unmarked_next m [] s later e refl)) in
     written_on m n here [] later first (and_parts _ _ r).1 ∙ ap (λ ss. ss ++ with_times later (instants_after (newest_end (here ∷ [])) later)) (written-cons n here [] first)
 
-place_first : (m : Moment) (s : Segment) (later : List Segment) (end : ℕ) → FallFrom end (show_all m (here_of m s later ∷ []) later) → place_of s.media_sequence (show_all m (here_of m s later ∷ []) later) ≡ 0
+place_first : (m : Moment) (s : Segment) (later : List Segment) (end : ℕ) → FallFrom end (show_all m (here_of m s later ∷ []) later) → item_place s.media_sequence (show_all m (here_of m s later ∷ []) later) ≡ 0
 place_first m s later end f =
     let here = here_of m s later in
     let g = history_grows m (here ∷ []) later in
@@ -167,9 +167,9 @@ module _ (tolerance : ℕ) (p : Playlist) (s : Segment) (later : List Segment) (
 
   window_is : window_after then p ≡ reverse (numbered (first_numbers hist) (map kept_piece hist))
   window_is =
-      ap (λ h. reverse (from_place (place_of (first_number p.segments) h) (due_list p.end_list h))) history_is
-      ∙ whole_list (first_numbers hist) p.end_list hist (place_of (first_number p.segments) hist)
-      (ap (λ ss. place_of (first_number ss) hist) segments ∙ place_first m s later (end_number p.segments) falls) linked unmarked
+      ap (λ h. reverse (from_place (item_place (first_number p.segments) h) (due_list p.end_list h))) history_is
+      ∙ whole_list (first_numbers hist) p.end_list hist (item_place (first_number p.segments) hist)
+      (ap (λ ss. item_place (first_number ss) hist) segments ∙ place_first m s later (end_number p.segments) falls) linked unmarked
 
   segments_are : numbers_rise segment_numbers p.segments ≡ true → map item_segment (window_after then p) ≡ with_times p.segments (instants_after None p.segments)
   segments_are r =

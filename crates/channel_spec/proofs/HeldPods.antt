@@ -9,7 +9,7 @@ use Rattle.playlist_model.specs.declared.Playlist.{Playlist}
 use Rattle.playlist_model.specs.LookBack.{or_earlier}
 use Rattle.pod_store.specs.Pods.{Pod}
 use Rattle.pod_store.specs.Marks.{Mark, Marked, newest_mark}
-use Rattle.pod_store.specs.Store.{Entry, Store, with_entries, with_copies, has_id, pod_of, entry_for, pod_for, is_used, is_used_entry, is_one_of, put, without, names_used, kept_in_use}
+use Rattle.pod_store.specs.Store.{Entry, Store, with_entries, with_copies, has_id, pod_of, entry_for, pod_for, is_used, is_used_entry, is_one_of, put, without_pod, names_used, kept_in_use}
 use Rattle.pod_store.proofs.Copies.{all_own}
 use Rattle.spec_words.specs.Outcomes.{refuse_if}
 use Rattle.pod_store.specs.Outcome.{fault_at, nowhere}
@@ -17,11 +17,11 @@ use Rattle.pod_store.specs.declared.Decisions.{Decisions}
 use Rattle.pod_store.specs.declared.Decisions.TheVariants.{Breaks, Withdraw, Fallback, NoFallback}
 use Rattle.pod_store.specs.declared.fault.DecisionKind.TheVariants.{Used, Full, Unknown}
 use Rattle.break_finder.specs.Known.{Accepted, is_this}
-use Rattle.channel_spec.specs.Marking.{Moment, last_mark, last_entered, continued, entered, mark_of, instant_of, next_shown, show_all}
+use Rattle.channel_spec.specs.Marking.{Moment, last_mark, last_entered, continued, entered, mark_of, segment_instant, next_shown, show_all}
 use Rattle.channel_spec.specs.Successor.{first_number}
-use Rattle.channel_spec.specs.Live.{succession_fault, last_playlist, taken, decide, is_marked, in_use, in_use_with, ids_in, marks_from, rest_before, rest_id}
+use Rattle.channel_spec.specs.Live.{succession_fault, last_playlist, store_by_outcome, decide, is_mark_of, in_use, in_use_with, ids_of_option, marks_from, rest_before, rest_id}
 use Rattle.channel_spec.proofs.StoreAfter.{entries_after}
-use Rattle.stitcher.specs.Paced.{Rest}
+use Rattle.stitcher.specs.Paced.{MeantRest}
 use Rattle.channel_spec.specs.LiveLaws.{HasPod, first_shown}
 use Rattle.channel_spec.proofs.Windows.{In}
 use Rattle.channel_spec.proofs.Passed.{passed}
@@ -73,20 +73,20 @@ unused_others store id (d ∷ ds) u h =
     (not_other id d.0 (bytes_eq id d.0) refl (λ e. let k : true ≡ false = sym u ∙ (ap (is_used store) e ∙ a.0) in absurd (cc)), unused_others store id ds u a.1)
 
 all_step : (ds : List (List ℕ × Pod)) (store : Store) (mark : Mark) (used full : Bool) → list_any (names_used store) ds ≡ used
-    → HasPod store (Some mark) → HasPod (taken store (refuse_if used (fault_at nowhere Used) (refuse_if full (fault_at nowhere Full) (Ok (with_entries store (fold put store.entries ds)))))) (Some mark)
+    → HasPod store (Some mark) → HasPod (store_by_outcome store (refuse_if used (fault_at nowhere Used) (refuse_if full (fault_at nowhere Full) (Ok (with_entries store (fold put store.entries ds)))))) (Some mark)
 all_step ds store mark used full e h = grind (arith, put_others, unused_others, found_used)
 
 drop_step : (id other : List ℕ) (e : Entry) (store : List Entry) → bytes_eq id other ≡ false → (b : Bool) → bytes_eq other e.id ≡ b
-    → find (has_id id) (without other store) ≡ find (has_id id) store
-    → find (has_id id) (cond b store (e ∷ without other store)) ≡ find (has_id id) (e ∷ store)
+    → find (has_id id) (without_pod other store) ≡ find (has_id id) store
+    → find (has_id id) (cond b store (e ∷ without_pod other store)) ≡ find (has_id id) (e ∷ store)
 drop_step id other e store h b same rec = grind (arith, bytes_eq-Decides)
 
-drop_other : (id other : List ℕ) (store : List Entry) → bytes_eq id other ≡ false → find (has_id id) (without other store) ≡ find (has_id id) store
+drop_other : (id other : List ℕ) (store : List Entry) → bytes_eq id other ≡ false → find (has_id id) (without_pod other store) ≡ find (has_id id) store
 drop_other id other [] h = refl
 drop_other id other (e ∷ store) h = drop_step id other e store h (bytes_eq other e.id) refl (drop_other id other store h)
 
 withdraw_step : (id : List ℕ) (store : Store) (mark : Mark) (unknown used : Bool) → is_used store id ≡ used → HasPod store (Some mark)
-    → HasPod (taken store (refuse_if unknown (fault_at nowhere Unknown) (refuse_if used (fault_at nowhere Used) (Ok (with_entries store (without id store.entries)))))) (Some mark)
+    → HasPod (store_by_outcome store (refuse_if unknown (fault_at nowhere Unknown) (refuse_if used (fault_at nowhere Used) (Ok (with_entries store (without_pod id store.entries)))))) (Some mark)
 withdraw_step id store mark unknown used e h = grind (arith, found_used, drop_other, not_other)
 
 pub decide_keeps : (ds : Decisions) (store : Store) (mark : Option Mark) → HasPod store mark → HasPod (decide ds store) mark
@@ -129,10 +129,10 @@ pub record AllHas (store : Store) (first : ℕ) (history : List Marked) : Type 0
 pub show_has : (m : Moment) (first : ℕ) (history : List Marked) (segments : List Segment) → AllHas m.store first history → AllHas m.store first (show_all m history segments)
 show_has m first history [] h = h
 show_has m first history (s ∷ later) h =
-    let here = mark_has m history (instant_of history s later) h.last in
+    let here = mark_has m history (segment_instant history s later) h.last in
     show_has m first (next_shown m history s later ∷ history) later (record {
       shown = (λ n. here, h.shown);
-      last = or_has m.store (mark_of m history (instant_of history s later)) (last_mark history) here h.last;
+      last = or_has m.store (mark_of m history (segment_instant history s later)) (last_mark history) here h.last;
     })
 
 -- ---- the store after a refresh
@@ -189,7 +189,7 @@ or_back false b e = e
 -- it marks a shown segment of the origin, or is this one, which was entered last
 abbrev pub is_shown_with : ℕ → List Marked → Option (List ℕ) → List ℕ → Bool
 is_shown_with first history last id =
-    list_any (λ (s : Marked). nat_le first s.segment.media_sequence && is_marked id s.mark) history || is_this id last
+    list_any (λ (s : Marked). nat_le first s.segment.media_sequence && is_mark_of id s.mark) history || is_this id last
 
 abbrev pub is_shown : ℕ → List Marked → List ℕ → Bool
 is_shown first history id = is_shown_with first history (last_entered history) id
@@ -218,17 +218,17 @@ one_of_append : (xs ys : List (List ℕ)) (id : List ℕ) → is_one_of (xs ++ y
 one_of_append [] ys id = refl
 one_of_append (x ∷ xs) ys id = grind (arith, one_of_append xs ys id)
 
-one_id : (o : Option (List ℕ)) (id : List ℕ) → is_one_of (ids_in o) id ≡ is_this id o
+one_id : (o : Option (List ℕ)) (id : List ℕ) → is_one_of (ids_of_option o) id ≡ is_this id o
 one_id None id = refl
 one_id (Some other) id = or_alone (bytes_eq id other)
 
 marks_listed : (first : ℕ) (history : List Marked) (id : List ℕ)
-    → is_one_of (marks_from first history) id ≡ list_any (λ (s : Marked). nat_le first s.segment.media_sequence && is_marked id s.mark) history
+    → is_one_of (marks_from first history) id ≡ list_any (λ (s : Marked). nat_le first s.segment.media_sequence && is_mark_of id s.mark) history
 marks_listed first [] id = refl
 marks_listed first (s ∷ before) id = grind (arith, one_of_append, or_swap, one_id, marks_listed first before id)
 
 -- the breaks in use are those that are shown, and that of the rest
-pub in_use_with_is : (first : ℕ) (history : List Marked) (last : Option (List ℕ)) (rest : Option Rest) (id : List ℕ)
+pub in_use_with_is : (first : ℕ) (history : List Marked) (last : Option (List ℕ)) (rest : Option MeantRest) (id : List ℕ)
     → is_one_of (in_use_with first history last rest) id ≡ (is_shown_with first history last id || is_this id (rest_id rest))
 in_use_with_is first history last rest id = grind (arith, one_of_append, marks_listed, one_id, grouped)
 

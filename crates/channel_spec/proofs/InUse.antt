@@ -8,7 +8,7 @@ use Rattle.playlist_model.specs.declared.Playlist.{Playlist}
 use Rattle.pod_store.specs.Pods.{Pod}
 use Rattle.pod_store.specs.Marks.{Mark, Marked}
 use Rattle.channel_spec.specs.declared.fault.RefreshFault.{RefreshFault}
-use Rattle.pod_store.specs.Store.{Entry, Store, with_entries, with_copies, has_id, has_own, is_used, is_used_entry, put, without, names_used, count_with}
+use Rattle.pod_store.specs.Store.{Entry, Store, with_entries, with_copies, has_id, has_own, is_used, is_used_entry, put, without_pod, names_used, count_with}
 use Rattle.spec_words.specs.Outcomes.{refuse_if}
 use Rattle.pod_store.specs.Outcome.{fault_at, nowhere}
 use Rattle.pod_store.specs.declared.Decisions.{Decisions}
@@ -17,11 +17,11 @@ use Rattle.pod_store.specs.declared.fault.DecisionKind.TheVariants.{Used, Full, 
 use Rattle.break_finder.specs.Known.{Accepted, is_this}
 use Rattle.channel_spec.specs.Marking.{last_mark, last_entered, history_after}
 use Rattle.channel_spec.specs.Successor.{first_number}
-use Rattle.channel_spec.specs.Live.{Event, decided, refreshed, Told, told, happens, refusal, after_refresh, taken, decide, moment, start_after, is_marked, in_use, breaks_in_use, rest_before, rest_by, rest_id, last_playlist}
+use Rattle.channel_spec.specs.Live.{Event, decided, refreshed, Told, told, happens, refusal, after_refresh, store_by_outcome, decide, moment, start_after, is_mark_of, in_use, breaks_in_use, rest_before, rest_by, rest_id, last_playlist}
 use Rattle.channel_spec.proofs.StoreAfter.{entries_after}
 use Rattle.channel_spec.proofs.HeldPods.{is_shown, in_use_is}
 use Rattle.channel_spec.specs.LiveLaws.{HasPod, ShownHavePods, first_shown, rest_mark, UsedAreInUse}
-use Rattle.stitcher.specs.Paced.{Rest}
+use Rattle.stitcher.specs.Paced.{MeantRest}
 use Rattle.channel_spec.proofs.UsedPods.{marks_have_pods}
 use Rattle.channel_spec.proofs.EachWindow.{WindowOf, holds}
 
@@ -43,22 +43,22 @@ puts_in_use : (uses : List ℕ → Bool) (ds : List (List ℕ × Pod)) (store : 
 puts_in_use uses [] store h = h
 puts_in_use uses (d ∷ ds) store h = puts_in_use uses ds (put store d) (put_in_use uses d store h)
 
-without_step : (uses : List ℕ → Bool) (id : List ℕ) (e : Entry) (store : List Entry) → InUse uses (e ∷ store) → InUse uses (without id store) → (b : Bool) → InUse uses (cond b store (e ∷ without id store))
+without_step : (uses : List ℕ → Bool) (id : List ℕ) (e : Entry) (store : List Entry) → InUse uses (e ∷ store) → InUse uses (without_pod id store) → (b : Bool) → InUse uses (cond b store (e ∷ without_pod id store))
 without_step uses id e store h rec true = h.1
 without_step uses id e store h rec false = (h.0, rec)
 
-without_in_use : (uses : List ℕ → Bool) (id : List ℕ) (store : List Entry) → InUse uses store → InUse uses (without id store)
+without_in_use : (uses : List ℕ → Bool) (id : List ℕ) (store : List Entry) → InUse uses store → InUse uses (without_pod id store)
 without_in_use uses id [] h = tt
 without_in_use uses id (e ∷ store) h = without_step uses id e store h (without_in_use uses id store h.1) (has_id id e)
 
 all_step : (uses : List ℕ → Bool) (ds : List (List ℕ × Pod)) (store : Store) (used full : Bool) → InUse uses store.entries
-    → InUse uses (taken store (refuse_if used (fault_at nowhere Used) (refuse_if full (fault_at nowhere Full) (Ok (with_entries store (fold put store.entries ds)))))).entries
+    → InUse uses (store_by_outcome store (refuse_if used (fault_at nowhere Used) (refuse_if full (fault_at nowhere Full) (Ok (with_entries store (fold put store.entries ds)))))).entries
 all_step uses ds store true full h = h
 all_step uses ds store false true h = h
 all_step uses ds store false false h = puts_in_use uses ds store.entries h
 
 withdraw_step : (uses : List ℕ → Bool) (id : List ℕ) (store : Store) (unknown used : Bool) → InUse uses store.entries
-    → InUse uses (taken store (refuse_if unknown (fault_at nowhere Unknown) (refuse_if used (fault_at nowhere Used) (Ok (with_entries store (without id store.entries)))))).entries
+    → InUse uses (store_by_outcome store (refuse_if unknown (fault_at nowhere Unknown) (refuse_if used (fault_at nowhere Used) (Ok (with_entries store (without_pod id store.entries)))))).entries
 withdraw_step uses id store true used h = h
 withdraw_step uses id store false true h = h
 withdraw_step uses id store false false h = without_in_use uses id store.entries h
@@ -106,19 +106,19 @@ used_uses uses id (e ∷ store) h k = used_step uses id e store h (used_uses use
 
 -- ---- from a break in use to its entry
 
-mark_used : (store : Store) (id : List ℕ) (mark : Option Mark) → HasPod store mark → is_marked id mark ≡ true → is_used store id ≡ true
+mark_used : (store : Store) (id : List ℕ) (mark : Option Mark) → HasPod store mark → is_mark_of id mark ≡ true → is_used store id ≡ true
 mark_used store id mark h k = grind (arith, bytes_eq-Decides)
 
 shown_step : (store : Store) (first : ℕ) (id : List ℕ) (s : Marked) (rest : Bool) → (first ≤ s.segment.media_sequence → HasPod store s.mark) → (rest ≡ true → is_used store id ≡ true) → (a b : Bool)
-    → nat_le first s.segment.media_sequence ≡ a → is_marked id s.mark ≡ b → ((a && b) || rest) ≡ true → is_used store id ≡ true
+    → nat_le first s.segment.media_sequence ≡ a → is_mark_of id s.mark ≡ b → ((a && b) || rest) ≡ true → is_used store id ≡ true
 shown_step store first id s rest h rec a b e f k = grind (arith, mark_used, leb-true)
 
 shown_used : (store : Store) (first : ℕ) (id : List ℕ) (history : List Marked) → ShownHavePods store first history
-    → list_any (λ (s : Marked). nat_le first s.segment.media_sequence && is_marked id s.mark) history ≡ true → is_used store id ≡ true
+    → list_any (λ (s : Marked). nat_le first s.segment.media_sequence && is_mark_of id s.mark) history ≡ true → is_used store id ≡ true
 shown_used store first id [] h k = absurd (cc)
 shown_used store first id (s ∷ before) h k =
-    shown_step store first id s (list_any (λ (x : Marked). nat_le first x.segment.media_sequence && is_marked id x.mark) before) h.0 (shown_used store first id before h.1)
-    (nat_le first s.segment.media_sequence) (is_marked id s.mark) refl refl k
+    shown_step store first id s (list_any (λ (x : Marked). nat_le first x.segment.media_sequence && is_mark_of id x.mark) before) h.0 (shown_used store first id before h.1)
+    (nat_le first s.segment.media_sequence) (is_mark_of id s.mark) refl refl k
 
 either : (store : Store) (id : List ℕ) (a b : Bool) → (a ≡ true → is_used store id ≡ true) → (b ≡ true → is_used store id ≡ true) → (a || b) ≡ true → is_used store id ≡ true
 either store id true b f g k = f refl
@@ -129,7 +129,7 @@ both true b f g = sym (f refl)
 both false true f g = g refl
 both false false f g = refl
 
-rest_used : (store : Store) (id : List ℕ) (rest : Option Rest) → HasPod store (rest_mark rest) → is_this id (rest_id rest) ≡ true → is_used store id ≡ true
+rest_used : (store : Store) (id : List ℕ) (rest : Option MeantRest) → HasPod store (rest_mark rest) → is_this id (rest_id rest) ≡ true → is_used store id ≡ true
 rest_used store id None h k = absurd (cc)
 rest_used store id (Some rest) h k = mark_used store id (Some rest.mark) h k
 
@@ -149,6 +149,6 @@ used_are_in_use tolerance events id sound =
     let rest = rest_before t.start first t.history in
     both (is_used t.store id) (uses_then t id) (used_uses (uses_then t) id t.store.entries (all_in_use tolerance events))
     (λ k. either t.store id (is_shown first t.history id) (is_this id (rest_id rest))
-    (either t.store id (list_any (λ (s : Marked). nat_le first s.segment.media_sequence && is_marked id s.mark) t.history) (is_this id (last_entered t.history))
+    (either t.store id (list_any (λ (s : Marked). nat_le first s.segment.media_sequence && is_mark_of id s.mark) t.history) (is_this id (last_entered t.history))
     (shown_used t.store first id t.history pods.0) (mark_used t.store id (last_mark t.history) pods.1.0))
     (rest_used t.store id rest (rest_there t.store t.accepted t.history t.start (holds tolerance events sound).standing pods.1.1)) (sym (in_use_is t.start first t.history id) ∙ k))

@@ -6,7 +6,7 @@ use Rattle.std.specs.Prelude.{Option, Some, None, option_map, nat_lt, filter}
 use Rattle.playlist_model.specs.declared.Segment.{Segment}
 use Rattle.playlist_model.specs.LookBack.{or_earlier}
 use Rattle.pod_store.specs.Marks.{Mark, Marked, newest_mark}
-use Rattle.channel_spec.specs.Marking.{Moment, mark_id, last_mark, last_entered, next_mark, instant_of, next_shown, show_all, is_new}
+use Rattle.channel_spec.specs.Marking.{Moment, mark_id, last_mark, last_entered, next_mark, segment_instant, next_shown, show_all, is_new}
 use Rattle.channel_spec.specs.Live.{marks_from}
 use Rattle.channel_spec.specs.LiveLaws.{GoesOn}
 use Rattle.channel_spec.specs.Kept.{shown_from, marked_on, entered_with, show_on}
@@ -25,7 +25,7 @@ show_split m x front gone entered [] e = refl
 show_split m x front gone entered (s ∷ later) e =
     let before = x ∷ (front ++ gone) in
     let here = marked_on m (x ∷ front) entered s later in
-    let same : next_shown m before s later ≡ here = ap (λ l. record { segment = s; instant = instant_of before s later; mark = next_mark m x.mark l (instant_of before s later) }) (sym e) in
+    let same : next_shown m before s later ≡ here = ap (λ l. record { segment = s; instant = segment_instant before s later; mark = next_mark m x.mark l (segment_instant before s later) }) (sym e) in
     ap (λ h. show_all m (h ∷ before) later) same
     ∙ show_split m here (x ∷ front) gone (entered_with here.mark entered) later (ap (entered_with here.mark) e ∙ sym (entered_cons here.mark before))
 

@@ -10,14 +10,14 @@ use Rattle.playlist_model.specs.declared.Playlist.{Playlist}
 use Rattle.channel_spec.specs.declared.heading.Heading.{Heading}
 use Rattle.playlist_model.specs.LookBack.{or_earlier}
 use Rattle.pod_store.specs.Marks.{Marked, newest_mark}
-use Rattle.stitcher.specs.Stitched.{Piece, Numbers, Item, numbers_at, fits, stitched, numbered, first_numbers, newest_place, from_place}
+use Rattle.stitcher.specs.Stitched.{Piece, Numbers, Item, numbers_at, can_be_numbered, stitched, numbered, first_numbers, newest_place, from_place}
 use Rattle.pod_store.specs.Store.{Store, is_one_of, kept_in_use}
 use Rattle.channel_spec.specs.declared.fault.RefreshFault.TheVariants.{NumberRange}
 use Rattle.break_finder.specs.Known.{Accepted, known, carry}
 use Rattle.break_finder.specs.Breaks.{Break}
 use Rattle.channel_spec.specs.Marking.{mark_id, last_entered, is_new, history_after}
 use Rattle.channel_spec.specs.Successor.{heading_of, first_number, end_number, has_init_sections, fault_if}
-use Rattle.channel_spec.specs.Live.{Told, told, refusal, succession_fault, acceptance, moment, after_refresh, breaks_in_use, item_segment, states_instant, owed_for, window_after, last_playlist, written_date_ranges, place_of, gone_before, rest_over, rest_id, ids_in, marks_from, in_use_with, date_ranges_left, start_after}
+use Rattle.channel_spec.specs.Live.{Told, told, refusal, succession_fault, acceptance, moment, after_refresh, breaks_in_use, item_segment, states_instant, owed_for, window_after, last_playlist, written_date_ranges, item_place, gone_before, rest_over, rest_id, ids_of_option, marks_from, in_use_with, date_ranges_left, start_after}
 use Rattle.break_finder.specs.Laws.{CarriesKnown}
 use Rattle.channel_spec.specs.LiveLaws.{Linked, GoesOn}
 use Rattle.channel_spec.specs.Kept.{Kept, shown_from, head_numbers, kept_of, kept_acceptance, kept_moment, show_on, kept_list, kept_window, kept_breaks, kept_refusal, kept_after, kept_owed, kept_succession, listed, date_ranges_after, length_on, kept_length, stitched_on, kept_items, kept_rest, window_by}
@@ -41,7 +41,7 @@ use Rattle.channel_spec.proofs.LiveState.{Standing, new_standing}
 use Rattle.channel_spec.proofs.Passed.{passed}
 use Rattle.channel_spec.proofs.KeptSteps.{entered_on, none_marked, marks_append, none_below, cut, show_after, show_first, shown_apart, newest_same, new_same, show_grows}
 use Rattle.std.proofs.Math.Decide.{dec_lt}
-use Rattle.stitcher.specs.Paced.{Rest, run_length, due_with, due_stitched, due_list, rest_pieces}
+use Rattle.stitcher.specs.Paced.{MeantRest, run_length, due_with, due_stitched, due_list, rest_pieces}
 use Rattle.channel_spec.proofs.Windows.{split_at}
 use Rattle.channel_spec.specs.Sound.{IsSoundPlaylist}
 use Rattle.channel_spec.proofs.DueCut.{length_of, due_capped, due_cut, length_first, length_behind}
@@ -60,7 +60,7 @@ head_of_all n (p ∷ before) h = head_first n p before []
 -- ---- the range of the numbers
 
 heads : (first n : Numbers) (whole pieces : List Piece) (rest : List Item) → 0 < length pieces → numbered first whole ≡ numbered n pieces ++ rest
-    → list_all fits (numbered first whole) ≡ list_all fits (numbered n pieces)
+    → list_all can_be_numbered (numbered first whole) ≡ list_all can_be_numbered (numbered n pieces)
 heads first n whole [] rest h e = absurd (omega (arith, h))
 heads first n [] (p ∷ pieces) rest h e = absurd (cc)
 heads first n (q ∷ whole) (p ∷ pieces) rest h e = grind (arith, newest_fits)
@@ -96,10 +96,10 @@ module _ (number first : ℕ) (list gone history : List Marked) (entered : Optio
   marks_same : marks_from number list ≡ marks_from number history
   marks_same = sym (ap (marks_from number) parts.is ∙ marks_append number list gone (none_marked number first gone parts.below on))
 
-  ids_same : (rest rest' : Option Rest) → rest ≡ rest' → in_use_with number list (or_earlier (last_entered list) entered) rest ≡ in_use_with number history (last_entered history) rest'
+  ids_same : (rest rest' : Option MeantRest) → rest ≡ rest' → in_use_with number list (or_earlier (last_entered list) entered) rest ≡ in_use_with number history (last_entered history) rest'
   ids_same rest rest' e =
-      ap (λ ids. ids ++ (ids_in (or_earlier (last_entered list) entered) ++ ids_in (rest_id rest))) marks_same
-      ∙ (ap (λ o. marks_from number history ++ (ids_in o ++ ids_in (rest_id rest))) parts.last ∙ ap (λ o. marks_from number history ++ (ids_in (last_entered history) ++ ids_in (rest_id o))) e)
+      ap (λ ids. ids ++ (ids_of_option (or_earlier (last_entered list) entered) ++ ids_of_option (rest_id rest))) marks_same
+      ∙ (ap (λ o. marks_from number history ++ (ids_of_option o ++ ids_of_option (rest_id rest))) parts.last ∙ ap (λ o. marks_from number history ++ (ids_of_option (last_entered history) ++ ids_of_option (rest_id o))) e)
 
   shown_same : shown_from number list ≡ shown_from number history
   shown_same = sym (ap (shown_from number) parts.is ∙ shown_apart number list gone (none_below number first gone parts.below on))
@@ -110,7 +110,7 @@ or_nothing (Some x) = refl
 
 -- ---- the list above what stands below the window
 
-pub stand_on : (whole : Bool) (more : List Marked) (s : Marked) (gone : List Marked) (start : ℕ) (rest : Option Rest) (b : Below s gone start rest) → Linked (more ++ (s ∷ gone))
+pub stand_on : (whole : Bool) (more : List Marked) (s : Marked) (gone : List Marked) (start : ℕ) (rest : Option MeantRest) (b : Below s gone start rest) → Linked (more ++ (s ∷ gone))
     → due_stitched whole (more ++ (s ∷ gone)) ≡ stitched_on whole (length_of (more ++ (s ∷ gone))) (more ++ (s ∷ [])) rest ++ b.below
 stand_on whole more s gone start rest b l =
     let history = more ++ (s ∷ gone) in
@@ -143,9 +143,9 @@ gone_parts number (x ∷ more) s gone h l = step (nat_le number x.segment.media_
     step false e k = record { part = x ∷ more; whole = rw e refl; alone = rw e refl; linked = l }
 
 -- the rest that the next window begins with
-rest_next : (number last end start from begun : ℕ) (more : List Marked) (s : Marked) (gone list history : List Marked) (there : Option Rest) (b : Below s gone start there)
+rest_next : (number last end start from begun : ℕ) (more : List Marked) (s : Marked) (gone list history : List Marked) (there : Option MeantRest) (b : Below s gone start there)
     → there ≡ rest_with 0 start (length (stitched (rest_of s gone))) gone → list ≡ more ++ (s ∷ []) → history ≡ more ++ (s ∷ gone) → Linked (more ++ (s ∷ gone)) → FallFrom end (more ++ (s ∷ gone)) → s.segment.media_sequence ≡ last → last ≤ number
-    → begun ≡ from + start → place_of number history ≡ (place_of number list + length (rest_pieces there)) + start → (number ≡ last → begun ≡ start)
+    → begun ≡ from + start → item_place number history ≡ (item_place number list + length (rest_pieces there)) + start → (number ≡ last → begun ≡ start)
     → (t : Bool) → (number == last) ≡ t → cond t there (rest_over (length (rest_pieces there)) from number list) ≡ rest_over 0 begun number history
 rest_next number last end start from begun more s gone list history there b is li hi l f at back starts places stays true e =
     let same : number ≡ last = eqb-true number last e in
@@ -158,10 +158,10 @@ rest_next number last end start from begun more s gone list history there b is l
     let g = gone_parts number more s gone above l in
     let base = length (rest_pieces there) in
     let behind = newest_after g.part s gone g.linked in
-    ap (rest_with base from (place_of number list)) (ap (gone_before number) li ∙ g.alone)
-    ∙ (rest_shift base start from begun (place_of number list) (place_of number history) (g.part ++ (s ∷ [])) (g.part ++ (s ∷ gone)) starts places (newest_same g.part s gone)
+    ap (rest_with base from (item_place number list)) (ap (gone_before number) li ∙ g.alone)
+    ∙ (rest_shift base start from begun (item_place number list) (item_place number history) (g.part ++ (s ∷ [])) (g.part ++ (s ∷ gone)) starts places (newest_same g.part s gone)
     (omega (arith, behind, ap length b.is, length-append (rest_pieces there) b.below, b.size))
-    ∙ sym (ap (rest_with 0 begun (place_of number history)) (ap (gone_before number) hi ∙ g.whole)))
+    ∙ sym (ap (rest_with 0 begun (item_place number history)) (ap (gone_before number) hi ∙ g.whole)))
   where
     higher : Dec (last < number) → s.segment.media_sequence < number
     higher (yes h) = omega (arith, at, h)
@@ -180,7 +180,7 @@ pub record FollowsFrom (k : Kept) (tolerance : ℕ) (p : Playlist) (t : Told) : 
   pub last_is : reverse (last_items k) ≡ window_by (last_playlist t.accepted) t.start t.history
   pub items_on : succession_fault (last_playlist t.accepted) p ≡ None → GoesOn (last_items k) (kept_items tolerance k p)
 
-pub kept_ext : (store store' : Store) (breaks breaks' : List Break) (last : Option Heading) (shown shown' : List Marked) (entered entered' : Option (List ℕ)) (numbers numbers' : Numbers) (n n' : ℕ) (rest rest' : Option Rest)
+pub kept_ext : (store store' : Store) (breaks breaks' : List Break) (last : Option Heading) (shown shown' : List Marked) (entered entered' : Option (List ℕ)) (numbers numbers' : Numbers) (n n' : ℕ) (rest rest' : Option MeantRest)
     → store ≡ store' → breaks ≡ breaks' → shown ≡ shown' → entered ≡ entered' → numbers ≡ numbers' → n ≡ n' → rest ≡ rest'
     → ◌≡◌ {A = Kept} (record { store = store; breaks = breaks; last = last; shown = shown; entered = entered; numbers = numbers; so_far = n; rest = rest })
     (record { store = store'; breaks = breaks'; last = last; shown = shown'; entered = entered'; numbers = numbers'; so_far = n'; rest = rest' })
@@ -220,18 +220,18 @@ follow_first tolerance p store start =
     let items : kept_items tolerance kept p ≡ due_list p.end_list history =
     ap (λ h. numbered (first_numbers h) (stitched_on p.end_list (kept_length tolerance kept p) list None)) (sym same) ∙ ap (numbered (first_numbers history)) pieces in
     let windows : kept_window tolerance kept p ≡ window_after (after_refresh tolerance t p) p =
-    ap (λ xs. reverse (from_place (place_of number list) xs)) items ∙ ap (λ h. reverse (from_place (place_of number h) (due_list p.end_list history))) (sym same) in
+    ap (λ xs. reverse (from_place (item_place number list) xs)) items ∙ ap (λ h. reverse (from_place (item_place number h) (due_list p.end_list history))) (sym same) in
     let parts : Parts 0 list [] history None = record { is = same ∙ sym (append-nil list); below = tt; last = or_nothing (last_entered list) ∙ ap last_entered (sym same) } in
-    let none : rest_over 0 (place_of number history) number history ≡ None = none_before (place_of number history) (place_of number history) (gone_before number history) refl in
-    let ids : kept_breaks tolerance kept p ≡ breaks_in_use (place_of number history) number history = ids_same number 0 list [] history None parts (omega arith) _ _ (sym none) in
+    let none : rest_over 0 (item_place number history) number history ≡ None = none_before (item_place number history) (item_place number history) (gone_before number history) refl in
+    let ids : kept_breaks tolerance kept p ≡ breaks_in_use (item_place number history) number history = ids_same number 0 list [] history None parts (omega arith) _ _ (sym none) in
     record {
       succeeds_is = refl;
-      refused = ap (λ xs. fault_if (not (list_all fits xs)) NumberRange) items;
+      refused = ap (λ xs. fault_if (not (list_all can_be_numbered xs)) NumberRange) items;
       fresh_is = refl;
       kept_is = λ e. kept_ext _ _ _ _ (Some (heading_of p)) _ _ _ _ _ _ _ _ _ _ (ap (λ is. kept_in_use is store) ids) breaks (shown_same number 0 list [] history None parts (omega arith)) parts.last (ap head_numbers windows) (sym lengths) (sym none);
       window_is = λ e. windows;
-      date_ranges_is = λ e. date_ranges_by p (kept_window tolerance kept p) (window_after (after_refresh tolerance t p) p) (kept_breaks tolerance kept p) (breaks_in_use (place_of number history) number history) windows ids;
-      owed_is = λ e. owed_same p (kept_window tolerance kept p) (window_after (after_refresh tolerance t p) p) (kept_breaks tolerance kept p) (breaks_in_use (place_of number history) number history) windows ids;
+      date_ranges_is = λ e. date_ranges_by p (kept_window tolerance kept p) (window_after (after_refresh tolerance t p) p) (kept_breaks tolerance kept p) (breaks_in_use (item_place number history) number history) windows ids;
+      owed_is = λ e. owed_same p (kept_window tolerance kept p) (window_after (after_refresh tolerance t p) p) (kept_breaks tolerance kept p) (breaks_in_use (item_place number history) number history) windows ids;
       last_is = refl;
       items_on = λ e. (kept_items tolerance kept p, sym (append-nil (kept_items tolerance kept p)));
     }
@@ -249,7 +249,7 @@ module _ (tolerance : ℕ) (p : Playlist) (a : Accepted) (earlier : List Accepte
   abbrev t : Told
   t = record { accepted = a ∷ earlier; history = newer ++ (s ∷ gone); store = store; start = start }
 
-  abbrev there : Option Rest
+  abbrev there : Option MeantRest
   there = rest_with 0 start (length (stitched (rest_of s gone))) gone
 
   -- the pieces that stood from the window's first item on
@@ -366,17 +366,17 @@ module _ (tolerance : ℕ) (p : Playlist) (a : Accepted) (earlier : List Accepte
         omega (arith, ap length (goes e), length-append (grow e).0 stood, ap length stood_is, length-append front (q ∷ [])) in
         let items : fault ≡ None → due_list p.end_list history ≡ numbered n stands ++ numbered first b.below = λ e.
         ap (λ f. numbered f new) firsts ∙ numbered_on (grow e).0 stands new (goes e) new_is in
-        let range : fault ≡ None → list_all fits (numbered n stands) ≡ list_all fits (due_list p.end_list history) = λ e.
+        let range : fault ≡ None → list_all can_be_numbered (numbered n stands) ≡ list_all can_be_numbered (due_list p.end_list history) = λ e.
         sym (heads (first_numbers history) n new stands (numbered first b.below) (some e) (items e)) in
         let back : fault ≡ None → first_number a.playlist.segments ≤ number = λ e. (passed a.playlist p e).not_back in
         let from = kept_start tolerance k p in
         let begun = start_after (Some a.playlist) start whole p history in
-        let places : fault ≡ None → place_of number history ≡ (place_of number list + length (rest_pieces there)) + start = λ e.
+        let places : fault ≡ None → item_place number history ≡ (item_place number list + length (rest_pieces there)) + start = λ e.
         let behind = window_beyond more s gone number links (omega (arith, at, back e)) in
-        omega (arith, ap (place_of number) history_is, behind, ap (place_of number) list_is, ap length b.is, length-append (rest_pieces there) b.below, b.size) in
+        omega (arith, ap (item_place number) history_is, behind, ap (item_place number) list_is, ap length b.is, length-append (rest_pieces there) b.below, b.size) in
         let starts : fault ≡ None → begun ≡ from + start = λ e.
-        ap (λ (c : ℕ). cond (number == c) start (min (place_of number history) (length old))) (sym oldest_is)
-        ∙ next_start (number == oldest) start (place_of number history) (length old) (place_of number list + length (rest_pieces there)) (length stood)
+        ap (λ (c : ℕ). cond (number == c) start (min (item_place number history) (length old))) (sym oldest_is)
+        ∙ next_start (number == oldest) start (item_place number history) (length old) (item_place number list + length (rest_pieces there)) (length stood)
         (places e) (omega (arith, ap length old_is, length-append stood b.below, b.size)) in
         let windows : fault ≡ None → kept_window tolerance k p ≡ reverse (from_place begun (due_list p.end_list history)) = λ e.
         sym (ap (λ k. reverse (from_place k (due_list p.end_list history))) (omega (arith, starts e, b.size))
@@ -384,13 +384,13 @@ module _ (tolerance : ℕ) (p : Playlist) (a : Accepted) (earlier : List Accepte
         let rests : fault ≡ None → kept_rest tolerance k p ≡ rest_over 0 begun number history = λ e.
         rest_next number oldest (end_number p.segments) start from begun more s gone list history there b refl list_is history_is links
         (subst (λ h. FallFrom (end_number p.segments) h) history_is (following e).falls) (at ∙ sym oldest_is) (omega (arith, oldest_is, back e)) (starts e) (places e)
-        (λ c. same_start number (first_number a.playlist.segments) start (min (place_of number history) (length old)) (c ∙ oldest_is) (number == first_number a.playlist.segments) refl)
+        (λ c. same_start number (first_number a.playlist.segments) start (min (item_place number history) (length old)) (c ∙ oldest_is) (number == first_number a.playlist.segments) refl)
         (number == oldest) refl in
         let ids : fault ≡ None → kept_breaks tolerance k p ≡ breaks_in_use begun number history = λ e.
         ids_same number (first_number a.playlist.segments) list gone history entered parts (back e) _ _ (rests e) in
         record {
           succeeds_is = faults;
-          refused = ap (λ o. or_earlier o (fault_if (not (list_all fits (kept_items tolerance k p))) NumberRange)) faults ∙ or_same fault _ _ (λ e. ap (λ b. fault_if (not b) NumberRange) (range e));
+          refused = ap (λ o. or_earlier o (fault_if (not (list_all can_be_numbered (kept_items tolerance k p))) NumberRange)) faults ∙ or_same fault _ _ (λ e. ap (λ b. fault_if (not b) NumberRange) (range e));
           fresh_is = sym (new_same newer s gone p.segments);
           kept_is = λ r. let e = or_none fault _ r in kept_ext _ _ _ _ (Some (heading_of p)) _ _ _ _ _ _ _ _ _ _ (ap (λ is. kept_in_use is store) (ids e)) breaks
               (shown_same number (first_number a.playlist.segments) list gone history entered parts (back e)) last (ap head_numbers (windows e)) (sym lengths) (rests e);

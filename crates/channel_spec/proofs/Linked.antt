@@ -4,7 +4,7 @@ use Rattle.std.specs.Prelude.{Option, Some, None, ℤ}
 use Rattle.playlist_model.specs.declared.Segment.{Segment}
 use Rattle.playlist_model.specs.LookBack.{or_earlier}
 use Rattle.pod_store.specs.Marks.{Mark, Marked, newest_mark, are_one}
-use Rattle.channel_spec.specs.Marking.{Moment, last_entered, continued, is_inside, entered, instant_of, next_shown, show_all}
+use Rattle.channel_spec.specs.Marking.{Moment, last_entered, continued, is_inside, entered, segment_instant, next_shown, show_all}
 use Rattle.channel_spec.specs.Live.{Event, Told, told, happens}
 use Rattle.break_finder.specs.Known.{is_this}
 use Rattle.channel_spec.specs.LiveLaws.{Linked, HistoriesAreLinked, MarksFollow}
@@ -46,7 +46,7 @@ link_step m before instant (Some g) e h = step (is_inside m instant g) h
 
 pub link_all : (m : Moment) (history : List Marked) (segments : List Segment) → Linked history → Linked (show_all m history segments)
 link_all m history [] h = h
-link_all m history (s ∷ later) h = link_all m (next_shown m history s later ∷ history) later (link_step m history (instant_of history s later) (newest_mark history) refl, h)
+link_all m history (s ∷ later) h = link_all m (next_shown m history s later ∷ history) later (link_step m history (segment_instant history s later) (newest_mark history) refl, h)
 
 either : (b : Bool) (t u : Told) → Linked t.history → Linked u.history → Linked (cond b t u).history
 either true t u h k = h

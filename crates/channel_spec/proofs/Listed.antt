@@ -12,9 +12,9 @@ use Rattle.break_finder.specs.Known.{Accepted}
 use Rattle.channel_spec.specs.declared.fault.RefreshFault.{RefreshFault}
 use Rattle.channel_spec.specs.Marking.{Moment, next_shown, show_all, history_after}
 use Rattle.channel_spec.specs.Live.{Event, decided, refreshed, Told, told, happens, after_refresh, refusal, succession_fault, last_playlist}
-use Rattle.channel_spec.specs.Kept.{segment_of, listed, shown_from, shown_by}
+use Rattle.channel_spec.specs.Kept.{origin_segment, listed, shown_from, shown_by}
 use Rattle.channel_spec.specs.Sound.{RiseFrom, IsSoundPlaylist, IsSoundEvent}
-use Rattle.channel_spec.specs.Successor.{AgreesWith, Succeeds, first_number, end_number}
+use Rattle.channel_spec.specs.Successor.{AgreesWith, MayFollow, first_number, end_number}
 use Rattle.channel_spec.specs.ListedLaws.{ShownAreListed}
 use Rattle.channel_spec.proofs.Decided.{from_all, no_fault_succeeds}
 use Rattle.channel_spec.proofs.EachWindow.{WindowOf, Holds, first_none, holds}
@@ -67,7 +67,7 @@ below end [] m f h = absurd h
 below end (x ∷ before) m f (inl e) = omega (arith, ap (λ (y : Marked). y.segment.media_sequence) e, f.0)
 below end (x ∷ before) m f (inr h) = omega (arith, below x.segment.media_sequence before m f.1 h, f.0)
 
-old_agree : (last playlist : Playlist) (history : List Marked) → Standing last history → Succeeds playlist last → IsSoundPlaylist playlist
+old_agree : (last playlist : Playlist) (history : List Marked) → Standing last history → MayFollow playlist last → IsSoundPlaylist playlist
     → AllByRecursion (Agrees last.segments) history → AllByRecursion (Agrees playlist.segments) history
 old_agree last playlist history s k r a =
     all_from (Agrees playlist.segments) history (λ m h.
@@ -138,34 +138,34 @@ same_parts n (x ∷ xs) (y ∷ ys) r q e h = grind (arith, same_parts (n + 1) xs
 
 -- the segments of a history from a number on, turned round, before others
 record Turned (first end : ℕ) (history after : List Marked) : Type 0 where
-  rise : RiseFrom first (map segment_of (reverse_aux (shown_from first history) after))
-  size : length (map segment_of (reverse_aux (shown_from first history) after)) + first ≡ end + length after
+  rise : RiseFrom first (map origin_segment (reverse_aux (shown_from first history) after))
+  size : length (map origin_segment (reverse_aux (shown_from first history) after)) + first ≡ end + length after
 
-length_map : (xs : List Marked) → length (map segment_of xs) ≡ length xs
+length_map : (xs : List Marked) → length (map origin_segment xs) ≡ length xs
 length_map [] = refl
 length_map (x ∷ xs) = omega (arith, length_map xs)
 
-turn_step : (first : ℕ) (x : Marked) (before after : List Marked) → RiseFrom (x.segment.media_sequence + 1) (map segment_of after) → first ≤ x.segment.media_sequence + 1
+turn_step : (first : ℕ) (x : Marked) (before after : List Marked) → RiseFrom (x.segment.media_sequence + 1) (map origin_segment after) → first ≤ x.segment.media_sequence + 1
     → (first ≤ x.segment.media_sequence → Turned first x.segment.media_sequence before (x ∷ after)) → (b : Bool) → nat_le first x.segment.media_sequence ≡ b
     → Turned first (x.segment.media_sequence + 1) (x ∷ before) after
 turn_step first x before after r h rec b e = grind (arith, leb-true, leb-false, length_map)
 
-turn : (first end : ℕ) (history after : List Marked) → FallFrom end history → RiseFrom end (map segment_of after) → first ≤ end → end ≤ first + length history → Turned first end history after
+turn : (first end : ℕ) (history after : List Marked) → FallFrom end history → RiseFrom end (map origin_segment after) → first ≤ end → end ≤ first + length history → Turned first end history after
 turn first end [] after f r h k =
     let same : first ≡ end = omega (arith, h, k) in
-    record { rise = subst (λ n. RiseFrom n (map segment_of after)) (sym same) r; size = omega (arith, same, length_map after) }
+    record { rise = subst (λ n. RiseFrom n (map origin_segment after)) (sym same) r; size = omega (arith, same, length_map after) }
 turn first end (x ∷ before) after f r h k =
     subst (λ n. Turned first n (x ∷ before) after) f.0
-    (turn_step first x before after (subst (λ n. RiseFrom n (map segment_of after)) (sym f.0) r) (omega (arith, f.0, h))
-    (λ less. turn first x.segment.media_sequence before (x ∷ after) f.1 (refl, subst (λ n. RiseFrom n (map segment_of after)) (sym f.0) r) less (omega (arith, f.0, k)))
+    (turn_step first x before after (subst (λ n. RiseFrom n (map origin_segment after)) (sym f.0) r) (omega (arith, f.0, h))
+    (λ less. turn first x.segment.media_sequence before (x ∷ after) f.1 (refl, subst (λ n. RiseFrom n (map origin_segment after)) (sym f.0) r) less (omega (arith, f.0, k)))
     (nat_le first x.segment.media_sequence) refl)
 
 from_agree : (segments : List Segment) (first : ℕ) (history : List Marked) → AllByRecursion (Agrees segments) history → AllByRecursion (Agrees segments) (shown_from first history)
 from_agree segments first [] a = tt
 from_agree segments first (x ∷ before) a = grind (arith, from_agree segments first before a.1)
 
-turn_agree : (segments : List Segment) (history after : List Marked) → AllByRecursion (Agrees segments) history → AllByRecursion (AgreesWith segments) (map segment_of after)
-    → AllByRecursion (AgreesWith segments) (map segment_of (reverse_aux history after))
+turn_agree : (segments : List Segment) (history after : List Marked) → AllByRecursion (Agrees segments) history → AllByRecursion (AgreesWith segments) (map origin_segment after)
+    → AllByRecursion (AgreesWith segments) (map origin_segment (reverse_aux history after))
 turn_agree segments [] after a h = h
 turn_agree segments (x ∷ before) after a h = turn_agree segments before (x ∷ after) a.1 (a.0, h)
 

@@ -5,14 +5,14 @@ use Rattle.std.specs.List.{AllByRecursion}
 use Rattle.playlist_model.specs.declared.Segment.{Segment}
 use Rattle.playlist_model.specs.declared.Playlist.{Playlist}
 use Rattle.pod_store.specs.Pods.{Pod}
-use Rattle.pod_store.specs.Store.{Entry, Store, put, without, copied_last, with_copy, with_copies, is_one_of, kept_in_use}
+use Rattle.pod_store.specs.Store.{Entry, Store, put, without_pod, copied_last, with_copy, with_copies, is_one_of, kept_in_use}
 use Rattle.spec_words.specs.Outcomes.{refuse_if}
 use Rattle.pod_store.specs.declared.fault.DecisionFault.{DecisionFault}
 use Rattle.pod_store.specs.declared.Decisions.{Decisions}
 use Rattle.pod_store.specs.declared.Decisions.TheVariants.{Breaks, Withdraw, Fallback, NoFallback}
 use Rattle.pod_store.specs.Marks.{Marked, newest_mark}
-use Rattle.channel_spec.specs.Marking.{Moment, next_shown, show_all, is_new, instant_of, history_after}
-use Rattle.channel_spec.specs.Live.{succession_fault, last_playlist, taken, decide}
+use Rattle.channel_spec.specs.Marking.{Moment, next_shown, show_all, is_new, segment_instant, history_after}
+use Rattle.channel_spec.specs.Live.{succession_fault, last_playlist, store_by_outcome, decide}
 use Rattle.channel_spec.proofs.StoreAfter.{entries_after}
 use Rattle.break_finder.specs.Known.{Accepted}
 use Rattle.channel_spec.specs.Successor.{first_number, end_number, last_discontinuity, has_init_sections}
@@ -34,7 +34,7 @@ show_alike m history [] k h a = h
 show_alike m history (s ∷ later) k h a =
     let here : IsAlike m.with_init_sections (next_shown m history s later) = record {
       init_section = a.0;
-      mark = fill_good m history (instant_of history s later) k (newest_good m.with_init_sections history h);
+      mark = fill_good m history (segment_instant history s later) k (newest_good m.with_init_sections history h);
     } in
     show_alike m (next_shown m history s later ∷ history) later k (here, h) a.1
 
@@ -131,12 +131,12 @@ unfolding HavePods
 without_step e store more h k true = h.1
 without_step e store more h k false = (h.0, k)
 
-without_pods : (id : List ℕ) (store : List Entry) → HavePods store → HavePods (without id store)
+without_pods : (id : List ℕ) (store : List Entry) → HavePods store → HavePods (without_pod id store)
 unfolding HavePods
 without_pods id [] h = tt
 without_pods id (e ∷ store) h = grind (arith, without_pods id store h.1)
 
-either_store : (a b : Bool) (f g : DecisionFault) (x y : Store) → IsStore x → IsStore y → IsStore (taken x (refuse_if a f (refuse_if b g (Ok y))))
+either_store : (a b : Bool) (f g : DecisionFault) (x y : Store) → IsStore x → IsStore y → IsStore (store_by_outcome x (refuse_if a f (refuse_if b g (Ok y))))
 either_store true b f g x y h k = h
 either_store false true f g x y h k = h
 either_store false false f g x y h k = k

@@ -6,7 +6,7 @@ use Rattle.playlist_model.specs.declared.Segment.{Segment}
 use Rattle.playlist_model.specs.declared.Playlist.{Playlist}
 use Rattle.playlist_model.specs.LookBack.{or_earlier}
 use Rattle.pod_store.specs.Marks.{Mark, Marked, newest_mark}
-use Rattle.channel_spec.specs.Marking.{Moment, continued, entered, mark_of, instant_of, next_shown, show_all, is_new}
+use Rattle.channel_spec.specs.Marking.{Moment, continued, entered, mark_of, segment_instant, next_shown, show_all, is_new}
 use Rattle.channel_spec.specs.Live.{Event, decided, refreshed, Told, told, happens, after_refresh, moment, acceptance}
 use Rattle.break_finder.specs.Known.{known, known_ids, age, stands, is_this, is_tag_of}
 use Rattle.break_finder.specs.Breaks.{Break, break_of}
@@ -40,7 +40,7 @@ fill_known m before instant = grind (arith, or_known, continued_known, entered_k
 
 show_known : (m : Moment) (history : List Marked) (segments : List Segment) → Known m.breaks (newest_mark history) → Known m.breaks (newest_mark (show_all m history segments))
 show_known m history [] h = h
-show_known m history (s ∷ later) h = show_known m (next_shown m history s later ∷ history) later (fill_known m history (instant_of history s later))
+show_known m history (s ∷ later) h = show_known m (next_shown m history s later ∷ history) later (fill_known m history (segment_instant history s later))
 
 -- the newest mark before a refresh is still known at it
 still_known : (t : Told) (playlist : Playlist) (o : Option Mark) → newest_mark t.history ≡ o → CarriesKnown (acceptance t playlist ∷ t.accepted) → Known (known t.accepted) o → Known (known (acceptance t playlist ∷ t.accepted)) o

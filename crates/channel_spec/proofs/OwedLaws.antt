@@ -9,10 +9,10 @@ use Rattle.playlist_model.specs.declared.DateRange.{DateRange}
 use Rattle.playlist_model.specs.declared.Playlist.{Playlist}
 use Rattle.pod_store.specs.Marks.{Mark, Marked, continues}
 use Rattle.stitcher.specs.Stitched.{Piece, Item, Numbers, is_kept, kept_piece, run_pieces, stitched, numbered, first_numbers, from_place}
-use Rattle.stitcher.specs.Paced.{Rest, older, run_length, due, newest_pieces, due_with, due_stitched, rest_pieces}
+use Rattle.stitcher.specs.Paced.{MeantRest, older, run_length, due, newest_pieces, due_with, due_stitched, rest_pieces}
 use Rattle.channel_spec.specs.declared.fault.RefreshFault.{RefreshFault}
 use Rattle.pod_store.specs.Store.{Store, is_named, kept_in_use}
-use Rattle.pod_store.specs.Outcome.{Outcome}
+use Rattle.pod_store.specs.Outcome.{DecisionOutcome}
 use Rattle.pod_store.specs.Store.{decided as after_decisions}
 use Rattle.pod_store.specs.Laws.{Call, after_calls, are_distinct}
 use Rattle.pod_store.specs.Laws as calls
@@ -20,10 +20,10 @@ use Rattle.pod_store.proofs.StoreLaws.{stays_small, pods_in_use}
 use Rattle.break_finder.specs.Known.{Accepted}
 use Rattle.channel_spec.specs.Marking.{history_after}
 use Rattle.channel_spec.specs.Successor.{first_number, end_number}
-use Rattle.channel_spec.specs.Live.{Event, decided, refreshed, Told, told, last_playlist, refusal, rest_by, rest_over, breaks_in_use, taken, after_refresh, moment, start_after, item_segment, states_instant, window_from, owed_for}
+use Rattle.channel_spec.specs.Live.{Event, decided, refreshed, Told, told, last_playlist, refusal, rest_by, rest_over, breaks_in_use, store_by_outcome, after_refresh, moment, start_after, item_segment, states_instant, window_from, owed_for}
 use Rattle.channel_spec.specs.LiveLaws.{Linked}
-use Rattle.channel_spec.specs.Kept.{shown_by, shown_from, capped}
-use Rattle.channel_spec.specs.OwedLaws.{IsOwed, HeaderIsTheLast, states_time, DateRangesAreTheOrigins, piece_of, segment_of, WindowIsStitched, is_unmarked, origin_of, UnmarkedStandOnce, PlayAs, SegmentsPlayTheWindow, PodsAreKept, StoreStaysSmall}
+use Rattle.channel_spec.specs.Kept.{shown_by, shown_from, capped, origin_segment}
+use Rattle.channel_spec.specs.OwedLaws.{IsOwed, HeaderIsTheLast, states_time, DateRangesAreTheOrigins, piece_of, piece_segment, WindowIsStitched, is_unmarked, UnmarkedStandOnce, PlayAs, SegmentsPlayTheWindow, PodsAreKept, StoreStaysSmall}
 use Rattle.channel_spec.proofs.Windows.{reverse-cons}
 use Rattle.channel_spec.proofs.EachWindow.{WindowOf, WindowStanding, holds}
 use Rattle.channel_spec.proofs.Linked.{histories_are_linked}
@@ -175,7 +175,7 @@ unmarked_older s (t ∷ before) l = grind (arith, unmarked_older t before l.1)
 kept_due : (whole : Bool) (n : ℕ) (history : List Marked) → Linked history → filter is_kept (due_with whole n history) ≡ map kept_piece (filter is_unmarked history)
 kept_due whole n history l = grind (arith, due_newest, filter-append, kept_newest, of_unmarked, kept_stitched, kept_first, unmarked_older)
 
-kept_rest : (o : Option Rest) → filter is_kept (rest_pieces o) ≡ []
+kept_rest : (o : Option MeantRest) → filter is_kept (rest_pieces o) ≡ []
 kept_rest o = grind (arith, filter-reverse, reverse, none_kept, all_drop, ads_of)
 
 shown_linked : (first : ℕ) (history : List Marked) → Linked history → Linked (shown_from first history)
@@ -191,7 +191,7 @@ shown_linked first (s ∷ before) l = step (nat_le first s.segment.media_sequenc
         inner true k = ((λ e. l.0 e), k)
         inner false k = ((λ e. let no = nothing_continues s in absurd (cc)), k)
 
-map-segments : (xs : List Marked) → map segment_of (map kept_piece xs) ≡ map origin_of xs
+map-segments : (xs : List Marked) → map piece_segment (map kept_piece xs) ≡ map origin_segment xs
 map-segments [] = refl
 map-segments (x ∷ xs) = ap (λ ys. x.segment ∷ ys) (map-segments xs)
 
@@ -204,9 +204,9 @@ unmarked_stand_once tolerance events last now h =
     let linked = shown_linked (first_number last.segments) t.history (histories_are_linked tolerance events) in
     let kept : filter is_kept (due ++ rest) ≡ map kept_piece (filter is_unmarked shown) =
     filter-append is_kept due rest ∙ (ap (λ ps. filter is_kept due ++ ps) (kept_rest (rest_by (Some last) t.start t.history)) ∙ (append-nil (filter is_kept due) ∙ kept_due last.end_list (run_length t.history) shown linked)) in
-    ap (λ ps. map segment_of (filter is_kept ps)) (window_is_stitched tolerance events last now h)
-    ∙ (ap (map segment_of) (filter-reverse is_kept (due ++ rest) ∙ (ap reverse kept ∙ sym (map-reverse kept_piece (filter is_unmarked shown))))
-    ∙ (map-segments (reverse (filter is_unmarked shown)) ∙ ap (map origin_of) (sym (filter-reverse is_unmarked shown))))
+    ap (λ ps. map piece_segment (filter is_kept ps)) (window_is_stitched tolerance events last now h)
+    ∙ (ap (map piece_segment) (filter-reverse is_kept (due ++ rest) ∙ (ap reverse kept ∙ sym (map-reverse kept_piece (filter is_unmarked shown))))
+    ∙ (map-segments (reverse (filter is_unmarked shown)) ∙ ap (map origin_segment) (sym (filter-reverse is_unmarked shown))))
 
 play_as : (items : List Item) → PlayAs items (map item_segment items)
 play_as [] = refl
@@ -217,7 +217,7 @@ segments_play_the_window tolerance events last now h = grind (arith, owed_is, pl
 
 -- ---- the store
 
-taken_is : (store : Store) (o : Outcome Store) → taken store o ≡ calls.accepted store o
+taken_is : (store : Store) (o : DecisionOutcome Store) → store_by_outcome store o ≡ calls.accepted store o
 taken_is store (Ok new) = refl
 taken_is store (Err fault) = refl
 

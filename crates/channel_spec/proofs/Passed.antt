@@ -7,7 +7,8 @@ use Rattle.playlist_model.specs.declared.PlaylistKind.{PlaylistKind}
 use Rattle.playlist_model.specs.declared.PlaylistKind.TheVariants.{Event, Vod}
 use Rattle.playlist_model.specs.LookBack.{or_earlier}
 use Rattle.channel_spec.specs.declared.fault.RefreshFault.{RefreshFault}
-use Rattle.channel_spec.specs.Successor.{fault_if, first_number, end_number, first_discontinuity, last_discontinuity, has_init_sections, kind_eq, are_different, first_changed, successor_fault}
+use Rattle.channel_spec.specs.Successor.{fault_if, first_number, end_number, first_discontinuity, last_discontinuity, has_init_sections, are_different, first_changed, successor_fault}
+use Rattle.playlist_model.specs.Same.{kind_eq}
 
 -- what a playlist that may follow another keeps
 pub record Passed (old new : Playlist) : Type 0 where

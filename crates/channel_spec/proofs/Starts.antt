@@ -15,8 +15,8 @@ use Rattle.channel_spec.specs.Successor.{first_number, end_number, has_init_sect
 use Rattle.channel_spec.specs.Live.{Event, decided, refreshed, succession_fault, last_playlist, moment}
 use Rattle.channel_spec.specs.LiveLaws.{Linked}
 use Rattle.channel_spec.specs.Sound.{IsSoundPlaylist, IsSoundEvent}
-use Rattle.stitcher.specs.Paced.{first_of_run, run_length, older, due_with, due_stitched, Rest, rest_pieces}
-use Rattle.channel_spec.specs.Live.{Told, place_of, gone_before, rest_over, start_after, after_refresh, refusal, happens, told}
+use Rattle.stitcher.specs.Paced.{first_of_run, run_length, older, due_with, due_stitched, MeantRest, rest_pieces}
+use Rattle.channel_spec.specs.Live.{Told, item_place, gone_before, rest_over, start_after, after_refresh, refusal, happens, told}
 use Rattle.channel_spec.proofs.Growth.{history_grows}
 use Rattle.channel_spec.proofs.Windows.{length-reverse}
 use Rattle.channel_spec.proofs.Runs.{newest_item, place_is}
@@ -56,11 +56,11 @@ place_rest s gone = grind (arith, place_is)
 -- ---- where a window starts
 
 pub data StartAt (first : ℕ) (history : List Marked) (start : ℕ) : Type 0 where
-  at_item : start ≡ place_of first history → StartAt first history start
-  in_rest : (f : Mark) → newest_mark (gone_before first history) ≡ Some f → newest_place (gone_before first history) ≤ start → start < place_of first history
-      → place_of first history ≡ length (stitched (gone_before first history)) → StartAt first history start
+  at_item : start ≡ item_place first history → StartAt first history start
+  in_rest : (f : Mark) → newest_mark (gone_before first history) ≡ Some f → newest_place (gone_before first history) ≤ start → start < item_place first history
+      → item_place first history ≡ length (stitched (gone_before first history)) → StartAt first history start
 
-move : (first : ℕ) (old new : List Marked) (start : ℕ) → place_of first new ≡ place_of first old → gone_before first new ≡ gone_before first old → StartAt first old start → StartAt first new start
+move : (first : ℕ) (old new : List Marked) (start : ℕ) → item_place first new ≡ item_place first old → gone_before first new ≡ gone_before first old → StartAt first old start → StartAt first new start
 move first old new start p g (at_item e) = at_item (e ∙ sym p)
 move first old new start p g (in_rest f a b c d) =
     in_rest f (ap newest_mark g ∙ a) (subst (λ x. newest_place x ≤ start) (sym g) b) (subst (λ x. start < x) (sym p) c) (p ∙ d ∙ sym (ap (λ x. length (stitched x)) g))
@@ -73,7 +73,7 @@ due_unmarked : (whole : Bool) (n : ℕ) (x : Marked) (before : List Marked) → 
 due_unmarked whole n x before e = grind arith
 
 rest_begins : (m ended : Bool) (k end : ℕ) (newest : Marked) (before more : List Marked) → AllByRecursion (IsAlike m) (more ++ (newest ∷ before)) → FallFrom end (more ++ (newest ∷ before))
-    → 0 < length (up_to k (more ++ (newest ∷ before))) → Begins k more newest before → length (due_stitched ended (newest ∷ before)) < place_of k (more ++ (newest ∷ before))
+    → 0 < length (up_to k (more ++ (newest ∷ before))) → Begins k more newest before → length (due_stitched ended (newest ∷ before)) < item_place k (more ++ (newest ∷ before))
     → StartAt k (more ++ (newest ∷ before)) (length (due_stitched ended (newest ∷ before)))
 rest_begins m ended k end newest before more a f some (stays p) h =
     let history = newest ∷ before in
@@ -85,13 +85,13 @@ rest_begins m ended k end newest before more a f some (next x later p q r) h =
     let falls = subst (λ l. FallFrom end l) list f in
     let number : x.segment.media_sequence ≡ k = sym (fall_tail end later x history falls).0 ∙ sym q in
     let gone : gone_before k (more ++ history) ≡ history = ap (gone_before k) list ∙ subst (λ n. gone_before n (later ++ (x ∷ history)) ≡ history) number (gone_bottom end later x history falls) in
-    let place : place_of k (more ++ history) ≡ newest_place (x ∷ history) = ap newest_place r in
+    let place : item_place k (more ++ history) ≡ newest_place (x ∷ history) = ap newest_place r in
     let inside = inside_due m ended [] history (all_after (IsAlike m) more history a) (omega arith) in
     step (continues x history) newest.mark refl refl gone place inside h
   where
     step : (b : Bool) (o : Option Mark) → continues x (newest ∷ before) ≡ b → newest.mark ≡ o → gone_before k (more ++ (newest ∷ before)) ≡ newest ∷ before
-        → place_of k (more ++ (newest ∷ before)) ≡ newest_place (x ∷ newest ∷ before) → newest_place (newest ∷ before) < length (due_stitched ended (newest ∷ before))
-        → length (due_stitched ended (newest ∷ before)) < place_of k (more ++ (newest ∷ before)) → StartAt k (more ++ (newest ∷ before)) (length (due_stitched ended (newest ∷ before)))
+        → item_place k (more ++ (newest ∷ before)) ≡ newest_place (x ∷ newest ∷ before) → newest_place (newest ∷ before) < length (due_stitched ended (newest ∷ before))
+        → length (due_stitched ended (newest ∷ before)) < item_place k (more ++ (newest ∷ before)) → StartAt k (more ++ (newest ∷ before)) (length (due_stitched ended (newest ∷ before)))
     step true o e u gone place inside h =
         let z : newest_place (x ∷ newest ∷ before) ≡ newest_place (newest ∷ before) = ap (λ b. cond b (newest_place (newest ∷ before)) (length (stitched (newest ∷ before)))) e in
         absurd (omega (arith, h, inside, z, place))
@@ -146,13 +146,13 @@ starts m last playlist (newest ∷ before) start s at p t =
     let rest = rest_begins b last.end_list k (end_number playlist.segments) newest before g.0 whole falls some (begins k (end_number playlist.segments) g.0 newest before falls (omega (arith, end, p.no_gap))) in
     subst (λ h. StartAt k h (start_after (Some last) start history playlist h)) (sym g.1) (choose k n (g.0 ++ history) start (length (due_stitched last.end_list history)) same rest (k == n) refl)
   where
-    other : (k : ℕ) (new : List Marked) (most : ℕ) → (most < place_of k new → StartAt k new most) → Dec (most < place_of k new) → StartAt k new (min (place_of k new) most)
-    other k new most rest (yes h) = let e : most ≡ min (place_of k new) most = omega (arith, h) in subst (λ x. StartAt k new x) e (rest h)
+    other : (k : ℕ) (new : List Marked) (most : ℕ) → (most < item_place k new → StartAt k new most) → Dec (most < item_place k new) → StartAt k new (min (item_place k new) most)
+    other k new most rest (yes h) = let e : most ≡ min (item_place k new) most = omega (arith, h) in subst (λ x. StartAt k new x) e (rest h)
     other k new most rest (no h) = at_item (omega (arith, h))
 
-    choose : (k n : ℕ) (new : List Marked) (start most : ℕ) → StartAt n new start → (most < place_of k new → StartAt k new most) → (b : Bool) → (k == n) ≡ b → StartAt k new (cond b start (min (place_of k new) most))
+    choose : (k n : ℕ) (new : List Marked) (start most : ℕ) → StartAt n new start → (most < item_place k new → StartAt k new most) → (b : Bool) → (k == n) ≡ b → StartAt k new (cond b start (min (item_place k new) most))
     choose k n new start most same rest true e = subst (λ x. StartAt x new start) (sym (eqb-true k n e)) same
-    choose k n new start most same rest false e = other k new most rest (dec_lt most (place_of k new))
+    choose k n new start most same rest false e = other k new most rest (dec_lt most (item_place k new))
 
 -- ---- after all events
 
@@ -189,17 +189,17 @@ all_start tolerance (event ∷ before) g = event_starts tolerance (told toleranc
 
 -- ---- the rest, and what stands below the window
 
-abbrev pub rest_found : ℕ → ℕ → List Marked → Option Rest
+abbrev pub rest_found : ℕ → ℕ → List Marked → Option MeantRest
 rest_found base start gone = option_map (λ (mark : Mark). record { mark = mark; place = start - (newest_place gone + base) }) (newest_mark gone)
 
-abbrev pub rest_with : ℕ → ℕ → ℕ → List Marked → Option Rest
+abbrev pub rest_with : ℕ → ℕ → ℕ → List Marked → Option MeantRest
 rest_with base start place gone = cond (nat_lt start (place + base)) (rest_found base start gone) None
 
 pub rest_is : (end start : ℕ) (newer : List Marked) (s : Marked) (gone : List Marked) → FallFrom end (newer ++ (s ∷ gone))
     → rest_over 0 start s.segment.media_sequence (newer ++ (s ∷ gone)) ≡ rest_with 0 start (length (stitched (rest_of s gone))) gone
 rest_is end start newer s gone f = grind (arith, up_bottom, place_rest, rest_of, gone_bottom)
 
-pub record Below (s : Marked) (gone : List Marked) (start : ℕ) (rest : Option Rest) : Type 0 where
+pub record Below (s : Marked) (gone : List Marked) (start : ℕ) (rest : Option MeantRest) : Type 0 where
   pub below : List Piece
   pub is : stitched (rest_of s gone) ≡ rest_pieces rest ++ below
   pub size : length below ≡ start
@@ -239,7 +239,7 @@ below_part s [] start f l e h i j = absurd (cc)
 below_part s (r ∷ before) start f l e h i j =
     let k = cut_pod s r before start f l e h (continues s (r ∷ before)) i j (start - (newest_place (r ∷ before) + 0)) (omega arith) in
     let rest = is_before start (length (stitched (rest_of s (r ∷ before)))) (r ∷ before) f i e in
-    subst (λ (o : Option Rest). Below s (r ∷ before) start o) (sym rest) (record { below = k.0; is = k.1.0; size = k.1.1 })
+    subst (λ (o : Option MeantRest). Below s (r ∷ before) start o) (sym rest) (record { below = k.0; is = k.1.0; size = k.1.1 })
 
 pub below_start : (end start : ℕ) (newer : List Marked) (s : Marked) (gone : List Marked) → FallFrom end (newer ++ (s ∷ gone)) → Linked gone
     → StartAt s.segment.media_sequence (newer ++ (s ∷ gone)) start → Below s gone start (rest_with 0 start (length (stitched (rest_of s gone))) gone)

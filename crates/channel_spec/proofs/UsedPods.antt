@@ -15,8 +15,8 @@ use Rattle.channel_spec.specs.Successor.{first_number, end_number}
 use Rattle.channel_spec.specs.Live.{Event, decided, refreshed, moment, succession_fault, last_playlist, breaks_in_use, rest_before}
 use Rattle.channel_spec.specs.LiveLaws.{HasPod, ShownHavePods, first_shown}
 use Rattle.channel_spec.specs.Sound.{IsSoundPlaylist, IsSoundEvent}
-use Rattle.stitcher.specs.Paced.{Rest, due_stitched}
-use Rattle.channel_spec.specs.Live.{Told, place_of, gone_before, rest_over, rest_id, start_after, after_refresh, refusal, happens}
+use Rattle.stitcher.specs.Paced.{MeantRest, due_stitched}
+use Rattle.channel_spec.specs.Live.{Told, item_place, gone_before, rest_over, rest_id, start_after, after_refresh, refusal, happens}
 use Rattle.channel_spec.specs.Live.{rest_by}
 use Rattle.channel_spec.specs.LiveLaws.{rest_mark, MarksHavePods}
 use Rattle.channel_spec.proofs.Windows.{all_from}
@@ -51,7 +51,7 @@ Held p =
     ShownHavePods p.store (first_shown p.accepted) p.history
     × (HasPod p.store (last_mark p.history) × HasPod p.store (rest_mark (rest_by (last_playlist p.accepted) p.start p.history)))
 
-rest_used : (rest : Option Rest) (f : Mark) → rest_mark rest ≡ Some f → is_this f.id (rest_id rest) ≡ true
+rest_used : (rest : Option MeantRest) (f : Mark) → rest_mark rest ≡ Some f → is_this f.id (rest_id rest) ≡ true
 rest_used rest f e = grind (arith, same_id)
 
 rest_same : (n : ℕ) (new old : List Marked) (start : ℕ) → up_to n new ≡ up_to n old → gone_before n new ≡ gone_before n old → rest_over 0 start n new ≡ rest_over 0 start n old
@@ -63,7 +63,7 @@ rest_step : (store : Store) (k n end : ℕ) (new old : List Marked) (start other
 rest_step store k n end new old start other back same f long h a true e =
     subst (λ i. Has store (rest_mark (rest_over 0 start i new))) (sym (eqb-true k n e)) (subst (λ o. Has store (rest_mark o)) (sym same) (has_some store (rest_mark (rest_over 0 start n old)) h))
 rest_step store k n end new old start other back same f long h a false e =
-    found_has store other (place_of k new) (gone_before k new) (newest_gone store n k end new f (higher (dec_lt n k)) long a)
+    found_has store other (item_place k new) (gone_before k new) (newest_gone store n k end new f (higher (dec_lt n k)) long a)
   where
     higher : Dec (n < k) → n < k
     higher (yes l) = l
@@ -77,7 +77,7 @@ unfolding WindowOf Has
 rest_has m [] history start store playlist st e t h a =
     let new = history_after m history playlist in
     let k = first_number playlist.segments in
-    subst (λ o. Has store (rest_mark o)) (sym (none_before (place_of k new) (place_of k new) (gone_before k new) refl)) tt
+    subst (λ o. Has store (rest_mark o)) (sym (none_before (item_place k new) (item_place k new) (gone_before k new) refl)) tt
 rest_has m (x ∷ earlier) history start store playlist st e t h a =
     let new = history_after m history playlist in
     let k = first_number playlist.segments in
@@ -85,7 +85,7 @@ rest_has m (x ∷ earlier) history start store playlist st e t h a =
     let s = st.standing in
     let g = history_grows m history (filter (is_new history) playlist.segments) in
     let c = same_there n (end_number x.playlist.segments) (end_number playlist.segments) history g.0 s.falls (subst (λ l. FallFrom (end_number playlist.segments) l) g.1 t.falls) (omega (arith, s.read.some)) (omega (arith, s.long)) in
-    rest_step store k n (end_number playlist.segments) new history start (min (place_of k new) (length (due_stitched x.playlist.end_list history))) (not_back (x ∷ earlier) playlist e)
+    rest_step store k n (end_number playlist.segments) new history start (min (item_place k new) (length (due_stitched x.playlist.end_list history))) (not_back (x ∷ earlier) playlist e)
     (rest_same n new history start (ap (λ l. up_to n l) g.1 ∙ c.up) (ap (gone_before n) g.1 ∙ c.gone)) t.falls (omega (arith, t.read.some)) h a (k == n) refl
 
 refresh_held : (tolerance : ℕ) (p : Told) (playlist : Playlist) → Holds p → IsSoundPlaylist playlist → Held p → succession_fault (last_playlist p.accepted) playlist ≡ None → Held (after_refresh tolerance p playlist)

@@ -8,11 +8,11 @@ use Rattle.playlist_model.specs.declared.Playlist.{Playlist}
 use Rattle.pod_store.specs.Pods.{PodSegment, Ad}
 use Rattle.pod_store.specs.Marks.{Mark, Marked, newest_mark, continues}
 use Rattle.stitcher.specs.Stitched.{Piece, Numbers, ad_piece, ad_pieces, pieces_of_ads, run_pieces, stitched, numbered, first_numbers, from_place}
-use Rattle.stitcher.specs.Paced.{Rest, older, due, newest_pieces, due_with, due_stitched, rest_pieces}
+use Rattle.stitcher.specs.Paced.{MeantRest, older, due, newest_pieces, due_with, due_stitched, rest_pieces}
 use Rattle.break_finder.specs.Known.{Accepted, is_this}
 use Rattle.channel_spec.specs.Marking.{last_entered}
 use Rattle.channel_spec.specs.Successor.{first_number, end_number, has_init_sections}
-use Rattle.channel_spec.specs.Live.{told, is_marked, in_use, rest_before, rest_id, rest_over, last_playlist, window_from}
+use Rattle.channel_spec.specs.Live.{told, is_mark_of, in_use, rest_before, rest_id, rest_over, last_playlist, window_from}
 use Rattle.channel_spec.specs.LiveLaws.{Linked}
 use Rattle.channel_spec.specs.BreakLaws.{is_of_pod, InUseIsWritten}
 use Rattle.channel_spec.proofs.Windows.{length-reverse, reverse-cons}
@@ -55,7 +55,7 @@ any_reverse test (x ∷ xs) = grind (arith, reverse-cons, any_append, reverse, o
 -- ---- pieces of a pod
 
 abbrev of_pod : List ℕ → Piece → Bool
-of_pod id p = is_marked id p.mark
+of_pod id p = is_mark_of id p.mark
 
 abbrev of_mark : Mark → Piece → Type 0
 of_mark mark p = p.mark ≡ Some mark
@@ -86,7 +86,7 @@ due_of mark n [] h = tt
 due_of mark n (p ∷ pieces) h = grind (arith, due_of mark (n - p.segment.duration) pieces h.1)
 
 -- pieces of one pod, if there are any
-any_of : (id : List ℕ) (mark : Mark) (pieces : List Piece) → AllByRecursion (of_mark mark) pieces → 0 < length pieces → list_any (of_pod id) pieces ≡ is_marked id (Some mark)
+any_of : (id : List ℕ) (mark : Mark) (pieces : List Piece) → AllByRecursion (of_mark mark) pieces → 0 < length pieces → list_any (of_pod id) pieces ≡ is_mark_of id (Some mark)
 any_of id mark [] h n = absurd (omega (arith, n))
 any_of id mark (p ∷ []) h n = grind arith
 any_of id mark (p ∷ q ∷ pieces) h n = grind (arith, any_of id mark (q ∷ pieces) h.1 (omega arith))
@@ -96,18 +96,18 @@ due_some n [] h = absurd (omega (arith, h))
 due_some n (p ∷ pieces) h = omega arith
 
 -- what stands for a run is of its pod, or of none
-any_newest : (m whole : Bool) (n : ℕ) (id : List ℕ) (s : Marked) (o : Option Mark) → IsGood m o → list_any (of_pod id) (newest_pieces whole n s o) ≡ is_marked id o
+any_newest : (m whole : Bool) (n : ℕ) (id : List ℕ) (s : Marked) (o : Option Mark) → IsGood m o → list_any (of_pod id) (newest_pieces whole n s o) ≡ is_mark_of id o
 unfolding IsGood
 any_newest m whole n id s o g = grind (arith, any_reverse, any_of, ads_of, due_of, due_some)
 
-any_run : (m : Bool) (id : List ℕ) (s : Marked) (o : Option Mark) → IsGood m o → list_any (of_pod id) (run_pieces s o) ≡ is_marked id o
+any_run : (m : Bool) (id : List ℕ) (s : Marked) (o : Option Mark) → IsGood m o → list_any (of_pod id) (run_pieces s o) ≡ is_mark_of id o
 unfolding IsGood
 any_run m id s o g = grind (arith, any_reverse, any_of, ads_of)
 
 -- ---- the marks of segments
 
 abbrev marked_by : List ℕ → Marked → Bool
-marked_by id s = is_marked id s.mark
+marked_by id s = is_mark_of id s.mark
 
 -- a segment that goes on a run marks nothing more
 goes_on : (id : List ℕ) (s : Marked) (before : List Marked) → s.mark ≡ newest_mark before → list_any (marked_by id) (s ∷ before) ≡ list_any (marked_by id) before
@@ -122,7 +122,7 @@ any_stitched m id (s ∷ before) l a = step (continues s before) refl (any_stitc
     step true e rec = rec ∙ sym (goes_on id s before (l.0 e))
     step false e rec =
         any_append (of_pod id) (run_pieces s s.mark) (stitched before)
-        ∙ (ap (λ b. b || list_any (of_pod id) (stitched before)) (any_run m id s s.mark a.0.mark) ∙ ap (λ b. is_marked id s.mark || b) rec)
+        ∙ (ap (λ b. b || list_any (of_pod id) (stitched before)) (any_run m id s s.mark a.0.mark) ∙ ap (λ b. is_mark_of id s.mark || b) rec)
 
 older_linked : (history : List Marked) → Linked history → Linked (older history)
 older_linked [] l = tt
@@ -132,7 +132,7 @@ older_alike : (m : Bool) (history : List Marked) → AllByRecursion (IsAlike m) 
 older_alike m [] a = tt
 older_alike m (s ∷ before) a = grind (arith, older_alike m before a.1)
 
-any_older : (id : List ℕ) (s : Marked) (before : List Marked) → Linked (s ∷ before) → (is_marked id s.mark || list_any (marked_by id) (older (s ∷ before))) ≡ list_any (marked_by id) (s ∷ before)
+any_older : (id : List ℕ) (s : Marked) (before : List Marked) → Linked (s ∷ before) → (is_mark_of id s.mark || list_any (marked_by id) (older (s ∷ before))) ≡ list_any (marked_by id) (s ∷ before)
 any_older id s [] l = grind arith
 any_older id s (t ∷ before) l = grind (arith, any_older id t before l.1)
 
@@ -143,11 +143,11 @@ any_due m whole n id (s ∷ before) l a =
     ap (list_any (of_pod id)) (due_newest whole n s before l)
     ∙ (any_append (of_pod id) (newest_pieces whole n s s.mark) (stitched (older (s ∷ before)))
     ∙ (ap (λ b. b || list_any (of_pod id) (stitched (older (s ∷ before)))) (any_newest m whole n id s s.mark a.0.mark)
-    ∙ (ap (λ b. is_marked id s.mark || b) (any_stitched m id (older (s ∷ before)) (older_linked (s ∷ before) l) (older_alike m (s ∷ before) a)) ∙ any_older id s before l)))
+    ∙ (ap (λ b. is_mark_of id s.mark || b) (any_stitched m id (older (s ∷ before)) (older_linked (s ∷ before) l) (older_alike m (s ∷ before) a)) ∙ any_older id s before l)))
 
 -- ---- the rest
 
-any_rest : (id : List ℕ) (o : Option Rest) → (is_some o ≡ true → 0 < length (rest_pieces o)) → list_any (of_pod id) (rest_pieces o) ≡ is_this id (rest_id o)
+any_rest : (id : List ℕ) (o : Option MeantRest) → (is_some o ≡ true → 0 < length (rest_pieces o)) → list_any (of_pod id) (rest_pieces o) ≡ is_this id (rest_id o)
 any_rest id o h = grind (arith, any_reverse, any_of, all_drop, ads_of, length-reverse)
 
 rest_some : (s : Marked) (gone : List Marked) (start : ℕ) → Below s gone start (rest_with 0 start (length (stitched (rest_of s gone))) gone)
@@ -159,7 +159,7 @@ rest_some s gone start b e = grind (arith, rest_of, rest_with, length-append, re
 any_items : (id : List ℕ) (first : Numbers) (k : ℕ) (pieces : List Piece) → list_any (is_of_pod id) (take k (numbered first pieces)) ≡ list_any (of_pod id) (take k pieces)
 any_items id first zero pieces = refl
 any_items id first (suc k) [] = refl
-any_items id first (suc k) (p ∷ pieces) = ap (λ b. is_marked id p.mark || b) (any_items id first k pieces)
+any_items id first (suc k) (p ∷ pieces) = ap (λ b. is_mark_of id p.mark || b) (any_items id first k pieces)
 
 any_window : (id : List ℕ) (first : Numbers) (stood below pieces : List Piece) (start : ℕ) → pieces ≡ stood ++ below → length below ≡ start
     → list_any (is_of_pod id) (reverse (from_place start (numbered first pieces))) ≡ list_any (of_pod id) stood
@@ -170,12 +170,12 @@ any_window id first stood below pieces start e f =
 
 -- ---- the shown segments
 
-none_used : (first end : ℕ) (id : List ℕ) (gone : List Marked) → FallFrom end gone → end ≤ first → list_any (λ (s : Marked). nat_le first s.segment.media_sequence && is_marked id s.mark) gone ≡ false
+none_used : (first end : ℕ) (id : List ℕ) (gone : List Marked) → FallFrom end gone → end ≤ first → list_any (λ (s : Marked). nat_le first s.segment.media_sequence && is_mark_of id s.mark) gone ≡ false
 none_used first end id [] f h = refl
 none_used first end id (g ∷ gone) f h = grind (arith, none_used first g.segment.media_sequence id gone f.1 (omega (arith, f.0, h)))
 
 any_shown : (first end : ℕ) (id : List ℕ) (newer : List Marked) (s : Marked) (gone : List Marked) → FallFrom end (newer ++ (s ∷ gone)) → s.segment.media_sequence ≡ first
-    → list_any (λ (x : Marked). nat_le first x.segment.media_sequence && is_marked id x.mark) (newer ++ (s ∷ gone)) ≡ list_any (marked_by id) (newer ++ (s ∷ []))
+    → list_any (λ (x : Marked). nat_le first x.segment.media_sequence && is_mark_of id x.mark) (newer ++ (s ∷ gone)) ≡ list_any (marked_by id) (newer ++ (s ∷ []))
 any_shown first end id [] s gone f e = grind (arith, le-leb, none_used)
 any_shown first end id (x ∷ newer) s gone f e = grind (arith, le-leb, fall_length, any_shown first x.segment.media_sequence id newer s gone f.1 e)
 

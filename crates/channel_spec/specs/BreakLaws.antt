@@ -12,9 +12,9 @@ use Rattle.pod_store.specs.Store.{own_pod}
 use Rattle.break_finder.specs.Breaks.{Break, end_of, is_not_past}
 use Rattle.break_finder.specs.Entering.{starts_at, enters_break}
 use Rattle.break_finder.specs.Known.{known, is_this}
-use Rattle.channel_spec.specs.Marking.{Moment, limits, continued, instant_of, next_shown, last_entered}
+use Rattle.channel_spec.specs.Marking.{Moment, limits, continued, segment_instant, next_shown, last_entered}
 use Rattle.channel_spec.specs.Successor.{first_number}
-use Rattle.channel_spec.specs.Live.{Event, refreshed, Told, told, is_marked, in_use, rest_by, last_playlist, has_ended, refusal, window_after}
+use Rattle.channel_spec.specs.Live.{Event, refreshed, Told, told, is_mark_of, in_use, rest_by, last_playlist, has_ended, refusal, window_after}
 use Rattle.channel_spec.specs.LiveLaws.{GoesOn, Linked}
 use Rattle.channel_spec.specs.Kept.{shown_by, window_by, capped}
 use Rattle.channel_spec.specs.Sound.{IsSoundEvent}
@@ -23,7 +23,7 @@ use Rattle.channel_spec.specs.Sound.{IsSoundEvent}
 
 -- the item is a segment of this break's pod
 abbrev pub is_of_pod : List ℕ → Item → Bool
-is_of_pod id item = is_marked id item.piece.mark
+is_of_pod id item = is_mark_of id item.piece.mark
 
 -- a break is in use exactly if a segment of its pod is written, or if it is the last one entered
 abbrev pub InUseIsWritten : Type 0
@@ -47,7 +47,7 @@ RunsKeepTheirPods = (tolerance : ℕ) (later before : List Event) →
 -- known before it is entered there
 pub record BeginsBreak (m : Moment) (before : List Marked) (s : Segment) (later : List Segment) (b : Break) (pod : Pod) : Type 0 where
   pub instant : ℤ
-  pub begins : instant_of before s later ≡ Some instant
+  pub begins : segment_instant before s later ≡ Some instant
   pub signalled : starts_at (limits m (last_entered before)) instant b.said ≡ true
   pub not_past : is_not_past instant m.tolerance (end_of b.said (total pod)) ≡ true
   pub not_last : is_this b.id (last_entered before) ≡ false
@@ -88,7 +88,7 @@ WrittenEndIsNear = (tolerance : ℕ) (events : List Event) (mark : Mark) → All
 -- two lists of events have led to the same: the store, the breaks that are known, the last playlist, the segments that are
 -- shown with their marks, the break that was entered last, the window, how long the newest run has lasted, and the rest of a
 -- pod that the window starts with
-pub record Agree (a b : Told) : Type 0 where
+pub record HaveLedToTheSame (a b : Told) : Type 0 where
   pub store : a.store ≡ b.store
   pub breaks : known a.accepted ≡ known b.accepted
   pub playlist : last_playlist a.accepted ≡ last_playlist b.accepted
@@ -103,10 +103,10 @@ pub record GoesAlike (tolerance : ℕ) (playlist : Playlist) (one other : List E
   pub refused : refusal tolerance (told tolerance one) playlist ≡ refusal tolerance (told tolerance other) playlist
   pub window : refusal tolerance (told tolerance one) playlist ≡ None →
       window_after (told tolerance (refreshed playlist ∷ one)) playlist ≡ window_after (told tolerance (refreshed playlist ∷ other)) playlist
-  pub agree : Agree (told tolerance (refreshed playlist ∷ one)) (told tolerance (refreshed playlist ∷ other))
+  pub agree : HaveLedToTheSame (told tolerance (refreshed playlist ∷ one)) (told tolerance (refreshed playlist ∷ other))
 
 -- so nothing else of what came before has a part in a window
 abbrev pub WindowsFollow : Type 0
 WindowsFollow = (tolerance : ℕ) (playlist : Playlist) (one other : List Event) →
     AllByRecursion IsSoundEvent (refreshed playlist ∷ one) → AllByRecursion IsSoundEvent (refreshed playlist ∷ other) →
-    Agree (told tolerance one) (told tolerance other) → GoesAlike tolerance playlist one other
+    HaveLedToTheSame (told tolerance one) (told tolerance other) → GoesAlike tolerance playlist one other

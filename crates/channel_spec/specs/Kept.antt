@@ -7,17 +7,17 @@ use Rattle.playlist_model.specs.declared.Playlist.{Playlist}
 use Rattle.channel_spec.specs.declared.heading.Heading.{Heading}
 use Rattle.playlist_model.specs.LookBack.{or_earlier}
 use Rattle.pod_store.specs.Marks.{Mark, Marked, newest_mark, continues}
-use Rattle.stitcher.specs.Stitched.{Numbers, Piece, Item, fits, numbered, first_numbers, from_place}
-use Rattle.stitcher.specs.Paced.{Rest, rest_pieces, run_length, due_with}
+use Rattle.stitcher.specs.Stitched.{Numbers, Piece, Item, can_be_numbered, numbered, first_numbers, from_place}
+use Rattle.stitcher.specs.Paced.{MeantRest, rest_pieces, run_length, due_with}
 use Rattle.pod_store.specs.Store.{Store, kept_in_use}
 use Rattle.pod_store.specs.Pods.{total}
 use Rattle.channel_spec.specs.declared.fault.RefreshFault.{RefreshFault}
 use Rattle.channel_spec.specs.declared.fault.RefreshFault.TheVariants.{NumberRange}
 use Rattle.break_finder.specs.Known.{Accepted, known}
 use Rattle.break_finder.specs.Breaks.{Break}
-use Rattle.channel_spec.specs.Marking.{Moment, mark_id, last_entered, next_mark, instant_of, is_new}
+use Rattle.channel_spec.specs.Marking.{Moment, mark_id, last_entered, next_mark, segment_instant, is_new}
 use Rattle.channel_spec.specs.Successor.{heading_of, following_fault, first_number, has_init_sections, fault_if}
-use Rattle.channel_spec.specs.Live.{Told, last_playlist, place_of, rest_over, rest_by, in_use_with, date_ranges_left, window_from, item_segment, states_instant, playlist_with}
+use Rattle.channel_spec.specs.Live.{Told, last_playlist, item_place, rest_over, rest_by, in_use_with, date_ranges_left, window_from, item_segment, states_instant, playlist_with}
 use Rattle.break_finder.specs.Known.{carry}
 
 -- the store, the known breaks, the heading of the last playlist, the segments that it shows (the newest first), the last break
@@ -31,7 +31,7 @@ pub record Kept : Type 0 where
   pub entered : Option (List ℕ)
   pub numbers : Numbers
   pub so_far : ℕ
-  pub rest : Option Rest
+  pub rest : Option MeantRest
 
 -- ---- what is kept of all that was told
 
@@ -44,12 +44,12 @@ abbrev pub head_numbers : List Item → Numbers
 head_numbers [] = record { media_sequence = 0; discontinuity_sequence = 0; discontinuities = 0 }
 head_numbers (item ∷ later) = item.numbers
 
-abbrev pub segment_of : Marked → Segment
-segment_of m = m.segment
+abbrev pub origin_segment : Marked → Segment
+origin_segment m = m.segment
 
 -- the segments of a history as a playlist lists them, the oldest first
 abbrev pub listed : List Marked → List Segment
-listed history = map segment_of (reverse history)
+listed history = map origin_segment (reverse history)
 
 abbrev pub shown_by : Option Playlist → List Marked → List Marked
 shown_by None history = []
@@ -94,8 +94,8 @@ kept_moment tolerance kept playlist = record {
 abbrev pub marked_on : Moment → List Marked → Option (List ℕ) → Segment → List Segment → Marked
 marked_on m before entered s later = record {
   segment = s;
-  instant = instant_of before s later;
-  mark = next_mark m (newest_mark before) entered (instant_of before s later);
+  instant = segment_instant before s later;
+  mark = next_mark m (newest_mark before) entered (segment_instant before s later);
 }
 
 abbrev pub entered_with : Option Mark → Option (List ℕ) → Option (List ℕ)
@@ -131,7 +131,7 @@ kept_length tolerance kept playlist =
     length_on (kept_moment tolerance kept playlist) kept.shown kept.entered kept.so_far (filter (is_new kept.shown) playlist.segments)
 
 -- the stitched list of these segments, after a rest
-abbrev pub stitched_on : Bool → ℕ → List Marked → Option Rest → List Piece
+abbrev pub stitched_on : Bool → ℕ → List Marked → Option MeantRest → List Piece
 stitched_on whole so_far list rest = due_with whole so_far list ++ rest_pieces rest
 
 -- the stitched list from the item on that the last window started with, if these segments are shown then, the newest run of
@@ -142,24 +142,24 @@ items_on kept playlist list so_far =
 
 -- where the next window starts, counted from there
 abbrev pub start_on : Option Heading → ℕ → Kept → List Marked → ℕ
-start_on None number kept list = place_of number list
+start_on None number kept list = item_place number list
 start_on (Some last) number kept list =
     if number == first_number (listed kept.shown) then 0
-    else min (place_of number list + length (rest_pieces kept.rest)) (length (stitched_on last.end_list kept.so_far kept.shown kept.rest))
+    else min (item_place number list + length (rest_pieces kept.rest)) (length (stitched_on last.end_list kept.so_far kept.shown kept.rest))
 
 abbrev pub window_on : Kept → Playlist → List Marked → ℕ → List Item
 window_on kept playlist list so_far =
     reverse (from_place (start_on kept.last (first_number playlist.segments) kept list) (items_on kept playlist list so_far))
 
 -- the rest that the next window starts with, if the last one showed the segments from `first` on
-abbrev pub rest_on : Option Heading → ℕ → ℕ → ℕ → List Marked → Option Rest → Option Rest
-rest_on None first number start list rest = None
-rest_on (Some last) first number start list rest =
+abbrev pub next_rest : Option Heading → ℕ → ℕ → ℕ → List Marked → Option MeantRest → Option MeantRest
+next_rest None first number start list rest = None
+next_rest (Some last) first number start list rest =
     if number == first then rest else rest_over (length (rest_pieces rest)) start number list
 
-abbrev pub rest_after : Kept → Playlist → List Marked → Option Rest
+abbrev pub rest_after : Kept → Playlist → List Marked → Option MeantRest
 rest_after kept playlist list =
-    rest_on kept.last (first_number (listed kept.shown)) (first_number playlist.segments) (start_on kept.last (first_number playlist.segments) kept list) list kept.rest
+    next_rest kept.last (first_number (listed kept.shown)) (first_number playlist.segments) (start_on kept.last (first_number playlist.segments) kept list) list kept.rest
 
 abbrev pub kept_items : ℕ → Kept → Playlist → List Item
 kept_items tolerance kept playlist = items_on kept playlist (kept_list tolerance kept playlist) (kept_length tolerance kept playlist)
@@ -167,7 +167,7 @@ kept_items tolerance kept playlist = items_on kept playlist (kept_list tolerance
 abbrev pub kept_window : ℕ → Kept → Playlist → List Item
 kept_window tolerance kept playlist = window_on kept playlist (kept_list tolerance kept playlist) (kept_length tolerance kept playlist)
 
-abbrev pub kept_rest : ℕ → Kept → Playlist → Option Rest
+abbrev pub kept_rest : ℕ → Kept → Playlist → Option MeantRest
 kept_rest tolerance kept playlist = rest_after kept playlist (kept_list tolerance kept playlist)
 
 abbrev pub kept_entered : ℕ → Kept → Playlist → Option (List ℕ)
@@ -191,7 +191,7 @@ kept_succession kept playlist = succession_on kept.last (listed kept.shown) play
 abbrev pub kept_refusal : ℕ → Kept → Playlist → Option RefreshFault
 kept_refusal tolerance kept playlist =
     or_earlier (kept_succession kept playlist)
-    (fault_if (not (list_all fits (kept_items tolerance kept playlist))) NumberRange)
+    (fault_if (not (list_all can_be_numbered (kept_items tolerance kept playlist))) NumberRange)
 
 -- what is kept after an accepted refresh
 abbrev pub kept_after : ℕ → Kept → Playlist → Kept

@@ -11,7 +11,7 @@ use Rattle.channel_spec.specs.Kept.{kept_of, kept_succession, kept_refusal, kept
 
 -- whether the playlist may follow the last one, whether the refresh is refused, what is kept after it, the window and the date
 -- ranges that are written, and so what is owed, follow from what is kept
-pub record Follows (tolerance : ℕ) (playlist : Playlist) (before : List Event) : Type 0 where
+pub record FollowsFromKept (tolerance : ℕ) (playlist : Playlist) (before : List Event) : Type 0 where
   pub succeeds : kept_succession (kept_of (told tolerance before)) playlist ≡ succession_fault (last_playlist (told tolerance before).accepted) playlist
   pub refused : kept_refusal tolerance (kept_of (told tolerance before)) playlist ≡ refusal tolerance (told tolerance before) playlist
   pub fresh : filter (is_new (kept_of (told tolerance before)).shown) playlist.segments ≡ filter (is_new (told tolerance before).history) playlist.segments
@@ -25,7 +25,7 @@ pub record Follows (tolerance : ℕ) (playlist : Playlist) (before : List Event)
       kept_owed tolerance (kept_of (told tolerance before)) playlist ≡ owed_for (told tolerance (refreshed playlist ∷ before)) playlist
 
 abbrev pub KeptFollows : Type 0
-KeptFollows = (tolerance : ℕ) (playlist : Playlist) (before : List Event) → AllByRecursion IsSoundEvent (refreshed playlist ∷ before) → Follows tolerance playlist before
+KeptFollows = (tolerance : ℕ) (playlist : Playlist) (before : List Event) → AllByRecursion IsSoundEvent (refreshed playlist ∷ before) → FollowsFromKept tolerance playlist before
 
 -- the store that is kept has the pod of each mark that is kept, and of the rest, used
 abbrev pub KeptHavePods : Type 0

@@ -8,12 +8,12 @@ use Rattle.playlist_model.specs.declared.DateRange.{DateRange}
 use Rattle.playlist_model.specs.LookBack.{or_earlier}
 use Rattle.pod_store.specs.Store.{Store, nothing_decided, is_one_of, kept_in_use}
 use Rattle.pod_store.specs.Store.{decided as after_decisions}
-use Rattle.pod_store.specs.Outcome.{Outcome}
+use Rattle.pod_store.specs.Outcome.{DecisionOutcome}
 use Rattle.pod_store.specs.declared.Decisions.{Decisions}
 use Rattle.pod_store.specs.Marks.{Mark, Marked, newest_mark}
 use Rattle.channel_spec.specs.Marking.{Moment, mark_id, last_entered, history_after}
-use Rattle.stitcher.specs.Stitched.{Item, fits, newest_place, up_to, from_place}
-use Rattle.stitcher.specs.Paced.{Rest, due_stitched, due_list}
+use Rattle.stitcher.specs.Stitched.{Item, can_be_numbered, newest_place, up_to, from_place}
+use Rattle.stitcher.specs.Paced.{MeantRest, due_stitched, due_list}
 use Rattle.break_finder.specs.Known.{Accepted, known, is_this}
 use Rattle.channel_spec.specs.Successor.{successor_fault, first_number, has_init_sections, fault_if}
 use Rattle.channel_spec.specs.declared.fault.RefreshFault.{RefreshFault}
@@ -35,17 +35,17 @@ pub record Told : Type 0 where
 -- ---- decisions
 
 -- what is refused changes nothing
-abbrev pub taken : Store → Outcome Store → Store
-taken store (Ok new) = new
-taken store (Err fault) = store
+abbrev pub store_by_outcome : Store → DecisionOutcome Store → Store
+store_by_outcome store (Ok new) = new
+store_by_outcome store (Err fault) = store
 
 abbrev pub decide : Decisions → Store → Store
-decide decisions store = taken store (after_decisions store decisions)
+decide decisions store = store_by_outcome store (after_decisions store decisions)
 
 -- ---- the breaks in use
 
-abbrev pub is_marked : List ℕ → Option Mark → Bool
-is_marked id mark = is_this id (option_map mark_id mark)
+abbrev pub is_mark_of : List ℕ → Option Mark → Bool
+is_mark_of id mark = is_this id (option_map mark_id mark)
 
 -- the segments before this number
 abbrev pub gone_before : ℕ → List Marked → List Marked
@@ -53,37 +53,37 @@ gone_before number [] = []
 gone_before number (s ∷ before) = if nat_le number s.segment.media_sequence then gone_before number before else s ∷ before
 
 -- the place of the item of the segment of this number
-abbrev pub place_of : ℕ → List Marked → ℕ
-place_of number history = newest_place (up_to number history)
+abbrev pub item_place : ℕ → List Marked → ℕ
+item_place number history = newest_place (up_to number history)
 
 -- what a window that starts at this place has before the item of its first shown segment: the rest of the pod before that. The
 -- place counts `more` items that stand before those of this history
-abbrev pub rest_over : ℕ → ℕ → ℕ → List Marked → Option Rest
+abbrev pub rest_over : ℕ → ℕ → ℕ → List Marked → Option MeantRest
 rest_over more start number history =
-    if nat_lt start (place_of number history + more)
+    if nat_lt start (item_place number history + more)
     then option_map (λ (mark : Mark). record { mark = mark; place = start - (newest_place (gone_before number history) + more) }) (newest_mark (gone_before number history))
     else None
 
-abbrev pub rest_before : ℕ → ℕ → List Marked → Option Rest
+abbrev pub rest_before : ℕ → ℕ → List Marked → Option MeantRest
 rest_before start number history = rest_over 0 start number history
 
-abbrev pub rest_id : Option Rest → Option (List ℕ)
+abbrev pub rest_id : Option MeantRest → Option (List ℕ)
 rest_id None = None
 rest_id (Some rest) = Some rest.mark.id
 
-abbrev pub ids_in : Option (List ℕ) → List (List ℕ)
-ids_in None = []
-ids_in (Some id) = id ∷ []
+abbrev pub ids_of_option : Option (List ℕ) → List (List ℕ)
+ids_of_option None = []
+ids_of_option (Some id) = id ∷ []
 
 -- the breaks that mark the segments from a number on, the oldest first
 abbrev pub marks_from : ℕ → List Marked → List (List ℕ)
 marks_from first [] = []
 marks_from first (s ∷ before) =
-    marks_from first before ++ (if nat_le first s.segment.media_sequence then ids_in (option_map mark_id s.mark) else [])
+    marks_from first before ++ (if nat_le first s.segment.media_sequence then ids_of_option (option_map mark_id s.mark) else [])
 
 -- with the one that was entered last, and the one with the rest of whose pod the window starts
-abbrev pub in_use_with : ℕ → List Marked → Option (List ℕ) → Option Rest → List (List ℕ)
-in_use_with first history last rest = marks_from first history ++ (ids_in last ++ ids_in (rest_id rest))
+abbrev pub in_use_with : ℕ → List Marked → Option (List ℕ) → Option MeantRest → List (List ℕ)
+in_use_with first history last rest = marks_from first history ++ (ids_of_option last ++ ids_of_option (rest_id rest))
 
 -- the breaks in use, if the window starts at this place and its first shown segment has this number: each of which a
 -- segment of the pod is written, and the last one entered
@@ -112,17 +112,17 @@ moment tolerance told playlist = record {
 }
 
 -- the rest that the last window starts with
-abbrev pub rest_by : Option Playlist → ℕ → List Marked → Option Rest
+abbrev pub rest_by : Option Playlist → ℕ → List Marked → Option MeantRest
 rest_by None start history = None
 rest_by (Some last) start history = rest_before start (first_number last.segments) history
 
 -- where the window starts after a refresh: where the one before did, if the first shown segment is the same; else at the item
 -- of the first shown segment, but no later than one past the last item written before
 abbrev pub start_after : Option Playlist → ℕ → List Marked → Playlist → List Marked → ℕ
-start_after None start before playlist history = place_of (first_number playlist.segments) history
+start_after None start before playlist history = item_place (first_number playlist.segments) history
 start_after (Some last) start before playlist history =
     if first_number playlist.segments == first_number last.segments then start
-    else min (place_of (first_number playlist.segments) history) (length (due_stitched last.end_list before))
+    else min (item_place (first_number playlist.segments) history) (length (due_stitched last.end_list before))
 
 -- a break in use has its pod from then on, one that was entered with the fallback a copy of it; that of any other break that was
 -- used goes
@@ -142,11 +142,11 @@ has_ended [] = false
 has_ended (refresh ∷ before) = refresh.playlist.end_list
 
 -- the stitched list of all segments ever shown: its newest run is open until the last playlist has ended
-abbrev pub list_of : Told → List Item
-list_of told = due_list (has_ended told.accepted) told.history
+abbrev pub whole_stitched_list : Told → List Item
+whole_stitched_list told = due_list (has_ended told.accepted) told.history
 
 abbrev pub number_range_fault : Told → Option RefreshFault
-number_range_fault told = fault_if (not (list_all fits (list_of told))) NumberRange
+number_range_fault told = fault_if (not (list_all can_be_numbered (whole_stitched_list told))) NumberRange
 
 abbrev pub succession_fault : Option Playlist → Playlist → Option RefreshFault
 succession_fault None playlist = None

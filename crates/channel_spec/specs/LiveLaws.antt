@@ -6,11 +6,11 @@ use Rattle.break_finder.specs.Known.{Accepted}
 use Rattle.break_finder.specs.Laws.{CarriesKnown}
 use Rattle.pod_store.specs.Marks.{Mark, Marked, newest_mark, continues}
 use Rattle.channel_spec.specs.Marking.{Moment, next_shown, last_mark, last_entered}
-use Rattle.stitcher.specs.Stitched.{Piece, Numbers, numbers_at, fits, numbered}
-use Rattle.stitcher.specs.Paced.{Rest}
-use Rattle.channel_spec.specs.Live.{Event, refreshed, told, list_of, last_playlist, refusal, rest_by, in_use, owed, owed_for}
+use Rattle.stitcher.specs.Stitched.{Piece, Numbers, numbers_at, can_be_numbered, numbered}
+use Rattle.stitcher.specs.Paced.{MeantRest}
+use Rattle.channel_spec.specs.Live.{Event, refreshed, told, whole_stitched_list, last_playlist, refusal, rest_by, in_use, owed, owed_for}
 use Rattle.std.specs.List.{AllByRecursion, list_all}
-use Rattle.channel_spec.specs.Successor.{Succeeds, successor_fault, first_number}
+use Rattle.channel_spec.specs.Successor.{MayFollow, successor_fault, first_number}
 use Rattle.pod_store.specs.Store.{Store, entry_for, is_used}
 use Rattle.channel_spec.specs.Sound.{IsSoundPlaylist, IsSoundEvent}
 
@@ -21,13 +21,13 @@ GoesOn {A} old new = (more : List A) × (new ≡ more ++ old)
 -- the stitched list, numbers included, only grows
 abbrev pub OnlyGrows : Type 0
 OnlyGrows = (tolerance : ℕ) (later before : List Event) → AllByRecursion IsSoundEvent (later ++ before) →
-    GoesOn (list_of (told tolerance before)) (list_of (told tolerance (later ++ before)))
+    GoesOn (whole_stitched_list (told tolerance before)) (whole_stitched_list (told tolerance (later ++ before)))
 
 -- each written playlist succeeds the one written before it
 abbrev pub EachSucceeds : Type 0
 EachSucceeds = (tolerance : ℕ) (playlist : Playlist) (before : List Event) (old : Playlist) →
     AllByRecursion IsSoundEvent (refreshed playlist ∷ before) → refusal tolerance (told tolerance before) playlist ≡ None →
-    owed (told tolerance before) ≡ Some old → Succeeds (owed_for (told tolerance (refreshed playlist ∷ before)) playlist) old
+    owed (told tolerance before) ≡ Some old → MayFollow (owed_for (told tolerance (refreshed playlist ∷ before)) playlist) old
 
 -- ---- what the next mark and the next window follow from
 
@@ -50,12 +50,12 @@ MarksAreKnown = (tolerance : ℕ) (events : List Event) → CarriesKnown (told t
 
 -- a playlist succeeds another exactly if it has no fault
 abbrev pub NoFaultSucceeds : Type 0
-NoFaultSucceeds = (old new : Playlist) → IsSoundPlaylist old → IsSoundPlaylist new → (successor_fault old new ≡ None) ↔ Succeeds new old
+NoFaultSucceeds = (old new : Playlist) → IsSoundPlaylist old → IsSoundPlaylist new → (successor_fault old new ≡ None) ↔ MayFollow new old
 
 -- the numbers of a list fit if those of its newest item do
 abbrev pub NewestFits : Type 0
 NewestFits = (first : Numbers) (p : Piece) (before : List Piece) →
-    list_all fits (numbered first (p ∷ before)) ≡ fits (record { piece = p; numbers = numbers_at first p before })
+    list_all can_be_numbered (numbered first (p ∷ before)) ≡ can_be_numbered (record { piece = p; numbers = numbers_at first p before })
 
 -- ---- the pods of marks
 
@@ -73,7 +73,7 @@ abbrev pub first_shown : List Accepted → ℕ
 first_shown [] = 0
 first_shown (refresh ∷ before) = first_number refresh.playlist.segments
 
-abbrev pub rest_mark : Option Rest → Option Mark
+abbrev pub rest_mark : Option MeantRest → Option Mark
 rest_mark None = None
 rest_mark (Some rest) = Some rest.mark
 

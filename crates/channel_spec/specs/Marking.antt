@@ -4,7 +4,7 @@ use Rattle.playlist_model.specs.Instants.{begins_at, ends_at}
 use Rattle.playlist_model.specs.declared.Segment.{Segment}
 use Rattle.playlist_model.specs.declared.Playlist.{Playlist}
 use Rattle.playlist_model.specs.LookBack.{or_earlier}
-use Rattle.pod_store.specs.Marks.{Mark, Marked, newest_mark}
+use Rattle.pod_store.specs.Marks.{Mark, Marked, newest_mark, mark_in}
 use Rattle.pod_store.specs.Store.{Store}
 use Rattle.break_finder.specs.Breaks.{Break}
 use Rattle.break_finder.specs.Entering as entering
@@ -17,8 +17,8 @@ newest_end [] = None
 newest_end (s ∷ before) = ends_at s.instant s.segment.duration
 
 -- the instant of a segment after this history; `later` are those after it in the refresh
-abbrev pub instant_of : List Marked → Segment → List Segment → Option ℤ
-instant_of before s later = begins_at (newest_end before) s later
+abbrev pub segment_instant : List Marked → Segment → List Segment → Option ℤ
+segment_instant before s later = begins_at (newest_end before) s later
 
 -- ---- marks
 
@@ -55,7 +55,7 @@ limits m last = record { tolerance = m.tolerance; target_duration = m.target_dur
 
 -- the first known, signalled, decided, fitting break that is entered here and isn't the last one entered
 abbrev pub entered : Moment → Option ℤ → Option (List ℕ) → Option Mark
-entered m instant last = entering.mark_of m.store (entering.entered (limits m last) m.store m.breaks instant)
+entered m instant last = mark_in m.store (entering.entered (limits m last) m.store m.breaks instant)
 
 -- the mark of a segment that begins at this instant, after a segment of this mark and after that last break entered
 abbrev pub next_mark : Moment → Option Mark → Option (List ℕ) → Option ℤ → Option Mark
@@ -69,8 +69,8 @@ mark_of m before instant = next_mark m (newest_mark before) (last_entered before
 abbrev pub next_shown : Moment → List Marked → Segment → List Segment → Marked
 next_shown m before s later = record {
   segment = s;
-  instant = instant_of before s later;
-  mark = mark_of m before (instant_of before s later);
+  instant = segment_instant before s later;
+  mark = mark_of m before (segment_instant before s later);
 }
 
 abbrev pub show_all : Moment → List Marked → List Segment → List Marked

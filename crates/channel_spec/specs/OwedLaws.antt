@@ -15,7 +15,7 @@ use Rattle.break_finder.specs.Known.{is_this}
 use Rattle.channel_spec.specs.Marking.{last_entered}
 use Rattle.channel_spec.specs.Successor.{first_number}
 use Rattle.channel_spec.specs.Live.{Event, refreshed, Told, told, last_playlist, refusal, rest_by, in_use, window_after, owed}
-use Rattle.channel_spec.specs.Kept.{shown_by}
+use Rattle.channel_spec.specs.Kept.{shown_by, origin_segment}
 use Rattle.channel_spec.specs.Sound.{IsSoundEvent}
 use Rattle.channel_spec.specs.BreakLaws.{is_of_pod}
 
@@ -57,8 +57,8 @@ DateRangesAreTheOrigins = (tolerance : ℕ) (events : List Event) (last now : Pl
 abbrev pub piece_of : Item → Piece
 piece_of item = item.piece
 
-abbrev pub segment_of : Piece → Segment
-segment_of p = p.segment
+abbrev pub piece_segment : Piece → Segment
+piece_segment p = p.segment
 
 -- the window, the newest first, is what stands for the shown segments, of the pod of an open run as much as is due, and before
 -- that the rest of one pod
@@ -71,14 +71,11 @@ WindowIsStitched = (tolerance : ℕ) (events : List Event) (last now : Playlist)
 abbrev pub is_unmarked : Marked → Bool
 is_unmarked s = is_none s.mark
 
-abbrev pub origin_of : Marked → Segment
-origin_of s = s.segment
-
 -- the origin's segments in it are the unmarked ones of those that are shown, each once and in their order
 abbrev pub UnmarkedStandOnce : Type 0
 UnmarkedStandOnce = (tolerance : ℕ) (events : List Event) (last now : Playlist) → IsOwed tolerance events last now →
     let t = told tolerance events in
-    map segment_of (filter is_kept (map piece_of (window_after t last))) ≡ map origin_of (filter is_unmarked (reverse (shown_by (Some last) t.history)))
+    map piece_segment (filter is_kept (map piece_of (window_after t last))) ≡ map origin_segment (filter is_unmarked (reverse (shown_by (Some last) t.history)))
 
 -- what is played of a segment: its resource with its byte range, keys, initialisation section, duration and title
 pub record PlaysAs (piece now : Segment) : Type 0 where

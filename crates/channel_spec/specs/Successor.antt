@@ -3,10 +3,8 @@ use Rattle.std.specs.Prelude.{◌≡◌, ◌≤◌, ℕ, ◌+◌, Bool, true, fa
 use Rattle.std.specs.List.{AllByRecursion}
 use Rattle.playlist_model.specs.declared.Segment.{Segment}
 use Rattle.playlist_model.specs.declared.Playlist.{Playlist}
-use Rattle.playlist_model.specs.declared.PlaylistKind.{PlaylistKind}
-use Rattle.playlist_model.specs.declared.PlaylistKind.TheVariants.{Event, Vod}
 use Rattle.playlist_model.specs.LookBack.{or_earlier}
-use Rattle.playlist_model.specs.Same.{kept_parts, same_segment}
+use Rattle.playlist_model.specs.Same.{kept_parts, same_segment, kind_eq}
 use Rattle.channel_spec.specs.declared.fault.RefreshFault.{RefreshFault}
 use Rattle.channel_spec.specs.declared.heading.Heading.{Heading}
 use Rattle.channel_spec.specs.declared.fault.RefreshFault.TheVariants.{VersionChanged, TargetChanged, TypeChanged, MapsChanged, Back, Gap, Shrunk, Changed, Ended}
@@ -37,7 +35,7 @@ abbrev pub AgreesWith : List Segment → Segment → Type 0
 AgreesWith others s = AllByRecursion (λ t. s.media_sequence ≡ t.media_sequence → kept_parts s ≡ kept_parts t) others
 
 -- Q may follow P
-pub record Succeeds (Q P : Playlist) : Type 0 where
+pub record MayFollow (Q P : Playlist) : Type 0 where
   pub version : Q.version ≡ P.version
   pub target_duration : Q.target_duration ≡ P.target_duration
   pub playlist_type : Q.playlist_type ≡ P.playlist_type
@@ -59,12 +57,6 @@ heading_of p = record { version = p.version; target_duration = p.target_duration
 
 abbrev pub fault_if : Bool → RefreshFault → Option RefreshFault
 fault_if test fault = if test then Some fault else None
-
-abbrev pub kind_eq : Option PlaylistKind → Option PlaylistKind → Bool
-kind_eq None None = true
-kind_eq (Some Event) (Some Event) = true
-kind_eq (Some Vod) (Some Vod) = true
-kind_eq _ _ = false
 
 abbrev pub difference : Segment → Option Segment → Option RefreshFault
 difference s None = None

@@ -12,7 +12,7 @@ use Rattle.channel_spec.specs.Marking.{Moment, limits}
 use Rattle.channel_window.specs.Marking.{stays, next_id, mark_on, capped_in, length_before, length_after}
 use Rattle.channel_window.specs.Inner.Terms.{entered_after}
 use Rattle.channel_window.specs.declared.marking.Run.{Run}
-use Rattle.channel_window.specs.Inner.Terms.{IsExtended, IsRun, capped_at, stays_in}
+use Rattle.channel_window.specs.Inner.Terms.{IsExtended, HasItsTerms, capped_at, stays_in}
 
 -- ---- a segment without a mark, after another
 
@@ -31,7 +31,7 @@ length_itself : (m : Moment) (mark : Option (List ℕ)) (instant : Option ℤ) (
 length_itself m None instant n h = absurd (cc)
 length_itself m (Some id) instant n h = ap (λ b. cond b n 0) ((bytes_eq-Decides id id).1 refl)
 
-pub stays_on : (m : Moment) (run : Run) (duration n : ℕ) (instant : Option ℤ) (mark : Option (List ℕ)) → IsRun m run → stays_in run.terms instant ≡ true → n ≡ capped_at run.terms (duration + run.so_far) → mark ≡ run.before
+pub stays_on : (m : Moment) (run : Run) (duration n : ℕ) (instant : Option ℤ) (mark : Option (List ℕ)) → HasItsTerms m run → stays_in run.terms instant ≡ true → n ≡ capped_at run.terms (duration + run.so_far) → mark ≡ run.before
     → IsExtended m.store duration mark run (record run { so_far = n })
 stays_on m run duration n instant mark r h k is =
     let stay : stays m run.before instant ≡ true = sym (r.terms.stays instant) ∙ h in
@@ -45,7 +45,7 @@ stays_on m run duration n instant mark r h k is =
           ∙ ap (λ o. capped_in m.store o (duration + length_before o run.before run.so_far)) (sym is)));
     }
 
-pub stays_next : (m : Moment) (run : Run) (instant : Option ℤ) (mark : Option (List ℕ)) → IsRun m run → stays_in run.terms instant ≡ true → mark ≡ run.before → mark ≡ next_id m run.before run.entered instant
+pub stays_next : (m : Moment) (run : Run) (instant : Option ℤ) (mark : Option (List ℕ)) → HasItsTerms m run → stays_in run.terms instant ≡ true → mark ≡ run.before → mark ≡ next_id m run.before run.entered instant
 stays_next m run instant mark r h is =
     let stay : stays m run.before instant ≡ true = sym (r.terms.stays instant) ∙ h in
     is ∙ sym (ap (λ b. cond b run.before (entered (limits m run.entered) m.store m.breaks instant)) stay)
@@ -56,7 +56,7 @@ same_run mark (Some id) same is e = e ∙ sym (ap (λ o. is_same_run o (Some id)
 
 -- ---- one that begins a run
 
-pub begins_next : (m : Moment) (run : Run) (instant : Option ℤ) (mark : Option (List ℕ)) → IsRun m run → stays_in run.terms instant ≡ false → mark ≡ entered (limits m run.entered) m.store m.breaks instant
+pub begins_next : (m : Moment) (run : Run) (instant : Option ℤ) (mark : Option (List ℕ)) → HasItsTerms m run → stays_in run.terms instant ≡ false → mark ≡ entered (limits m run.entered) m.store m.breaks instant
     → mark ≡ next_id m run.before run.entered instant
 begins_next m run instant mark r h is =
     let stay : stays m run.before instant ≡ false = sym (r.terms.stays instant) ∙ h in

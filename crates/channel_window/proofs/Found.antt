@@ -7,8 +7,8 @@ use Rattle.playlist_model.specs.declared.Segment.{Segment}
 use Rattle.pod_store.specs.Store.{Store}
 use Rattle.stitcher.specs.declared.marked.MarkedSegment.{MarkedSegment as Held}
 use Rattle.stitcher.specs.StitchedSegments.{meant}
-use Rattle.channel_spec.specs.Kept.{segment_of, listed}
-use Rattle.channel_window.specs.Marking.{so_far}
+use Rattle.channel_spec.specs.Kept.{origin_segment, listed}
+use Rattle.channel_window.specs.Marking.{history_in}
 use Rattle.channel_window.specs.Listed.{held_segment, segments_in}
 use Rattle.playlist_model.specs.Same.{same_segment}
 use Rattle.channel_spec.specs.declared.fault.RefreshFault.{RefreshFault}
@@ -97,12 +97,12 @@ held_last [] m = refl
 held_last (x ∷ []) m = refl
 held_last (x ∷ y ∷ held) m = held_last (y ∷ held) m
 
-meant_listed : (store : Store) (held : List Held) → map segment_of (map (meant store) held) ≡ segments_in held
+meant_listed : (store : Store) (held : List Held) → map origin_segment (map (meant store) held) ≡ segments_in held
 meant_listed store [] = refl
 meant_listed store (m ∷ held) = ap (λ ss. m.segment ∷ ss) (meant_listed store held)
 
 -- as they are meant, the newest first, they are listed as they are held
-pub held_listed : (store : Store) (held : List Held) → listed (so_far store held) ≡ segments_in held
+pub held_listed : (store : Store) (held : List Held) → listed (history_in store held) ≡ segments_in held
 held_listed store held = grind (arith, reverse-reverse, meant_listed)
 
 pub last_append : (xs : List Segment) (x : Segment) → last_discontinuity (xs ++ x ∷ []) ≡ x.discontinuity_sequence

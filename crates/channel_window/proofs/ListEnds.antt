@@ -4,7 +4,7 @@ use Rattle.std.specs.List.{list_all}
 use Rattle.std.proofs.lemmas.List.{append-nil, map-append, reverse-append, length-map, length-drop, drop-drop}
 use Rattle.std.proofs.Math.Seq.{drop-append_seam, drop-append-add}
 use Rattle.pod_store.specs.Marks.{Marked, continues}
-use Rattle.stitcher.specs.Stitched.{Piece, Numbers, Item, fits, numbered, numbers_at, next_numbers, steps_between, stitched}
+use Rattle.stitcher.specs.Stitched.{Piece, Numbers, Item, can_be_numbered, numbered, numbers_at, next_numbers, steps_between, stitched}
 use Rattle.stitcher.specs.Paced.{first_of_run, older, due_with}
 use Rattle.stitcher.specs.Written.{written_item}
 use Rattle.stitcher.specs.declared.OutSegment.{OutSegment}
@@ -118,9 +118,9 @@ pub record GoesFrom (first n : Numbers) (whole : Bool) (lasted : ℕ) (later bef
   pub front : List OutSegment
   pub is : window ≡ front ++ out_of n (due_with whole lasted later)
   pub long : length front + items ≡ length old
-  pub fit : list_all fits (numbered n (due_with whole lasted later)) ≡ true → list_all fits (numbered first (due_with whole lasted (later ++ before) ++ rest)) ≡ true
+  pub fit : list_all can_be_numbered (numbered n (due_with whole lasted later)) ≡ true → list_all can_be_numbered (numbered first (due_with whole lasted (later ++ before) ++ rest)) ≡ true
 
-fits_alike : (first : Numbers) (front after : List Piece) → 0 < length front → list_all fits (numbered first (front ++ after)) ≡ list_all fits (numbered (base_at first front after) front)
+fits_alike : (first : Numbers) (front after : List Piece) → 0 < length front → list_all can_be_numbered (numbered first (front ++ after)) ≡ list_all can_be_numbered (numbered (base_at first front after) front)
 fits_alike first [] after h = absurd (omega (arith, h))
 fits_alike first (p ∷ front) after h = grind (arith, newest_fits, base_here)
 
@@ -165,9 +165,9 @@ module _ (first n : Numbers) (whole0 whole1 : Bool) (lasted0 lasted1 : ℕ) (fre
         is = new_is ∙ ap (λ (k : Numbers). front ++ out_of k here) same;
         long = long;
         fit = λ f.
-            ap (λ ps. list_all fits (numbered first (ps ++ rest))) (due_apart whole1 lasted1 (fresh ++ later) before begins_on)
-            ∙ (ap (λ ps. list_all fits (numbered first ps)) (append_assoc here (stitched before) rest)
-            ∙ (fits_alike first here below wide ∙ (ap (λ (k : Numbers). list_all fits (numbered k here)) same ∙ f)));
+            ap (λ ps. list_all can_be_numbered (numbered first (ps ++ rest))) (due_apart whole1 lasted1 (fresh ++ later) before begins_on)
+            ∙ (ap (λ ps. list_all can_be_numbered (numbered first ps)) (append_assoc here (stitched before) rest)
+            ∙ (fits_alike first here below wide ∙ (ap (λ (k : Numbers). list_all can_be_numbered (numbered k here)) same ∙ f)));
       }
 
 -- ---- an end of the next window

@@ -8,18 +8,18 @@ use Rattle.std.proofs.lemmas.List.{length-drop}
 use Rattle.std.proofs.Math.Decide.{dec_le}
 use mathlib.Core.List.{reverse_aux}
 use Rattle.playlist_model.specs.declared.Segment.{Segment}
-use Rattle.pod_store.specs.Marks.{Marked, newest_mark}
+use Rattle.pod_store.specs.Marks.{Marked, newest_mark, mark_in}
 use Rattle.playlist_model.specs.Instants.{ends_at, instants_after}
 use Rattle.pod_store.specs.Store.{Store}
 use Rattle.stitcher.specs.declared.marked.MarkedSegment.{MarkedSegment as Held}
-use Rattle.stitcher.specs.StitchedSegments.{meant, mark_in, IsDecided, AreDecided}
+use Rattle.stitcher.specs.StitchedSegments.{meant, IsDecided, AreDecided}
 use Rattle.stitcher.specs.Inner.Making.{mark_after}
 use Rattle.channel_spec.specs.Sound.{RiseFrom}
 use Rattle.channel_spec.specs.Successor.{first_number}
 use Rattle.channel_window.specs.Checked.{AreContiguous}
 use Rattle.channel_spec.specs.Marking.{Moment, newest_end, is_new}
 use Rattle.channel_spec.specs.Kept.{show_on, length_on}
-use Rattle.channel_window.specs.Marking.{so_far, mark_on, length_after}
+use Rattle.channel_window.specs.Marking.{history_in, mark_on, length_after}
 use Rattle.channel_window.specs.Inner.Listed.{IsTail, is_after}
 use Rattle.channel_window.proofs.Marked.{marks_are_shown, lengths_are_kept}
 
@@ -29,19 +29,19 @@ onto : (store : Store) (xs ys : List Held) (acc : List Marked) → reverse_aux (
 onto store [] ys acc = refl
 onto store (x ∷ xs) ys acc = onto store xs ys (meant store x ∷ acc)
 
-pub seen_after : (store : Store) (xs ys : List Held) → so_far store (xs ++ ys) ≡ reverse_aux (map (meant store) ys) (so_far store xs)
+pub seen_after : (store : Store) (xs ys : List Held) → history_in store (xs ++ ys) ≡ reverse_aux (map (meant store) ys) (history_in store xs)
 seen_after store xs ys = onto store xs ys []
 
 -- the newest of some segments
-pub last_seen : (store : Store) (shown rest : List Held) (m : Held) → shown ≡ rest ++ m ∷ [] → so_far store shown ≡ meant store m ∷ so_far store rest
-last_seen store shown rest m e = ap (so_far store) e ∙ seen_after store rest (m ∷ [])
+pub last_seen : (store : Store) (shown rest : List Held) (m : Held) → shown ≡ rest ++ m ∷ [] → history_in store shown ≡ meant store m ∷ history_in store rest
+last_seen store shown rest m e = ap (history_in store) e ∙ seen_after store rest (m ∷ [])
 
 empty : (xs : List Held) → length xs ≡ 0 → xs ≡ []
 empty [] h = refl
 empty (x ∷ xs) h = absurd (cc)
 
-pub none_seen : (store : Store) (shown : List Held) → length shown ≡ 0 → so_far store shown ≡ []
-none_seen store shown h = ap (so_far store) (empty shown h)
+pub none_seen : (store : Store) (shown : List Held) → length shown ≡ 0 → history_in store shown ≡ []
+none_seen store shown h = ap (history_in store) (empty shown h)
 
 pub all_after : (P : Held → Type 0) (xs ys : List Held) → AllByRecursion P (xs ++ ys) → AllByRecursion P xs × AllByRecursion P ys
 all_after P [] ys h = (tt, h)
@@ -53,7 +53,7 @@ both P (x ∷ xs) ys h k = (h.0, both P xs ys h.1 k)
 
 -- ---- the newest segment
 
-pub newest_seen : (store : Store) (shown rest : List Held) (m : Held) → shown ≡ rest ++ m ∷ [] → newest_mark (so_far store shown) ≡ mark_in store m.mark
+pub newest_seen : (store : Store) (shown rest : List Held) (m : Held) → shown ≡ rest ++ m ∷ [] → newest_mark (history_in store shown) ≡ mark_in store m.mark
 newest_seen store shown rest m e = ap newest_mark (last_seen store shown rest m e)
 
 pub newest_decided : (store : Store) (shown rest : List Held) (m : Held) → shown ≡ rest ++ m ∷ [] → AreDecided store shown → IsDecided store m.mark
@@ -70,7 +70,7 @@ last_mark shown rest m e = ap (mark_after None) e ∙ after rest None
 pub no_mark : (shown : List Held) → length shown ≡ 0 → mark_after None shown ≡ None
 no_mark shown h = ap (mark_after None) (empty shown h)
 
-pub newest_ends : (store : Store) (shown rest : List Held) (m : Held) → shown ≡ rest ++ m ∷ [] → newest_end (so_far store shown) ≡ ends_at m.instant m.segment.duration
+pub newest_ends : (store : Store) (shown rest : List Held) (m : Held) → shown ≡ rest ++ m ∷ [] → newest_end (history_in store shown) ≡ ends_at m.instant m.segment.duration
 newest_ends store shown rest m e = ap newest_end (last_seen store shown rest m e)
 
 -- ---- the fresh segments
@@ -110,14 +110,14 @@ pub after_at : (n first place : ℕ) (segments : List Segment) → first ≡ fir
 after_at n first place segments f r h e =
     drop_min ((n + 1) - first_number segments) place segments (omega (arith, e, f, h)) ∙ sym (after_from n (first_number segments) segments r)
 
-pub same_new : (store : Store) (shown rest : List Held) (m : Held) (segments : List Segment) → shown ≡ rest ++ m ∷ [] → filter (is_new (so_far store shown)) segments ≡ filter (is_after m.segment.media_sequence) segments
+pub same_new : (store : Store) (shown rest : List Held) (m : Held) (segments : List Segment) → shown ≡ rest ++ m ∷ [] → filter (is_new (history_in store shown)) segments ≡ filter (is_after m.segment.media_sequence) segments
 same_new store shown rest m segments e = ap (λ (before : List Marked). filter (is_new before) segments) (last_seen store shown rest m e)
 
 every_new : (segments : List Segment) → filter (is_new []) segments ≡ segments
 every_new [] = refl
 every_new (s ∷ later) = ap (λ xs. s ∷ xs) (every_new later)
 
-pub all_new : (store : Store) (shown : List Held) (segments : List Segment) → length shown ≡ 0 → filter (is_new (so_far store shown)) segments ≡ segments
+pub all_new : (store : Store) (shown : List Held) (segments : List Segment) → length shown ≡ 0 → filter (is_new (history_in store shown)) segments ≡ segments
 all_new store shown segments h = ap (λ (before : List Marked). filter (is_new before) segments) (none_seen store shown h) ∙ every_new segments
 
 dropped : (front rest : List Segment) → drop (length front) (front ++ rest) ≡ rest
@@ -140,27 +140,27 @@ tail_whole segments = tail_of segments [] segments refl
 -- ---- the list
 
 module _ (m : Moment) (shown : List Held) (newest entered : Option (List ℕ)) (segments fresh : List Segment) (ended : Option ℤ) (begun : List (Option ℤ)) (marked list : List Held)
-    (mark_is : newest_mark (so_far m.store shown) ≡ mark_in m.store newest) (newest_is : IsDecided m.store newest) (decided : AreDecided m.store shown)
-    (ended_is : ended ≡ newest_end (so_far m.store shown)) (fresh_is : fresh ≡ filter (is_new (so_far m.store shown)) segments) (begun_is : begun ≡ instants_after ended fresh)
+    (mark_is : newest_mark (history_in m.store shown) ≡ mark_in m.store newest) (newest_is : IsDecided m.store newest) (decided : AreDecided m.store shown)
+    (ended_is : ended ≡ newest_end (history_in m.store shown)) (fresh_is : fresh ≡ filter (is_new (history_in m.store shown)) segments) (begun_is : begun ≡ instants_after ended fresh)
     (marked_is : marked ≡ mark_on m newest entered fresh begun) (list_is : list ≡ shown ++ marked) where
-  laid : marked ≡ mark_on m newest entered fresh (instants_after (newest_end (so_far m.store shown)) fresh)
+  laid : marked ≡ mark_on m newest entered fresh (instants_after (newest_end (history_in m.store shown)) fresh)
   laid = marked_is ∙ ap (mark_on m newest entered fresh) (begun_is ∙ ap (λ e. instants_after e fresh) ended_is)
 
-  pub is_listed : so_far m.store list ≡ show_on m (so_far m.store shown) entered (filter (is_new (so_far m.store shown)) segments)
+  pub is_listed : history_in m.store list ≡ show_on m (history_in m.store shown) entered (filter (is_new (history_in m.store shown)) segments)
   is_listed =
-      ap (so_far m.store) list_is ∙ seen_after m.store shown marked
-      ∙ ap (λ held. reverse_aux (map (meant m.store) held) (so_far m.store shown)) laid
-      ∙ (marks_are_shown m newest entered (so_far m.store shown) fresh newest_is mark_is).0
-      ∙ ap (show_on m (so_far m.store shown) entered) fresh_is
+      ap (history_in m.store) list_is ∙ seen_after m.store shown marked
+      ∙ ap (λ held. reverse_aux (map (meant m.store) held) (history_in m.store shown)) laid
+      ∙ (marks_are_shown m newest entered (history_in m.store shown) fresh newest_is mark_is).0
+      ∙ ap (show_on m (history_in m.store shown) entered) fresh_is
 
   pub is_decided : AreDecided m.store list
   is_decided =
       subst (AreDecided m.store) (sym list_is)
       (both (λ (h : Held). IsDecided m.store h.mark) shown marked decided
-      (subst (AreDecided m.store) (sym laid) (marks_are_shown m newest entered (so_far m.store shown) fresh newest_is mark_is).1))
+      (subst (AreDecided m.store) (sym laid) (marks_are_shown m newest entered (history_in m.store shown) fresh newest_is mark_is).1))
 
-  pub is_long : (before length : ℕ) → length ≡ length_after m.store newest before marked → length ≡ length_on m (so_far m.store shown) entered before (filter (is_new (so_far m.store shown)) segments)
+  pub is_long : (before length : ℕ) → length ≡ length_after m.store newest before marked → length ≡ length_on m (history_in m.store shown) entered before (filter (is_new (history_in m.store shown)) segments)
   is_long before length e =
       e ∙ ap (length_after m.store newest before) laid
-      ∙ lengths_are_kept m newest entered (so_far m.store shown) before fresh newest_is mark_is
-      ∙ ap (length_on m (so_far m.store shown) entered before) fresh_is
+      ∙ lengths_are_kept m newest entered (history_in m.store shown) before fresh newest_is mark_is
+      ∙ ap (length_on m (history_in m.store shown) entered before) fresh_is

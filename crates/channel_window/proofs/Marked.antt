@@ -5,21 +5,21 @@ use mathlib.Core.List.{reverse_aux}
 use Rattle.std.proofs.lemmas.Bool.{and_parts, eqb-true}
 use Rattle.playlist_model.specs.declared.Segment.{Segment}
 use Rattle.pod_store.specs.Pods.{Pod}
-use Rattle.pod_store.specs.Marks.{Marked, newest_mark, continues, are_one}
+use Rattle.pod_store.specs.Marks.{Marked, newest_mark, continues, are_one, mark_with, mark_in}
 use Rattle.playlist_model.specs.LookBack.{or_earlier}
 use Rattle.playlist_model.specs.Instants.{begins_at, ends_at, instants_after}
-use Rattle.pod_store.specs.Store.{Entry, Store, has_id, pod_of, pod_for, is_empty}
+use Rattle.pod_store.specs.Store.{Entry, Store, has_id, pod_of, pod_for, has_no_pod}
 use Rattle.break_finder.specs.Breaks.{Break}
 use Rattle.break_finder.specs.Entering as entering
-use Rattle.break_finder.specs.Entering.{is_inside, enters_break, enters_with, id_of}
-use Rattle.stitcher.specs.StitchedSegments.{meant, mark_in, mark_with, IsDecided, AreDecided, KnowsRun, KnowRuns}
+use Rattle.break_finder.specs.Entering.{is_inside, enters_break, enters_with, id_of_break}
+use Rattle.stitcher.specs.StitchedSegments.{meant, IsDecided, AreDecided, KnowsRun, KnowRuns}
 use Rattle.channel_spec.specs.Marking.{Moment, limits, next_mark, newest_end, continued}
 use Rattle.channel_spec.specs.Kept.{marked_on, entered_with, show_on, capped, extended, length_on}
 use Rattle.channel_window.specs.Marking.{is_still_inside, stays, next_id, mark_on, capped_by, capped_in, length_before, length_after}
 use Rattle.break_finder.specs.Entrances.{Entrances, entrances_in, is_within}
 use Rattle.break_finder.specs.declared.spans.TimesWithin.{TimesWithin}
 use Rattle.channel_window.specs.declared.marking.Run.{Run}
-use Rattle.channel_window.specs.Inner.Terms.{IsRun, is_among}
+use Rattle.channel_window.specs.Inner.Terms.{HasItsTerms, is_among}
 use Rattle.channel_window.specs.MarkingLaws.{MarksAreShown, LengthsAreKept}
 use Rattle.stitcher.specs.Making.{is_same_run}
 use Rattle.stitcher.specs.declared.marked.MarkedSegment.{MarkedSegment as Held}
@@ -27,26 +27,18 @@ use Rattle.channel_window.proofs.Placed.{same_run}
 
 -- ---- marks and their IDs
 
-same_pod : (id : List ℕ) (o : Option Pod) → mark_with id o ≡ entering.mark_with id o
-same_pod id None = refl
-same_pod id (Some pod) = refl
-
-same_mark : (store : Store) (o : Option (List ℕ)) → mark_in store o ≡ entering.mark_of store o
-same_mark store None = refl
-same_mark store (Some id) = same_pod id (pod_for store id)
-
 inside_step : (m : Moment) (id : List ℕ) (pod : Pod) (found : Option (List ℕ)) (b : Bool) → pod_for m.store id ≡ Some pod
-    → mark_in m.store (cond b (Some id) found) ≡ or_earlier (cond b (Some (record { id = id; pod = pod })) None) (entering.mark_of m.store found)
+    → mark_in m.store (cond b (Some id) found) ≡ or_earlier (cond b (Some (record { id = id; pod = pod })) None) (mark_in m.store found)
 inside_step m id pod found true e = ap (mark_with id) e
-inside_step m id pod found false e = same_mark m.store found
+inside_step m id pod found false e = refl
 
 stay_step : (m : Moment) (id : List ℕ) (found : Option (List ℕ)) (instant : Option ℤ) (o : Option Pod) → pod_for m.store id ≡ o
-    → mark_in m.store (cond (is_still_inside m id instant o) (Some id) found) ≡ or_earlier (continued m instant (mark_with id o)) (entering.mark_of m.store found)
-stay_step m id found instant None e = same_mark m.store found
+    → mark_in m.store (cond (is_still_inside m id instant o) (Some id) found) ≡ or_earlier (continued m instant (mark_with id o)) (mark_in m.store found)
+stay_step m id found instant None e = refl
 stay_step m id found instant (Some pod) e = inside_step m id pod found (is_inside m.breaks id instant m.tolerance pod) e
 
 marks_agree : (m : Moment) (newest last : Option (List ℕ)) (instant : Option ℤ) → mark_in m.store (next_id m newest last instant) ≡ next_mark m (mark_in m.store newest) last instant
-marks_agree m None last instant = same_mark m.store (entering.entered (limits m last) m.store m.breaks instant)
+marks_agree m None last instant = refl
 marks_agree m (Some id) last instant = stay_step m id (entering.entered (limits m last) m.store m.breaks instant) instant (pod_for m.store id) refl
 
 -- ---- if no break is decided, none is entered
@@ -56,22 +48,22 @@ no_pod [] None h id = refl
 no_pod [] (Some pod) h id = let k : false ≡ true = (and_parts (length {A = Entry} [] == 0) false h).1 in absurd (cc)
 no_pod (e ∷ entries) fallback h id = absurd (omega (arith, eqb-true (length (e ∷ entries)) 0 (and_parts (length (e ∷ entries) == 0) (is_none fallback) h).0))
 
-none_enters : (limits : entering.EntryLimits) (store : Store) (instant : ℤ) (breaks : List Break) → is_empty store ≡ true → find (enters_break limits store instant) breaks ≡ None
+none_enters : (limits : entering.EntryLimits) (store : Store) (instant : ℤ) (breaks : List Break) → has_no_pod store ≡ true → find (enters_break limits store instant) breaks ≡ None
 none_enters limits store instant [] h = refl
 none_enters limits store instant (b ∷ later) h =
     ap (λ o. cond (enters_with limits instant b o) (Some b) (find (enters_break limits store instant) later)) (no_pod store.entries store.fallback h b.id)
     ∙ none_enters limits store instant later h
 
-pub none_entered : (limits : entering.EntryLimits) (store : Store) (breaks : List Break) (instant : Option ℤ) → is_empty store ≡ true → entering.entered limits store breaks instant ≡ None
+pub none_entered : (limits : entering.EntryLimits) (store : Store) (breaks : List Break) (instant : Option ℤ) → has_no_pod store ≡ true → entering.entered limits store breaks instant ≡ None
 none_entered limits store breaks None h = refl
-none_entered limits store breaks (Some instant) h = ap (option_map id_of) (none_enters limits store instant breaks h)
+none_entered limits store breaks (Some instant) h = ap (option_map id_of_break) (none_enters limits store instant breaks h)
 
 pub none_next : (m : Moment) (newest last : Option (List ℕ)) (instant : Option ℤ) → newest ≡ None → entering.entered (limits m last) m.store m.breaks instant ≡ None → next_id m newest last instant ≡ None
 none_next m None last instant e none = none
 none_next m (Some id) last instant e none = absurd (cc)
 
 -- at quiet instants after a segment without a mark
-pub quiet_next : (m : Moment) (run : Run) (instant : Option ℤ) → IsRun m run → run.before ≡ None → is_among run.quiet instant ≡ true → next_id m run.before run.entered instant ≡ None
+pub quiet_next : (m : Moment) (run : Run) (instant : Option ℤ) → HasItsTerms m run → run.before ≡ None → is_among run.quiet instant ≡ true → next_id m run.before run.entered instant ≡ None
 quiet_next m run instant r e h = none_next m run.before run.entered instant e (r.quiet instant h)
 
 -- those around an instant
@@ -98,7 +90,7 @@ some_pod : (m : Moment) (last : Option (List ℕ)) (instant : ℤ) (b : Break) (
 some_pod m last instant b None e = absurd (cc)
 some_pod m last instant b (Some pod) e = refl
 
-found_decided : (m : Moment) (last : Option (List ℕ)) (instant : ℤ) (o : Option Break) → find (enters_break (limits m last) m.store instant) m.breaks ≡ o → IsDecided m.store (option_map id_of o)
+found_decided : (m : Moment) (last : Option (List ℕ)) (instant : ℤ) (o : Option Break) → find (enters_break (limits m last) m.store instant) m.breaks ≡ o → IsDecided m.store (option_map id_of_break o)
 found_decided m last instant None e = tt
 found_decided m last instant (Some b) e = some_pod m last instant b (pod_for m.store b.id) (found_test (enters_break (limits m last) m.store instant) m.breaks b e)
 

@@ -5,7 +5,7 @@ use Rattle.std.specs.List.{list_all, AllByRecursion}
 use Rattle.std.proofs.lemmas.Bool.{and_parts}
 use mathlib.Core.List.{reverse_aux}
 use Rattle.pod_store.specs.Pods.{Pod, Ad, PodSegment}
-use Rattle.pod_store.specs.Marks.{Mark, Marked as Meant}
+use Rattle.pod_store.specs.Marks.{Mark, Marked as Meant, mark_with, mark_in}
 use Rattle.playlist_model.specs.declared.Segment.{Segment}
 use Rattle.channel_spec.specs.declared.heading.Heading.{Heading}
 use Rattle.stitcher.specs.Stitched.{Piece, Numbers, ad_pieces, pieces_of_ads, numbers_from, first_numbers}
@@ -15,9 +15,9 @@ use Rattle.stitcher.specs.declared.ends.Rest.{Rest}
 use Rattle.stitcher.specs.declared.ends.Ends.{Ends}
 use Rattle.stitcher.specs.declared.making.Last.{Last}
 use Rattle.stitcher.specs.Written.{written_item}
-use Rattle.stitcher.specs.StitchedSegments.{mark_in, mark_with, IsDecided, AreDecided, KnowRuns, item_fits, stitched_segments}
+use Rattle.stitcher.specs.StitchedSegments.{IsDecided, AreDecided, KnowRuns, item_fits, stitched_segments}
 use Rattle.stitcher.specs.Making.{pod_with, begun, is_same_run}
-use Rattle.stitcher.specs.Inner.Making.{counted, last_of, numbers_after, begun_with, part_of, part_at, part_due, whole_from, goes_on_to_last, pieces_on, rest_on, pieces_between}
+use Rattle.stitcher.specs.Inner.Making.{counted, last_of, numbers_after, begun_with, pieces_in_part, part_at, part_due, whole_from, goes_on_to_last, pieces_on, pieces_of_rest, pieces_between}
 use Rattle.stitcher.proofs.Parts.{whole_is_part}
 use Rattle.stitcher.proofs.Runs.{in_order, rest_in_order}
 use Rattle.stitcher.proofs.Known.{known_front}
@@ -26,7 +26,7 @@ use Rattle.channel_spec.specs.declared.fault.RefreshFault.{RefreshFault}
 use Rattle.channel_spec.specs.declared.fault.RefreshFault.TheVariants.{NumberRange}
 use Rattle.channel_spec.proofs.Windows.{length-reverse}
 use Rattle.channel_spec.proofs.SoundPods.{kept_is_sound}
-use Rattle.channel_window.specs.Marking.{so_far, place_on}
+use Rattle.channel_window.specs.Marking.{history_in, place_on}
 use Rattle.channel_window.specs.Inner.Placing.{rest_count}
 use Rattle.channel_window.specs.Listed.{RefusesList}
 use Rattle.channel_window.specs.Inner.Listed.{IsFront, first_alone, first_numbers_of, pod_keeps}
@@ -49,15 +49,15 @@ pod_stands : (id : List ℕ) (o : Option Pod) → IsSome o → pod_keeps o ≡ t
 pod_stands id o d h = grind (arith, kept_is_sound, pod_long)
 
 -- what is shown of a pod from its front on is something
-part_some : (whole : Bool) (left : ℕ) (pieces : List Piece) → 0 < length pieces → 0 < length (part_of (record { skip = 0; whole = whole; left = left; done = false }) pieces)
+part_some : (whole : Bool) (left : ℕ) (pieces : List Piece) → 0 < length pieces → 0 < length (pieces_in_part (record { skip = 0; whole = whole; left = left; done = false }) pieces)
 part_some whole left [] h = absurd (omega (arith, h))
 part_some whole left (p ∷ pieces) h = omega arith
 
-due_some : (so_far : Option ℕ) (pieces : List Piece) → 0 < length pieces → 0 < length (part_of (part_due so_far) pieces)
+due_some : (so_far : Option ℕ) (pieces : List Piece) → 0 < length pieces → 0 < length (pieces_in_part (part_due so_far) pieces)
 due_some None pieces h = part_some true 0 pieces h
 due_some (Some length) pieces h = part_some false length pieces h
 
-at_some : (so_far : Option ℕ) (mark : Option (List ℕ)) (later : List MarkedSegment) (pieces : List Piece) → 0 < length pieces → 0 < length (part_of (part_at so_far mark later) pieces)
+at_some : (so_far : Option ℕ) (mark : Option (List ℕ)) (later : List MarkedSegment) (pieces : List Piece) → 0 < length pieces → 0 < length (pieces_in_part (part_at so_far mark later) pieces)
 at_some so_far mark later pieces h = grind (arith, due_some, part_some)
 
 front_some : (store : Store) (ends : Ends) (m : MarkedSegment) (later : List MarkedSegment) (id : List ℕ) → m.mark ≡ Some id → 0 < length (pod_with id (pod_for store id)) → 0 < length (pieces_between store ends (m ∷ later))
@@ -96,7 +96,7 @@ with_mark : (store : Store) (s : Segment) (mark : Option (List ℕ)) → IsDecid
 with_mark store s None h = refl
 with_mark store s (Some id) h = with_pod s id (pod_for store id) h
 
-pub begins : (store : Store) (held : List MarkedSegment) → AreDecided store held → first_numbers (so_far store held) ≡ first_numbers_of held
+pub begins : (store : Store) (held : List MarkedSegment) → AreDecided store held → first_numbers (history_in store held) ≡ first_numbers_of held
 begins store held d = grind (arith, first_of, with_mark)
 
 -- ---- the window
@@ -140,7 +140,7 @@ place_bounded store so_far previous start count (m ∷ front) tail h =
         let a = length-append (begun_with store (whole_from 0) m m.mark) (pieces_on store so_far m.mark (front ++ tail)) in
         omega (arith, anew, a, whole_long store m m.mark)
 
-rest_long : (store : Store) (rest : Option Rest) → length (rest_on store rest) ≡ rest_count store rest
+rest_long : (store : Store) (rest : Option Rest) → length (pieces_of_rest store rest) ≡ rest_count store rest
 rest_long store rest = grind (arith, rest_in_order, length-reverse)
 
 -- the item of each front's last segment is among the items
@@ -154,10 +154,10 @@ front_decided store list front d f = (all_after (λ (m : MarkedSegment). IsDecid
 pub front_known : (list front : List MarkedSegment) → KnowRuns None list → IsFront front list → KnowRuns None front
 front_known list front k f = known_front None front f.0 (subst (KnowRuns None) f.1 k)
 
-pub first_here : (store : Store) (held : List MarkedSegment) (numbers : Numbers) (last : Option Heading) → AreDecided store held → last ≡ None → first_numbers_of held ≡ numbers_on last numbers (so_far store held)
+pub first_here : (store : Store) (held : List MarkedSegment) (numbers : Numbers) (last : Option Heading) → AreDecided store held → last ≡ None → first_numbers_of held ≡ numbers_on last numbers (history_in store held)
 first_here store held numbers last d e = grind (arith, begins)
 
 pub refuses_first : (store : Store) (ends : Ends) (held : List MarkedSegment) (numbers : Numbers) (last : Option Heading) (e : RefreshFault) → AreDecided store held → last ≡ None
     → RefusesList e (list_all item_fits (stitched_segments store (first_numbers_of held) ends held) ≡ false)
-    → RefusesList e (list_all item_fits (stitched_segments store (numbers_on last numbers (so_far store held)) ends held) ≡ false)
+    → RefusesList e (list_all item_fits (stitched_segments store (numbers_on last numbers (history_in store held)) ends held) ≡ false)
 refuses_first store ends held numbers last e d is h = grind (arith, first_here)

@@ -3,11 +3,11 @@ use Rattle.std.proofs.Common.{◌≡◌, ℕ, ◌+◌, Bool, true, false, cond, 
 use Rattle.std.specs.Prelude.{Option, Some, None, IsSome, bytes_eq}
 use mathlib.Core.List.{reverse_aux}
 use Rattle.pod_store.specs.Pods.{Pod}
-use Rattle.pod_store.specs.Marks.{Marked, newest_mark, are_one}
+use Rattle.pod_store.specs.Marks.{Marked, newest_mark, are_one, mark_with, mark_in}
 use Rattle.stitcher.specs.Stitched.{stitched, run_pieces, newest_place}
 use Rattle.pod_store.specs.Store.{Store, pod_for}
 use Rattle.stitcher.specs.declared.marked.MarkedSegment.{MarkedSegment as Held}
-use Rattle.stitcher.specs.StitchedSegments.{meant, mark_in, mark_with, IsDecided, AreDecided}
+use Rattle.stitcher.specs.StitchedSegments.{meant, IsDecided, AreDecided}
 use Rattle.stitcher.specs.Making.{is_same_run, begun, pod_with}
 use Rattle.channel_spec.proofs.Windows.{length-reverse}
 use Rattle.channel_window.specs.Marking.{place_on}

@@ -20,7 +20,7 @@ use Rattle.channel_spec.specs.Sound.{RiseFrom}
 use Rattle.channel_spec.specs.Successor.{first_number}
 use Rattle.channel_spec.proofs.Risen.{FallFrom, are_past}
 use Rattle.channel_window.specs.Checked.{AreContiguous}
-use Rattle.channel_window.specs.Marking.{so_far, mark_on, next_id}
+use Rattle.channel_window.specs.Marking.{history_in, mark_on, next_id}
 use Rattle.channel_window.proofs.Listed.{drop_all, drop_min}
 use Rattle.channel_window.specs.Listed.{AreRising, RiseByOne, RisesOn}
 
@@ -40,7 +40,7 @@ fall_on store n (m ∷ later) before r f =
     let next : FallFrom (n + 1) (meant store m ∷ before) = (ap (λ k. k + 1) r.0, subst (λ k. FallFrom k before) (sym r.0) f) in
     subst (λ k. FallFrom k (reverse_aux (map (meant store) later) (meant store m ∷ before))) (omega arith) (fall_on store (n + 1) later (meant store m ∷ before) r.1 next)
 
-pub falls : (store : Store) (n : ℕ) (list : List Held) → RiseByOne n list → FallFrom (n + length list) (so_far store list)
+pub falls : (store : Store) (n : ℕ) (list : List Held) → RiseByOne n list → FallFrom (n + length list) (history_in store list)
 falls store n list r = fall_on store n list [] r tt
 
 -- ---- where a number begins among those that fall
@@ -78,49 +78,49 @@ up_drop number end (s ∷ before) f = step (nat_lt number s.segment.media_sequen
 
 -- ---- the parts of those that are held
 
-seen_long : (store : Store) (list : List Held) → length (so_far store list) ≡ length list
+seen_long : (store : Store) (list : List Held) → length (history_in store list) ≡ length list
 seen_long store list = length-reverse (map (meant store) list) ∙ length-map list (meant store)
 
 module _ (store : Store) (list : List Held) (k : ℕ) (within : k ≤ length list) where
-  parts : so_far store list ≡ so_far store (drop k list) ++ so_far store (take k list)
+  parts : history_in store list ≡ history_in store (drop k list) ++ history_in store (take k list)
   parts =
-      ap (so_far store) (sym (take-append-drop k list))
+      ap (history_in store) (sym (take-append-drop k list))
       ∙ (ap reverse (map-append (meant store) (take k list) (drop k list)) ∙ reverse-append (map (meant store) (take k list)) (map (meant store) (drop k list)))
 
-  later_long : length (so_far store (drop k list)) ≡ length list - k
+  later_long : length (history_in store (drop k list)) ≡ length list - k
   later_long = seen_long store (drop k list) ∙ length-drop k list
 
-  front_is : so_far store (take k list) ≡ drop (length list - k) (so_far store list)
+  front_is : history_in store (take k list) ≡ drop (length list - k) (history_in store list)
   front_is =
       sym (ap (drop (length list - k)) parts
-      ∙ (ap (λ n. drop n (so_far store (drop k list) ++ so_far store (take k list))) (sym later_long) ∙ drop-append_seam (so_far store (drop k list)) (so_far store (take k list))))
+      ∙ (ap (λ n. drop n (history_in store (drop k list) ++ history_in store (take k list))) (sym later_long) ∙ drop-append_seam (history_in store (drop k list)) (history_in store (take k list))))
 
-  later_is : so_far store (drop k list) ≡ take (length list - k) (so_far store list)
-  later_is = sym (ap (take (length list - k)) parts ∙ take_at (so_far store (drop k list)) (so_far store (take k list)) (length list - k) later_long)
+  later_is : history_in store (drop k list) ≡ take (length list - k) (history_in store list)
+  later_is = sym (ap (take (length list - k)) parts ∙ take_at (history_in store (drop k list)) (history_in store (take k list)) (length list - k) later_long)
 
 -- ---- where a number begins
 
 module _ (store : Store) (list : List Held) (first number : ℕ) (rise : RiseByOne first list) where
-  end_is : FallFrom (first + length list) (so_far store list)
+  end_is : FallFrom (first + length list) (history_in store list)
   end_is = falls store first list rise
 
-  pub gone_at : (place : ℕ) → place ≡ min (number - first) (length list) → so_far store (take place list) ≡ gone_before number (so_far store list)
+  pub gone_at : (place : ℕ) → place ≡ min (number - first) (length list) → history_in store (take place list) ≡ gone_before number (history_in store list)
   gone_at place e =
-      let same : length list - place ≡ min ((first + length list) - number) (length (so_far store list)) = omega (arith, e, seen_long store list) in
+      let same : length list - place ≡ min ((first + length list) - number) (length (history_in store list)) = omega (arith, e, seen_long store list) in
       front_is store list place (omega (arith, e))
-      ∙ (ap (λ n. drop n (so_far store list)) same ∙ (sym (drop_less ((first + length list) - number) (so_far store list)) ∙ sym (gone_drop number (first + length list) (so_far store list) end_is)))
+      ∙ (ap (λ n. drop n (history_in store list)) same ∙ (sym (drop_less ((first + length list) - number) (history_in store list)) ∙ sym (gone_drop number (first + length list) (history_in store list) end_is)))
 
-  pub shown_at : (place : ℕ) → place ≡ min (number - first) (length list) → so_far store (drop place list) ≡ shown_from number (so_far store list)
+  pub shown_at : (place : ℕ) → place ≡ min (number - first) (length list) → history_in store (drop place list) ≡ shown_from number (history_in store list)
   shown_at place e =
-      let same : length list - place ≡ min ((first + length list) - number) (length (so_far store list)) = omega (arith, e, seen_long store list) in
+      let same : length list - place ≡ min ((first + length list) - number) (length (history_in store list)) = omega (arith, e, seen_long store list) in
       later_is store list place (omega (arith, e))
-      ∙ (ap (λ n. take n (so_far store list)) same ∙ (sym (take_less ((first + length list) - number) (so_far store list)) ∙ sym (shown_take number (first + length list) (so_far store list) end_is)))
+      ∙ (ap (λ n. take n (history_in store list)) same ∙ (sym (take_less ((first + length list) - number) (history_in store list)) ∙ sym (shown_take number (first + length list) (history_in store list) end_is)))
 
-  pub up_at : (place : ℕ) → place ≡ min ((number + 1) - first) (length list) → so_far store (take place list) ≡ up_to number (so_far store list)
+  pub up_at : (place : ℕ) → place ≡ min ((number + 1) - first) (length list) → history_in store (take place list) ≡ up_to number (history_in store list)
   up_at place e =
-      let same : length list - place ≡ min ((first + length list) - (number + 1)) (length (so_far store list)) = omega (arith, e, seen_long store list) in
+      let same : length list - place ≡ min ((first + length list) - (number + 1)) (length (history_in store list)) = omega (arith, e, seen_long store list) in
       front_is store list place (omega (arith, e))
-      ∙ (ap (λ n. drop n (so_far store list)) same ∙ (sym (drop_less ((first + length list) - (number + 1)) (so_far store list)) ∙ sym (up_drop number (first + length list) (so_far store list) end_is)))
+      ∙ (ap (λ n. drop n (history_in store list)) same ∙ (sym (drop_less ((first + length list) - (number + 1)) (history_in store list)) ∙ sym (up_drop number (first + length list) (history_in store list) end_is)))
 
 -- ---- those that are shown after others
 
@@ -146,12 +146,12 @@ rise_fresh end (s ∷ before) segments f anew near r =
 
 -- a playlist's new segments go on those that are shown
 pub rises_on : (m : Moment) (shown : List Held) (newest last : Option (List ℕ)) (segments fresh : List Segment) (instants : List (Option ℤ)) (marked list : List Held) → RisesOn shown segments → AreContiguous segments
-    → fresh ≡ filter (is_new (so_far m.store shown)) segments → marked ≡ mark_on m newest last fresh instants → list ≡ shown ++ marked → AreRising list
+    → fresh ≡ filter (is_new (history_in m.store shown)) segments → marked ≡ mark_on m newest last fresh instants → list ≡ shown ++ marked → AreRising list
 rises_on m shown newest last segments fresh instants marked list h r fresh_is marked_is list_is =
     let end = h.first + length shown in
     let fresh_rise : RiseFrom end fresh =
     subst (RiseFrom end) (sym fresh_is)
-    (rise_fresh end (so_far m.store shown) segments (falls m.store h.first shown h.rise) (λ e. h.anew (omega (arith, e, seen_long m.store shown))) h.near r) in
+    (rise_fresh end (history_in m.store shown) segments (falls m.store h.first shown h.rise) (λ e. h.anew (omega (arith, e, seen_long m.store shown))) h.near r) in
     let marked_rise : RiseByOne end marked = subst (RiseByOne end) (sym marked_is) (rise_marked m end newest last fresh instants fresh_rise) in
     (h.first, subst (RiseByOne h.first) (sym list_is) (rise_joined h.first shown marked h.rise marked_rise))
 

@@ -8,20 +8,20 @@ use Rattle.playlist_model.specs.declared.Segment.{Segment}
 use Rattle.playlist_model.specs.Instants.{instants_after}
 use Rattle.break_finder.specs.Breaks.{Break}
 use Rattle.pod_store.specs.Pods.{Pod}
-use Rattle.pod_store.specs.Marks.{Mark, Marked, newest_mark}
+use Rattle.pod_store.specs.Marks.{Mark, Marked, newest_mark, mark_with, mark_in}
 use Rattle.pod_store.specs.Store.{Store, pod_for}
 use Rattle.stitcher.specs.declared.marked.MarkedSegment.{MarkedSegment as Held}
-use Rattle.stitcher.specs.StitchedSegments.{meant, mark_in, mark_with, IsDecided, AreDecided, KnowRuns}
+use Rattle.stitcher.specs.StitchedSegments.{meant, IsDecided, AreDecided, KnowRuns}
 use Rattle.stitcher.specs.Inner.Making.{mark_after}
 use Rattle.stitcher.proofs.Known.{known_on}
 use Rattle.break_finder.specs.Known.{is_this, carry}
 use Rattle.channel_spec.specs.Successor.{has_init_sections}
 use Rattle.channel_spec.specs.Marking.{Moment, mark_id, last_mark, last_entered, is_new, newest_end}
-use Rattle.channel_spec.specs.Live.{is_marked}
+use Rattle.channel_spec.specs.Live.{is_mark_of}
 use Rattle.channel_spec.specs.Kept.{show_on, length_on, kept_acceptance}
 use Rattle.channel_window.specs.declared.state.ChannelState.{ChannelState}
 use Rattle.channel_window.specs.declared.showing.Showing.{Showing}
-use Rattle.channel_window.specs.Marking.{so_far, mark_on, length_after}
+use Rattle.channel_window.specs.Marking.{history_in, mark_on, length_after}
 use Rattle.channel_window.specs.Inner.Terms.{entered_after}
 use Rattle.channel_window.specs.Checked.{AreContiguous}
 use Rattle.channel_window.specs.Listed.{RisesOn}
@@ -40,7 +40,7 @@ mark_named : (store : Store) (o : Option (List ℕ)) → IsDecided store o → o
 mark_named store None h = refl
 mark_named store (Some id) h = pod_marks id (pod_for store id) h
 
-pub marked_too : (store : Store) (id : List ℕ) (o : Option (List ℕ)) → IsDecided store o → is_marked id (mark_in store o) ≡ is_this id o
+pub marked_too : (store : Store) (id : List ℕ) (o : Option (List ℕ)) → IsDecided store o → is_mark_of id (mark_in store o) ≡ is_this id o
 marked_too store id o d = ap (is_this id) (mark_named store o d)
 
 -- ---- the last break entered
@@ -62,9 +62,9 @@ last_onto store (m ∷ later) before last e d h =
 -- the known breaks, and the segments that were shown with the new ones, if the shown segments are handed on as a list
 module _ (tolerance : ℕ) (state : ChannelState) (p : Playlist) (shown : List Held) (newest : Option (List ℕ)) (fresh : List Segment) (ended : Option ℤ) (begun : List (Option ℤ)) (marked : List Held) (a : Showing)
     (before : AreDecided state.store state.list) (last_is : IsLastEntered (kept_in state)) (same : shown ≡ state.list)
-    (mark_is : newest_mark (so_far state.store shown) ≡ mark_in state.store newest) (newest_is : AreDecided state.store shown → IsDecided state.store newest)
-    (breaks_are : a.knowledge ≡ carry (record { playlist = p; carried = newest }) state.shown.knowledge) (fresh_is : fresh ≡ filter (is_new (so_far state.store shown)) p.segments)
-    (ended_is : ended ≡ newest_end (so_far state.store shown)) (begun_is : begun ≡ instants_after ended fresh)
+    (mark_is : newest_mark (history_in state.store shown) ≡ mark_in state.store newest) (newest_is : AreDecided state.store shown → IsDecided state.store newest)
+    (breaks_are : a.knowledge ≡ carry (record { playlist = p; carried = newest }) state.shown.knowledge) (fresh_is : fresh ≡ filter (is_new (history_in state.store shown)) p.segments)
+    (ended_is : ended ≡ newest_end (history_in state.store shown)) (begun_is : begun ≡ instants_after ended fresh)
     (marked_is : marked ≡ mark_on (record { tolerance = tolerance; target_duration = p.target_duration; with_init_sections = has_init_sections p.segments; breaks = a.knowledge; store = state.store }) newest state.shown.entered fresh begun)
     (held : List Held) (list_is : held ≡ shown ++ marked) (contiguous : AreContiguous p.segments) (rises : RisesOn state.list p.segments) (entered_is : a.entered ≡ entered_after state.shown.entered marked)
     (known : KnowRuns None state.list) (newest_last : newest ≡ mark_after None shown) where
@@ -84,7 +84,7 @@ module _ (tolerance : ℕ) (state : ChannelState) (p : Playlist) (shown : List H
   breaks_kept =
       breaks_are
       ∙ ap (λ o. carry (record { playlist = p; carried = o }) state.shown.knowledge)
-      (sym (ap (λ (xs : List Held). option_map mark_id (newest_mark (so_far store xs))) (sym same) ∙ ap (option_map mark_id) mark_is ∙ mark_named store newest (newest_is decided)))
+      (sym (ap (λ (xs : List Held). option_map mark_id (newest_mark (history_in store xs))) (sym same) ∙ ap (option_map mark_id) mark_is ∙ mark_named store newest (newest_is decided)))
 
   marked_know : KnowRuns (mark_after None shown) marked
   marked_know =
@@ -94,28 +94,28 @@ module _ (tolerance : ℕ) (state : ChannelState) (p : Playlist) (shown : List H
   list_decided : AreDecided store held
   list_decided = is_decided (moment a.knowledge) shown newest state.shown.entered p.segments fresh ended begun marked held mark_is (newest_is decided) decided ended_is fresh_is begun_is marked_is list_is
 
-  last_entered_is : a.entered ≡ or_earlier (last_entered (so_far store held)) state.shown.entered
+  last_entered_is : a.entered ≡ or_earlier (last_entered (history_in store held)) state.shown.entered
   last_entered_is =
-      let before_is : or_earlier (last_entered (so_far store shown)) state.shown.entered ≡ state.shown.entered =
-      ap (λ (xs : List Held). or_earlier (last_entered (so_far store xs)) state.shown.entered) same ∙ last_is in
+      let before_is : or_earlier (last_entered (history_in store shown)) state.shown.entered ≡ state.shown.entered =
+      ap (λ (xs : List Held). or_earlier (last_entered (history_in store xs)) state.shown.entered) same ∙ last_is in
       let marked_decided = (all_after (λ (h : Held). IsDecided store h.mark) shown marked (subst (AreDecided store) list_is list_decided)).1 in
       entered_is
-      ∙ sym (ap (λ (seen : List Marked). or_earlier (last_entered seen) state.shown.entered) (ap (so_far store) list_is ∙ seen_after store shown marked)
-      ∙ last_onto store marked (so_far store shown) state.shown.entered state.shown.entered marked_decided before_is)
+      ∙ sym (ap (λ (seen : List Marked). or_earlier (last_entered seen) state.shown.entered) (ap (history_in store) list_is ∙ seen_after store shown marked)
+      ∙ last_onto store marked (history_in store shown) state.shown.entered state.shown.entered marked_decided before_is)
 
   pub shown_is : (a.fresh ≡ length fresh) → a.so_far ≡ length_after store newest state.shown.so_far marked → IsShown tolerance state p held a
   shown_is count long = record {
     breaks = breaks_kept;
     list =
         is_listed (moment a.knowledge) shown newest state.shown.entered p.segments fresh ended begun marked held mark_is (newest_is decided) decided ended_is fresh_is begun_is marked_is list_is
-        ∙ (ap (λ (xs : List Held). show_on (moment a.knowledge) (so_far store xs) state.shown.entered (filter (is_new (so_far store xs)) p.segments)) same
-        ∙ ap (λ b. show_on (moment b) (so_far store state.list) state.shown.entered (filter (is_new (so_far store state.list)) p.segments)) breaks_kept);
-    fresh = count ∙ (ap length fresh_is ∙ ap (λ (xs : List Held). length (filter (is_new (so_far store xs)) p.segments)) same);
+        ∙ (ap (λ (xs : List Held). show_on (moment a.knowledge) (history_in store xs) state.shown.entered (filter (is_new (history_in store xs)) p.segments)) same
+        ∙ ap (λ b. show_on (moment b) (history_in store state.list) state.shown.entered (filter (is_new (history_in store state.list)) p.segments)) breaks_kept);
+    fresh = count ∙ (ap length fresh_is ∙ ap (λ (xs : List Held). length (filter (is_new (history_in store xs)) p.segments)) same);
     entered = last_entered_is;
     length =
         is_long (moment a.knowledge) shown newest state.shown.entered p.segments fresh ended begun marked held mark_is (newest_is decided) decided ended_is fresh_is begun_is marked_is list_is state.shown.so_far a.so_far long
-        ∙ (ap (λ (xs : List Held). length_on (moment a.knowledge) (so_far store xs) state.shown.entered state.shown.so_far (filter (is_new (so_far store xs)) p.segments)) same
-        ∙ ap (λ b. length_on (moment b) (so_far store state.list) state.shown.entered state.shown.so_far (filter (is_new (so_far store state.list)) p.segments)) breaks_kept);
+        ∙ (ap (λ (xs : List Held). length_on (moment a.knowledge) (history_in store xs) state.shown.entered state.shown.so_far (filter (is_new (history_in store xs)) p.segments)) same
+        ∙ ap (λ b. length_on (moment b) (history_in store state.list) state.shown.entered state.shown.so_far (filter (is_new (history_in store state.list)) p.segments)) breaks_kept);
     decided = list_decided;
     runs = subst (KnowRuns None) (sym list_is) (known_on None shown marked (subst (KnowRuns None) (sym same) known) marked_know);
     rising = rises_on (moment a.knowledge) shown newest state.shown.entered p.segments fresh begun marked held shown_rises contiguous fresh_is marked_is list_is;
@@ -123,5 +123,5 @@ module _ (tolerance : ℕ) (state : ChannelState) (p : Playlist) (shown : List H
 
 -- the newest mark, if any, is that of the last break entered
 pub newest_entered : (state : ChannelState) (shown : List Held) (newest : Option (List ℕ)) → shown ≡ state.list → AreDecided state.store state.list → IsLastEntered (kept_in state)
-    → newest_mark (so_far state.store shown) ≡ mark_in state.store newest → (AreDecided state.store shown → IsDecided state.store newest) → or_earlier newest state.shown.entered ≡ state.shown.entered
+    → newest_mark (history_in state.store shown) ≡ mark_in state.store newest → (AreDecided state.store shown → IsDecided state.store newest) → or_earlier newest state.shown.entered ≡ state.shown.entered
 newest_entered state shown newest same d last mark_is newest_is = grind arith

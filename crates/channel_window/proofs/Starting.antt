@@ -7,27 +7,27 @@ use Rattle.std.specs.List.{list_all}
 use Rattle.std.proofs.lemmas.Bool.{eq-eqb}
 use Rattle.playlist_model.specs.declared.Playlist.{Playlist}
 use Rattle.channel_spec.specs.declared.heading.Heading.{Heading}
-use Rattle.pod_store.specs.Marks.{Mark, Marked, newest_mark}
-use Rattle.stitcher.specs.Stitched.{Numbers, Item, fits, numbered, newest_place, up_to, from_place}
-use Rattle.stitcher.specs.Paced.{Rest as MeantRest, Ends as MeantEnds, rest_pieces, stitched_with}
+use Rattle.pod_store.specs.Marks.{Mark, Marked, newest_mark, mark_with, mark_in}
+use Rattle.stitcher.specs.Stitched.{Numbers, Item, can_be_numbered, numbered, newest_place, up_to, from_place}
+use Rattle.stitcher.specs.Paced.{MeantRest, MeantEnds, rest_pieces, stitched_with}
 use Rattle.pod_store.specs.Store.{Store, pod_for}
 use Rattle.stitcher.specs.declared.marked.MarkedSegment.{MarkedSegment as Held}
 use Rattle.stitcher.specs.declared.OutSegment.{OutSegment}
 use Rattle.stitcher.specs.declared.ends.Ends.{Ends}
 use Rattle.stitcher.specs.Written.{written_item}
-use Rattle.stitcher.specs.StitchedSegments.{mark_in, mark_with, rest_from, rest_in, ends_in, item_fits, stitched_segments, AreDecided}
+use Rattle.stitcher.specs.StitchedSegments.{rest_from, rest_in, ends_in, item_fits, stitched_segments, AreDecided}
 use Rattle.channel_spec.specs.Successor.{first_number}
-use Rattle.channel_spec.specs.Live.{place_of, gone_before, rest_over}
-use Rattle.channel_spec.specs.Kept.{items_on, listed, numbers_on, start_on, rest_on, window_on}
+use Rattle.channel_spec.specs.Live.{item_place, gone_before, rest_over}
+use Rattle.channel_spec.specs.Kept.{items_on, listed, numbers_on, start_on, next_rest, window_on}
 use Rattle.channel_spec.specs.Inner.Kept.{ends_of}
 use Rattle.channel_spec.specs.LastWindow.{last_pieces}
 use Rattle.channel_spec.proofs.EndsLaws.{between_ends}
 use Rattle.channel_window.specs.declared.state.ChannelState.{ChannelState}
-use Rattle.channel_window.specs.Marking.{so_far, place_on}
+use Rattle.channel_window.specs.Marking.{history_in, place_on}
 use Rattle.channel_window.specs.Listed.{RefusesList}
 use Rattle.channel_window.specs.Inner.Listed.{IsFront}
 use Rattle.channel_window.specs.Inner.Placing.{rest_count}
-use Rattle.channel_window.specs.Inner.Placing.{HasRoom, rest_of}
+use Rattle.channel_window.specs.Inner.Placing.{HasRoom, rest_of_newest_run}
 use Rattle.channel_window.specs.Showing.{kept_in}
 use Rattle.channel_window.proofs.Listed.{newest_seen}
 use Rattle.channel_window.proofs.Placed.{place_is_counted}
@@ -36,63 +36,63 @@ use Rattle.channel_window.proofs.Rest.{window_is_stitched, number_range_is_stitc
 
 -- ---- where the item of a number stands
 
-pub place_found : (store : Store) (number place : ℕ) (list front : List Held) → AreDecided store list → IsFront front list → so_far store front ≡ up_to number (so_far store list) → place ≡ place_on store None 0 0 front
-    → place_of number (so_far store list) ≡ place
+pub place_found : (store : Store) (number place : ℕ) (list front : List Held) → AreDecided store list → IsFront front list → history_in store front ≡ up_to number (history_in store list) → place ≡ place_on store None 0 0 front
+    → item_place number (history_in store list) ≡ place
 place_found store number place list front d f seen is = grind (arith, place_is_counted, front_decided)
 
 -- ---- where the next one starts
 
 module _ (state : ChannelState) (number : ℕ) (list : List Held) where
-  pub start_first : (place : ℕ) → place ≡ place_of number (so_far state.store list) → state.last ≡ None → place ≡ start_on state.last number (kept_in state) (so_far state.store list)
-  start_first place is e = is ∙ sym (ap (λ o. start_on o number (kept_in state) (so_far state.store list)) e)
+  pub start_first : (place : ℕ) → place ≡ item_place number (history_in state.store list) → state.last ≡ None → place ≡ start_on state.last number (kept_in state) (history_in state.store list)
+  start_first place is e = is ∙ sym (ap (λ o. start_on o number (kept_in state) (history_in state.store list)) e)
 
   pub start_later : (last : Heading) (stood start : ℕ) → state.last ≡ Some last → (number == first_number (listed (kept_in state).shown)) ≡ false → stood ≡ length (last_pieces state.last (kept_in state))
-      → start ≡ min (place_of number (so_far state.store list) + rest_count state.store state.shown.rest) stood → start ≡ start_on state.last number (kept_in state) (so_far state.store list)
+      → start ≡ min (item_place number (history_in state.store list) + rest_count state.store state.shown.rest) stood → start ≡ start_on state.last number (kept_in state) (history_in state.store list)
   start_later last stood start e other s is =
-      let here = place_of number (so_far state.store list) + rest_count state.store state.shown.rest in
+      let here = item_place number (history_in state.store list) + rest_count state.store state.shown.rest in
       let old = length (last_pieces (Some last) (kept_in state)) in
       is ∙ ap (min here) (s ∙ ap (λ o. length (last_pieces o (kept_in state))) e)
-      ∙ sym (ap (λ o. start_on o number (kept_in state) (so_far state.store list)) e ∙ ap (λ t. cond t 0 (min here old)) other)
+      ∙ sym (ap (λ o. start_on o number (kept_in state) (history_in state.store list)) e ∙ ap (λ t. cond t 0 (min here old)) other)
 
-  pub start_same : (last : Heading) → state.last ≡ Some last → number ≡ first_number (listed (kept_in state).shown) → 0 ≡ start_on state.last number (kept_in state) (so_far state.store list)
+  pub start_same : (last : Heading) → state.last ≡ Some last → number ≡ first_number (listed (kept_in state).shown) → 0 ≡ start_on state.last number (kept_in state) (history_in state.store list)
   start_same last e same =
-      let here = place_of number (so_far state.store list) + rest_count state.store state.shown.rest in
+      let here = item_place number (history_in state.store list) + rest_count state.store state.shown.rest in
       let old = length (last_pieces (Some last) (kept_in state)) in
-      sym (ap (λ o. start_on o number (kept_in state) (so_far state.store list)) e ∙ ap (λ t. cond t 0 (min here old)) (eq-eqb number (first_number (listed (kept_in state).shown)) same))
+      sym (ap (λ o. start_on o number (kept_in state) (history_in state.store list)) e ∙ ap (λ t. cond t 0 (min here old)) (eq-eqb number (first_number (listed (kept_in state).shown)) same))
 
   pub rest_later : (last : Heading) (start : ℕ) → state.last ≡ Some last → (number == first_number (listed (kept_in state).shown)) ≡ false
-      → rest_over (rest_count state.store state.shown.rest) start number (so_far state.store list) ≡ rest_on state.last (first_number (listed (kept_in state).shown)) number start (so_far state.store list) (rest_in state.store state.shown.rest)
+      → rest_over (rest_count state.store state.shown.rest) start number (history_in state.store list) ≡ next_rest state.last (first_number (listed (kept_in state).shown)) number start (history_in state.store list) (rest_in state.store state.shown.rest)
   rest_later last start e other =
-      sym (ap (λ o. rest_on o (first_number (listed (kept_in state).shown)) number start (so_far state.store list) (rest_in state.store state.shown.rest)) e
-      ∙ ap (λ t. cond t (rest_in state.store state.shown.rest) (rest_over (rest_count state.store state.shown.rest) start number (so_far state.store list))) other)
+      sym (ap (λ o. next_rest o (first_number (listed (kept_in state).shown)) number start (history_in state.store list) (rest_in state.store state.shown.rest)) e
+      ∙ ap (λ t. cond t (rest_in state.store state.shown.rest) (rest_over (rest_count state.store state.shown.rest) start number (history_in state.store list))) other)
 
-  pub rest_same : (last : Heading) (start : ℕ) → state.last ≡ Some last → number ≡ first_number (listed (kept_in state).shown) → rest_in state.store state.shown.rest ≡ rest_on state.last (first_number (listed (kept_in state).shown)) number start (so_far state.store list) (rest_in state.store state.shown.rest)
+  pub rest_same : (last : Heading) (start : ℕ) → state.last ≡ Some last → number ≡ first_number (listed (kept_in state).shown) → rest_in state.store state.shown.rest ≡ next_rest state.last (first_number (listed (kept_in state).shown)) number start (history_in state.store list) (rest_in state.store state.shown.rest)
   rest_same last start e same =
-      sym (ap (λ o. rest_on o (first_number (listed (kept_in state).shown)) number start (so_far state.store list) (rest_in state.store state.shown.rest)) e
-      ∙ ap (λ t. cond t (rest_in state.store state.shown.rest) (rest_over (rest_count state.store state.shown.rest) start number (so_far state.store list))) (eq-eqb number (first_number (listed (kept_in state).shown)) same))
+      sym (ap (λ o. next_rest o (first_number (listed (kept_in state).shown)) number start (history_in state.store list) (rest_in state.store state.shown.rest)) e
+      ∙ ap (λ t. cond t (rest_in state.store state.shown.rest) (rest_over (rest_count state.store state.shown.rest) start number (history_in state.store list))) (eq-eqb number (first_number (listed (kept_in state).shown)) same))
 
 pub not_equal : (a b : ℕ) → (a ≡ b → ⊥) → (a == b) ≡ false
 not_equal a b h = grind arith
 
 -- ---- the rest that it starts with
 
-pub rest_none : (before start number : ℕ) (seen : List Marked) → place_of number seen + before ≤ start → None ≡ rest_over before start number seen
+pub rest_none : (before start number : ℕ) (seen : List Marked) → item_place number seen + before ≤ start → None ≡ rest_over before start number seen
 rest_none before start number seen h = grind arith
 
-pub rest_lower : (before start number : ℕ) (seen : List Marked) → start < place_of number seen + before → rest_of before start (gone_before number seen) ≡ rest_over before start number seen
+pub rest_lower : (before start number : ℕ) (seen : List Marked) → start < item_place number seen + before → rest_of_newest_run before start (gone_before number seen) ≡ rest_over before start number seen
 rest_lower before start number seen h = grind arith
 
 pub rest_some : (store : Store) (start before behind from : ℕ) (gone rest : List Held) (m : Held) (id copy : List ℕ) → AreDecided store gone → gone ≡ rest ++ m ∷ [] → m.mark ≡ Some id → copy ≡ id
-    → behind ≡ place_on store None 0 0 gone → from ≡ start - (behind + before) → option_map (rest_from from) (mark_with copy (pod_for store copy)) ≡ rest_of before start (so_far store gone)
+    → behind ≡ place_on store None 0 0 gone → from ≡ start - (behind + before) → option_map (rest_from from) (mark_with copy (pod_for store copy)) ≡ rest_of_newest_run before start (history_in store gone)
 rest_some store start before behind from gone rest m id copy d cut is same counted is_from =
-    let at : newest_place (so_far store gone) ≡ behind = place_is_counted store gone d ∙ sym counted in
-    let place_is : from ≡ start - (newest_place (so_far store gone) + before) = omega (arith, is_from, at) in
-    let mark : mark_with copy (pod_for store copy) ≡ newest_mark (so_far store gone) = ap (λ i. mark_in store (Some i)) same ∙ (ap (mark_in store) (sym is) ∙ sym (newest_seen store gone rest m cut)) in
+    let at : newest_place (history_in store gone) ≡ behind = place_is_counted store gone d ∙ sym counted in
+    let place_is : from ≡ start - (newest_place (history_in store gone) + before) = omega (arith, is_from, at) in
+    let mark : mark_with copy (pod_for store copy) ≡ newest_mark (history_in store gone) = ap (λ i. mark_in store (Some i)) same ∙ (ap (mark_in store) (sym is) ∙ sym (newest_seen store gone rest m cut)) in
     let there : ℕ → Mark → MeantRest = λ k mark. record { mark = mark; place = k } in
     ap (λ k. option_map (there k) (mark_with copy (pod_for store copy))) place_is
-    ∙ ap (option_map (there (start - (newest_place (so_far store gone) + before)))) mark
+    ∙ ap (option_map (there (start - (newest_place (history_in store gone) + before)))) mark
 
-pub no_rest : (store : Store) (start before : ℕ) (gone : List Held) → newest_mark (so_far store gone) ≡ None → None ≡ rest_of before start (so_far store gone)
+pub no_rest : (store : Store) (start before : ℕ) (gone : List Held) → newest_mark (history_in store gone) ≡ None → None ≡ rest_of_newest_run before start (history_in store gone)
 no_rest store start before gone e = grind arith
 
 -- ---- the window
@@ -102,17 +102,17 @@ pub handed_on : {A : Type 0} (r : Result A RefreshFault) (e : RefreshFault) {P Q
 handed_on k e h p f = grind arith
 
 module _ (state : ChannelState) (p : Playlist) (list : List Held) (n : ℕ) (ends : Ends) (first : Numbers) (decided : AreDecided state.store list)
-    (ends_are : ends_in state.store ends ≡ ends_of p.end_list n (rest_in state.store state.shown.rest)) (first_is : first ≡ numbers_on state.last state.shown.numbers (so_far state.store list)) where
+    (ends_are : ends_in state.store ends ≡ ends_of p.end_list n (rest_in state.store state.shown.rest)) (first_is : first ≡ numbers_on state.last state.shown.numbers (history_in state.store list)) where
   abbrev seen : List Marked
-  seen = so_far state.store list
+  seen = history_in state.store list
 
   items_are : numbered first (stitched_with (ends_in state.store ends) seen) ≡ items_on (kept_in state) p seen n
   items_are =
       ap (λ (f : Numbers). numbered f (stitched_with (ends_in state.store ends) seen)) first_is
       ∙ ap (numbered (numbers_on state.last state.shown.numbers seen)) (ap (λ (e : MeantEnds). stitched_with e seen) ends_are ∙ sym (between_ends p.end_list n seen (rest_in state.store state.shown.rest)))
 
-  pub fit_is : list_all item_fits (stitched_segments state.store first ends list) ≡ list_all fits (items_on (kept_in state) p seen n)
-  fit_is = number_range_is_stitched state.store first ends list ∙ ap (list_all fits) items_are
+  pub fit_is : list_all item_fits (stitched_segments state.store first ends list) ≡ list_all can_be_numbered (items_on (kept_in state) p seen n)
+  fit_is = number_range_is_stitched state.store first ends list ∙ ap (list_all can_be_numbered) items_are
 
   pub whole_is : (items : List OutSegment) → items ≡ stitched_segments state.store first ends list → items ≡ map written_item (reverse (items_on (kept_in state) p seen n))
   whole_is items items_is = items_is ∙ ap (λ (xs : List Item). map written_item (reverse xs)) items_are

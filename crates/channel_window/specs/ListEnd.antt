@@ -9,7 +9,7 @@ use Rattle.stitcher.specs.declared.marked.MarkedSegment.{MarkedSegment as Held}
 use Rattle.channel_spec.specs.declared.heading.Heading.{Heading}
 use Rattle.channel_spec.specs.Kept.{Kept}
 use Rattle.channel_spec.specs.LastWindow.{last_items}
-use Rattle.channel_window.specs.Marking.{so_far}
+use Rattle.channel_window.specs.Marking.{history_in}
 use Rattle.channel_window.specs.Listed.{head_of}
 use Rattle.channel_window.specs.declared.state.Ending.{Ending}
 
@@ -38,20 +38,20 @@ IsEndingOf shown ended lasted window (Some e) = IsEnding shown ended lasted wind
 
 -- a run begins with the segment at this place
 abbrev pub BeginsAt : Store → ℕ → List Held → Type 0
-BeginsAt store place list = begins_run (so_far store (drop place list)) (so_far store (take place list)) ≡ true
+BeginsAt store place list = begins_run (history_in store (drop place list)) (history_in store (take place list)) ≡ true
 
 -- the last of these segments, with whose first a run begins, and the items that stand for them, as these items end with them
 pub record IsEndOf (store : Store) (ended : Bool) (lasted : ℕ) (list : List Held) (items : List OutSegment) (e : Ending) : Type 0 where
   pub within : e.segments ≤ length list
   pub begins : BeginsAt store (length list - e.segments) list
-  pub items_are : e.items ≡ length (due_with ended lasted (so_far store (drop (length list - e.segments) list)))
+  pub items_are : e.items ≡ length (due_with ended lasted (history_in store (drop (length list - e.segments) list)))
   pub some : 0 < e.items
   pub inside : e.items ≤ length items
   pub numbers : e.numbers ≡ head_of (drop (length items - e.items) items)
 
-abbrev pub has_ended : Option Heading → Bool
-has_ended None = false
-has_ended (Some last) = last.end_list
+abbrev pub heading_has_ended : Option Heading → Bool
+heading_has_ended None = false
+heading_has_ended (Some last) = last.end_list
 
 -- the window that was written last
 abbrev pub last_window : Kept → List OutSegment
@@ -59,4 +59,4 @@ last_window kept = map written_item (reverse (last_items kept))
 
 -- the end of the list that was written last
 abbrev pub IsLastEnding : Kept → Option Ending → Type 0
-IsLastEnding kept ending = IsEndingOf kept.shown (has_ended kept.last) kept.so_far (last_window kept) ending
+IsLastEnding kept ending = IsEndingOf kept.shown (heading_has_ended kept.last) kept.so_far (last_window kept) ending

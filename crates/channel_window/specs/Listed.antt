@@ -16,8 +16,8 @@ abbrev pub IsRestDecided : Store → Option Rest → Type 0
 IsRestDecided store None = Unit {0}
 IsRestDecided store (Some rest) = IsDecided store (Some rest.id)
 
-abbrev pub states_time : OutSegment → Bool
-states_time out = is_some out.program_date_time
+abbrev pub writes_time : OutSegment → Bool
+writes_time out = is_some out.program_date_time
 
 -- the numbers of the first of these
 abbrev pub head_of : List OutSegment → Numbers

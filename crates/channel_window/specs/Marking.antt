@@ -13,8 +13,8 @@ use Rattle.stitcher.specs.Making.{is_same_run, begun}
 use Rattle.channel_spec.specs.Marking.{Moment, limits}
 
 -- these segments as they are meant, the newest first
-abbrev pub so_far : Store → List Held → List Marked
-so_far store held = reverse (map (meant store) held)
+abbrev pub history_in : Store → List Held → List Marked
+history_in store held = reverse (map (meant store) held)
 
 abbrev pub is_still_inside : Moment → List ℕ → Option ℤ → Option Pod → Bool
 is_still_inside m id instant None = false

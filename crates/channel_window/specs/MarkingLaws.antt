@@ -1,12 +1,12 @@
 -- What holds of the new segments of a refresh, and of the place of the window.
 use Rattle.std.specs.Prelude.{◌≡◌, ℕ, List, map, reverse, Option, None}
 use Rattle.playlist_model.specs.declared.Segment.{Segment}
-use Rattle.pod_store.specs.Marks.{Marked, newest_mark}
+use Rattle.pod_store.specs.Marks.{Marked, newest_mark, mark_in}
 use Rattle.playlist_model.specs.Instants.{instants_after}
 use Rattle.stitcher.specs.Stitched.{newest_place}
 use Rattle.pod_store.specs.Store.{Store}
 use Rattle.stitcher.specs.declared.marked.MarkedSegment.{MarkedSegment as Held}
-use Rattle.stitcher.specs.StitchedSegments.{meant, mark_in, IsDecided, AreDecided}
+use Rattle.stitcher.specs.StitchedSegments.{meant, IsDecided, AreDecided}
 use Rattle.channel_spec.specs.Marking.{Moment, newest_end}
 use Rattle.channel_spec.specs.Kept.{show_on, length_on}
 use Rattle.channel_window.specs.Marking.{mark_on, reversed_onto, place_on, length_after}

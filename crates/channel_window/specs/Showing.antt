@@ -11,7 +11,7 @@ use Rattle.channel_spec.specs.Kept.{Kept, kept_acceptance, kept_list, kept_lengt
 use Rattle.channel_window.specs.declared.state.Before.{Before}
 use Rattle.channel_window.specs.declared.state.ChannelState.{ChannelState}
 use Rattle.channel_window.specs.declared.showing.Showing.{Showing}
-use Rattle.channel_window.specs.Marking.{so_far}
+use Rattle.channel_window.specs.Marking.{history_in}
 use Rattle.channel_window.specs.Listed.{AreRising, IsRestDecided}
 
 -- what is kept in a channel's state, whose shown segments stand with the oldest first
@@ -20,7 +20,7 @@ kept_in state = record {
   store = state.store;
   breaks = state.shown.knowledge;
   last = state.last;
-  shown = so_far state.store state.list;
+  shown = history_in state.store state.list;
   entered = state.shown.entered;
   numbers = state.shown.numbers;
   so_far = state.shown.so_far;
@@ -45,9 +45,9 @@ IsLastEntered kept = or_earlier (last_entered kept.shown) kept.entered ≡ kept.
 -- long the newest run has lasted, if these segments are shown then; their numbers rise by one
 pub record IsShown (tolerance : ℕ) (state : ChannelState) (p : Playlist) (held : List Held) (a : Showing) : Type 0 where
   pub breaks : a.knowledge ≡ carry (kept_acceptance (kept_in state) p) state.shown.knowledge
-  pub list : so_far state.store held ≡ kept_list tolerance (kept_in state) p
+  pub list : history_in state.store held ≡ kept_list tolerance (kept_in state) p
   pub fresh : a.fresh ≡ length (filter (is_new (kept_in state).shown) p.segments)
-  pub entered : a.entered ≡ or_earlier (last_entered (so_far state.store held)) state.shown.entered
+  pub entered : a.entered ≡ or_earlier (last_entered (history_in state.store held)) state.shown.entered
   pub length : a.so_far ≡ kept_length tolerance (kept_in state) p
   pub decided : AreDecided state.store held
   pub runs : KnowRuns None held

@@ -1,6 +1,6 @@
 //! Laws of marks and of windows. Each function's contract is its law; calling it does nothing.
 ghost use Rattle.channel_window.specs.MarkingLaws.{LengthsAreKept, MarksAreShown, PlaceIsCounted};
-ghost use Rattle.channel_window.specs.WindowLaws.{WindowIsStitched, NumberRangeIsStitched};
+ghost use Rattle.channel_window.specs.WindowLaws.{WindowIsRestOfStitched, NumberRangeIsStitched};
 
 /// The segments that are marked after others are those that are shown after them.
 pub fn marks_are_shown()
@@ -19,6 +19,6 @@ pub fn place_is_counted()
 
 /// The window is the rest of the stitched list from a place on.
 pub fn window_is_stitched()
-    ensures window { WindowIsStitched }
+    ensures window { WindowIsRestOfStitched }
     ensures number_range { NumberRangeIsStitched }
 {}

@@ -15,7 +15,7 @@ mod writing;
 
 pub use listing::place_of_number;
 pub use marking::text_in;
-pub use placing::place_of;
+pub use placing::newest_run_place;
 pub use row::Row;
 pub use showing::{Showing, shown_with};
 pub use state::{Before, ChannelState, Ending, Shown};
@@ -23,4 +23,4 @@ pub use stepping::{SteppedList, end_within, run_end, stepped_of};
 pub use successor::{
     check_successor, first_number, first_shown, has_init_sections, have_init_sections,
 };
-pub use writing::{PlacedList, date_ranges_left, head_of, is_any_timed, placed_of};
+pub use writing::{PlacedList, date_ranges_left, head_numbers, is_any_timed, placed_of};

@@ -1,16 +1,16 @@
 //! The segments that a channel holds, the oldest first: the newest of them, those of a playlist that come after it, and parts of them.
 ghost use Rattle.std.specs.Prelude.{◌≡◌, ◌≤◌, ◌-◌, ℕ, None, IfOk, length, filter, drop, take, min};
-ghost use Rattle.pod_store.specs.Marks.{newest_mark};
+ghost use Rattle.pod_store.specs.Marks.{newest_mark, mark_in};
 ghost use Rattle.stitcher.specs.Stitched.{up_to};
 ghost use Rattle.pod_store.specs.Store.{Store};
-ghost use Rattle.stitcher.specs.StitchedSegments.{mark_in, IsDecided, AreDecided};
+ghost use Rattle.stitcher.specs.StitchedSegments.{IsDecided, AreDecided};
 ghost use Rattle.stitcher.specs.Inner.Making.{mark_after};
 ghost use Rattle.channel_spec.specs.Marking.{newest_end, is_new};
 ghost use Rattle.channel_spec.specs.Live.{gone_before};
 ghost use Rattle.channel_spec.specs.Kept.{shown_from};
 ghost use Rattle.playlist_kept.specs.Kept.{playlist_in};
 ghost use Rattle.channel_window.specs.Checked.{AreContiguous, AreTaken};
-ghost use Rattle.channel_window.specs.Marking.{so_far};
+ghost use Rattle.channel_window.specs.Marking.{history_in};
 ghost use Rattle.channel_window.specs.Listed.{AreRising, RiseByOne, segments_in};
 ghost use Rattle.channel_window.specs.Inner.Listed.{IsFront, IsTail, is_after, since};
 ghost use Rattle.channel_spec.specs.Successor.{first_number};
@@ -25,7 +25,7 @@ use stitcher::{MarkedSegment, SharedMark};
 /// allocation fails.
 pub fn newest_mark(alloc: Global, shown: &[MarkedSegment]) -> Result<SharedMark, AllocError>
     ensures mark { IfOk result
-        (λ id. (store : Store) → newest_mark (so_far store shown.now) ≡ mark_in store id) }
+        (λ id. (store : Store) → newest_mark (history_in store shown.now) ≡ mark_in store id) }
     ensures decided { IfOk result
         (λ id. (store : Store) → AreDecided store shown.now → IsDecided store id) }
     ensures last { IfOk result (λ id. id ≡ mark_after None shown.now) }
@@ -39,7 +39,7 @@ pub fn newest_mark(alloc: Global, shown: &[MarkedSegment]) -> Result<SharedMark,
 #[tactic(auto, using(crate::proofs::Listed::newest_ends, crate::proofs::Listed::none_seen))]
 /// When the newest of the `shown` segments ends, in nanoseconds from 1970; `None` if it has no instant.
 pub fn newest_end(shown: &[MarkedSegment]) -> Option<i128>
-    ensures { (store : Store) → result ≡ newest_end (so_far store shown.now) }
+    ensures { (store : Store) → result ≡ newest_end (history_in store shown.now) }
 {
     match shown.split_last() {
         Some((newest, _)) => newest.instant.end(newest.segment.duration),
@@ -91,7 +91,7 @@ pub fn fresh_of<'a>(shown: &[MarkedSegment], read: &'a Read<'_>) -> &'a [Segment
     requires rising { AreRising shown.now }
     requires front { read.now.front ≤ length read.now.playlist.segments }
     ensures value { (store : Store) → result.now
-        ≡ filter (is_new (so_far store shown.now)) (playlist_in read.now).segments }
+        ≡ filter (is_new (history_in store shown.now)) (playlist_in read.now).segments }
     ensures last { IsTail result.now read.now.playlist.segments }
 {
     let segments = since_taken(read);
@@ -145,10 +145,10 @@ pub fn last_members<'a>(list: &'a Shared<Items<Segment>>, fresh: &[Segment]) -> 
 /// that place, from 0.
 pub fn place_of_number(number: u64, list: &[MarkedSegment]) -> usize
     requires { AreRising list.now }
-    ensures seen { (store : Store) → so_far store (drop result list.now)
-        ≡ shown_from number (so_far store list.now) }
-    ensures gone { (store : Store) → so_far store (take result list.now)
-        ≡ gone_before number (so_far store list.now) }
+    ensures seen { (store : Store) → history_in store (drop result list.now)
+        ≡ shown_from number (history_in store list.now) }
+    ensures gone { (store : Store) → history_in store (take result list.now)
+        ≡ gone_before number (history_in store list.now) }
     ensures place { (first : ℕ) → RiseByOne first list.now → result
         ≡ min (number - first) (length list.now) }
     ensures within { result ≤ length list.now }
@@ -163,8 +163,8 @@ pub fn place_of_number(number: u64, list: &[MarkedSegment]) -> usize
 /// The segments of `list`, whose numbers rise by one, up to the one of the media sequence number `number`.
 pub fn front_to(number: u64, list: &[MarkedSegment]) -> &[MarkedSegment]
     requires { AreRising list.now }
-    ensures seen { (store : Store) → so_far store result.now
-        ≡ up_to number (so_far store list.now) }
+    ensures seen { (store : Store) → history_in store result.now
+        ≡ up_to number (history_in store list.now) }
     ensures front { IsFront result.now list.now }
 {
     let Some(first) = list.first() else {
@@ -181,8 +181,8 @@ pub fn front_to(number: u64, list: &[MarkedSegment]) -> &[MarkedSegment]
 /// The segments of `list`, whose numbers rise by one, before the media sequence number `number`.
 pub fn front_before(number: u64, list: &[MarkedSegment]) -> &[MarkedSegment]
     requires { AreRising list.now }
-    ensures seen { (store : Store) → so_far store result.now
-        ≡ gone_before number (so_far store list.now) }
+    ensures seen { (store : Store) → history_in store result.now
+        ≡ gone_before number (history_in store list.now) }
     ensures front { IsFront result.now list.now }
 {
     list.split_at(place_of_number(number, list)).0

@@ -2,7 +2,7 @@
 ghost use Rattle.std.specs.Prelude.{◌≡◌, ◌++◌, ◌+◌, ℕ, ℤ, true, List, Option, IfOk, OnOk, None, is_some};
 ghost use Rattle.std.specs.Option.{option_copied};
 ghost use Rattle.playlist_model.specs.LookBack.{or_earlier};
-ghost use Rattle.pod_store.specs.Store.{is_empty};
+ghost use Rattle.pod_store.specs.Store.{has_no_pod};
 ghost use Rattle.break_finder.specs.Entering.{entered};
 ghost use Rattle.channel_spec.specs.Marking.{limits};
 ghost use Rattle.channel_spec.specs.Successor.{has_init_sections};
@@ -10,7 +10,7 @@ ghost use Rattle.playlist_kept.specs.Kept.{playlist_in};
 ghost use Rattle.stitcher.specs.Making.{is_same_run};
 ghost use Rattle.channel_window.specs.Marking.{next_id, mark_on, length_after};
 ghost use Rattle.channel_window.specs.Inner.Terms.{entered_after};
-ghost use Rattle.channel_window.specs.Inner.Terms.{AreTerms, IsExtended, IsRun, capped_at, is_among, stays_in};
+ghost use Rattle.channel_window.specs.Inner.Terms.{AreTerms, IsExtended, HasItsTerms, capped_at, is_among, stays_in};
 
 use crate::state::Shown;
 use crate::successor::has_init_sections;
@@ -220,7 +220,7 @@ impl<'a> Marker<'a> {
 
     #[tactic(auto, using(crate::proofs::Marked::none_entered))]
     // The first break that is entered at an instant, after this last one.
-    fn entered(
+    fn find_entered(
         &mut self,
         last: Option<&str>,
         instant: Option<Instant>,
@@ -234,7 +234,7 @@ impl<'a> Marker<'a> {
         if self.store.is_empty() {
             return Ok(None);
         }
-        match self.entrances.entered(instant, last) {
+        match self.entrances.find_entered(instant, last) {
             Some(id) => Ok(Some(id.clone()?)),
             None => Ok(None),
         }
@@ -262,7 +262,7 @@ impl<'a> Marker<'a> {
     // Whether it is seen at once that no break marks the next segment, at this instant.
     #[inline(always)]
     fn is_unmarked(&self, run: &Run, instant: OptionalInstant) -> bool
-        requires { IsRun self.now run.now }
+        requires { HasItsTerms self.now run.now }
         ensures before { result ≡ true → run.now.before ≡ None }
         ensures next { result ≡ true
             → next_id self.now run.now.before run.now.entered instant ≡ None }
@@ -295,10 +295,10 @@ impl<'a> Marker<'a> {
         ensures same { IfOk result (λ next. next.goes_on ≡ is_same_run next.mark run.old.before) }
         ensures goes { IfOk result
             (λ next. IsExtended self.old.store duration next.mark run.old run.new) }
-        ensures run { OnOk result (IsRun self.old run.new) }
+        ensures run { OnOk result (HasItsTerms self.old run.new) }
         ensures kept { self.new ≡ self.old }
     {
-        let id = self.entered(text_in(&run.entered), instant.get())?;
+        let id = self.find_entered(text_in(&run.entered), instant.get())?;
         let mark = self.mark_of(alloc, id)?;
         let goes_on = is_same_run(&mark, &run.before);
         let before = if goes_on { run.so_far } else { Nanos(0) };
@@ -319,13 +319,13 @@ impl<'a> Marker<'a> {
         instant: OptionalInstant,
         duration: Nanos,
     ) -> Result<NextMark, AllocError>
-        requires { IsRun self.old run.old }
+        requires { HasItsTerms self.old run.old }
         ensures mark { IfOk result
             (λ next. next.mark ≡ next_id self.old run.old.before run.old.entered instant) }
         ensures same { IfOk result (λ next. next.goes_on ≡ is_same_run next.mark run.old.before) }
         ensures goes { IfOk result
             (λ next. IsExtended self.old.store duration next.mark run.old run.new) }
-        ensures run { OnOk result (IsRun self.old run.new) }
+        ensures run { OnOk result (HasItsTerms self.old run.new) }
         ensures kept { self.new ≡ self.old }
     {
         if self.is_unmarked(run, instant) {
@@ -347,12 +347,12 @@ impl<'a> Marker<'a> {
         segment: Member<Segment>,
         instant: OptionalInstant,
     ) -> Result<MarkedSegment, AllocError>
-        requires { IsRun self.old run.old }
+        requires { HasItsTerms self.old run.old }
         ensures marked { IfOk result
             (λ m. m ≡ record { segment = segment; instant = instant; mark = next_id self.old run.old.before run.old.entered instant; goes_on = is_same_run (next_id self.old run.old.before run.old.entered instant) run.old.before }) }
         ensures goes { IfOk result
             (λ m. IsExtended self.old.store segment.duration m.mark run.old run.new) }
-        ensures run { OnOk result (IsRun self.old run.new) }
+        ensures run { OnOk result (HasItsTerms self.old run.new) }
         ensures kept { self.new ≡ self.old }
     {
         let mark = self.next_mark(alloc, run, instant, segment.duration)?;
@@ -368,7 +368,7 @@ impl<'a> Marker<'a> {
         instants: &mut Beginnings<'_>,
         done: &mut Vec<MarkedSegment>,
     ) -> Result<(), AllocError>
-        requires { IsRun self.old run.old }
+        requires { HasItsTerms self.old run.old }
         ensures list { OnOk result
             (done.new.items ≡ done.old.items
             ++ mark_on self.old run.old.before run.old.entered segments.old instants.old) }
@@ -396,7 +396,7 @@ impl<'a> Marker<'a> {
         instants: &mut Beginnings<'_>,
         done: &mut Vec<MarkedSegment>,
     ) -> Result<(), AllocError>
-        requires empty { is_empty self.now.store ≡ true }
+        requires empty { has_no_pod self.now.store ≡ true }
         requires unmarked { run.old.before ≡ None }
         ensures list { OnOk result
             (done.new.items ≡ done.old.items
@@ -425,7 +425,7 @@ impl<'a> Marker<'a> {
     // How far the marks are before the first new segment.
     fn run_after(&self, shown: &Shown, newest: SharedMark) -> Result<Run, AllocError>
         requires { or_earlier newest shown.now.entered ≡ shown.now.entered }
-        ensures run { IfOk result (IsRun self.now) }
+        ensures run { IfOk result (HasItsTerms self.now) }
         ensures before { IfOk result (λ run. run.before ≡ newest) }
         ensures entered { IfOk result (λ run. run.entered ≡ shown.now.entered) }
         ensures so_far { IfOk result (λ run. run.so_far ≡ shown.now.so_far) }

@@ -39,7 +39,7 @@ fn items_of(store: &PodStore, marked: &MarkedSegment) -> usize
 
 /// The place, from 0, of the first item of the newest run of `held` in their stitched list, whose pods are in
 /// `store`: the window starts there (RFC 8216, section 6.2.2).
-pub fn place_of(store: &PodStore, held: &[MarkedSegment]) -> usize
+pub fn newest_run_place(store: &PodStore, held: &[MarkedSegment]) -> usize
     requires room { place_on store.now None 0 0 held.now < 2 ^ 64 }
     requires runs { KnowRuns None held.now }
     ensures { result ≡ place_on store.now None 0 0 held.now }

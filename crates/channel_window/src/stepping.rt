@@ -2,7 +2,7 @@
 ghost use Rattle.std.specs.Prelude.{◌≡◌, ◌<◌, ◌≤◌, ◌++◌, ◌-◌, ◌+◌, ◌^◌, ℕ, List, Some, None, true, IfOk, IfSome, IsSome, drop, take, length, map, option_map, reverse, slice_get, if◌then◌else◌};
 ghost use Rattle.std.specs.List.{list_all};
 ghost use Rattle.pod_store.specs.Store.{Store};
-ghost use Rattle.stitcher.specs.Stitched.{fits, stitched};
+ghost use Rattle.stitcher.specs.Stitched.{can_be_numbered, stitched};
 ghost use Rattle.stitcher.specs.Paced.{due_with, rest_pieces};
 ghost use Rattle.stitcher.specs.StitchedSegments.{AreDecided, KnowRuns, item_fits, rest_in, stitched_segments};
 ghost use Rattle.stitcher.specs.Written.{written_item};
@@ -11,7 +11,7 @@ ghost use Rattle.channel_spec.specs.Kept.{items_on};
 ghost use Rattle.channel_spec.specs.LastWindow.{last_items, last_pieces};
 ghost use Rattle.channel_spec.specs.LiveLaws.{GoesOn};
 ghost use Rattle.playlist_kept.specs.Kept.{playlist_in};
-ghost use Rattle.channel_window.specs.Marking.{so_far};
+ghost use Rattle.channel_window.specs.Marking.{history_in};
 ghost use Rattle.channel_window.specs.Listed.{AreRising, IsRestDecided, head_of};
 ghost use Rattle.channel_window.specs.Showing.{kept_before, kept_in};
 ghost use Rattle.channel_window.specs.ListEnd.{BeginsAt, IsEndOf, IsEndingOf, IsLastEnding};
@@ -46,7 +46,7 @@ pub struct SteppedList<'a> {
 }
 
 // The stitched list of these segments between these ends; none if a number would pass its range.
-fn listed<'a>(
+fn stitch_if_in_range<'a>(
     alloc: Global,
     list: &'a [MarkedSegment],
     cut: usize,
@@ -89,14 +89,14 @@ fn run_items<'a>(
     requires runs { KnowRuns None list.now }
     ensures { IfOk result
         (λ some. IfSome some
-        (λ v. (v ≡ out_of first (due_with ended lasted (so_far store.now list.now)))
+        (λ v. (v ≡ out_of first (due_with ended lasted (history_in store.now list.now)))
         × (list_all item_fits v ≡ true))) }
 {
     let ends = Ends {
         rest: None,
         so_far: open_length(ended, lasted),
     };
-    listed(alloc, list, cut, store, first, &ends)
+    stitch_if_in_range(alloc, list, cut, store, first, &ends)
 }
 
 #[tactic(auto, using(crate::proofs::NewItems::front_items_are))]
@@ -112,13 +112,14 @@ fn front_items<'a>(
     requires runs { KnowRuns None list.now }
     ensures { IfOk result
         (λ some. IfSome some
-        (λ v. v ≡ out_of first (stitched (so_far store.now list.now) ++ rest_pieces (rest_in store.now rest.now)))) }
+        (λ v. v ≡ out_of first
+        (stitched (history_in store.now list.now) ++ rest_pieces (rest_in store.now rest.now)))) }
 {
     let ends = Ends {
         rest: copied_rest(rest)?,
         so_far: None,
     };
-    listed(alloc, list, 0, store, first, &ends)
+    stitch_if_in_range(alloc, list, 0, store, first, &ends)
 }
 
 // The place of the first segment without a mark from `place` on, if another segment comes after it.
@@ -234,7 +235,8 @@ fn later_items<'a>(
     requires stands { take (length (kept_before before.now).list) list.now ≡ (kept_before before.now).list }
     requires stood { stood ≡ length (last_pieces (kept_before before.now).last (kept_in (kept_before before.now))) }
     requires goes_on { GoesOn (last_items (kept_in (kept_before before.now)))
-        (items_on (kept_in (kept_before before.now)) (playlist_in read.now) (so_far (kept_before before.now).store list.now) lasted) }
+        (items_on (kept_in (kept_before before.now)) (playlist_in read.now)
+        (history_in (kept_before before.now).store list.now) lasted) }
     requires ending { IsLastEnding (kept_in (kept_before before.now)) (Some ending.now) }
     ensures { IfOk result
         (λ some. IfSome some
@@ -284,7 +286,7 @@ fn next_end(
     requires begins { BeginsAt store.now later.now.begin list.now }
     requires within { later.now.begin ≤ length list.now }
     requires items { length later.now.items
-        ≡ length (due_with ended lasted (so_far store.now (drop later.now.begin list.now))) }
+        ≡ length (due_with ended lasted (history_in store.now (drop later.now.begin list.now))) }
     ensures { IfOk result
         (λ some. IfSome some (IsEndOf store.now ended lasted list.now later.now.items)) }
 {
@@ -346,7 +348,8 @@ pub fn stepped_of<'a>(
     requires stands { take (length (kept_before before.now).list) list.now ≡ (kept_before before.now).list }
     requires stood { stood ≡ length (last_pieces (kept_before before.now).last (kept_in (kept_before before.now))) }
     requires goes_on { GoesOn (last_items (kept_in (kept_before before.now)))
-        (items_on (kept_in (kept_before before.now)) (playlist_in read.now) (so_far (kept_before before.now).store list.now) lasted) }
+        (items_on (kept_in (kept_before before.now)) (playlist_in read.now)
+        (history_in (kept_before before.now).store list.now) lasted) }
     requires ending { IsLastEnding (kept_in (kept_before before.now)) (Some ending.now) }
     ensures { IfOk result
         (λ some. IfSome some

@@ -1,15 +1,15 @@
 //! Which playlist may follow which (RFC 8216, sections 6.2.1 and 6.2.2).
 ghost use Rattle.std.specs.Prelude.{◌≡◌, Bool, true, false, not, ◌&&◌, option_map, is_none};
 ghost use Rattle.channel_spec.specs.declared.fault.RefreshFault.TheVariants.{Changed};
-ghost use Rattle.channel_spec.specs.Successor.{are_different, end_number, first_changed, first_discontinuity, first_number, discontinuity_out_of_range, has_init_sections, is_same_window, kind_eq, last_discontinuity, answer_of, following_fault};
+ghost use Rattle.channel_spec.specs.Successor.{are_different, end_number, first_changed, first_discontinuity, first_number, discontinuity_out_of_range, has_init_sections, is_same_window, last_discontinuity, answer_of, following_fault};
 ghost use Rattle.playlist_kept.specs.Kept.{playlist_in};
 ghost use Rattle.channel_window.specs.Checked.{AreContiguous, AreTaken};
 ghost use Rattle.channel_window.specs.Listed.{segments_in};
 ghost use Rattle.channel_window.specs.Inner.Checked.{is_as_before};
 
 use channel_spec::{Heading, RefreshFault};
-use playlist_kept::Read;
-use playlist_model::{PlaylistKind, Segment, Shared, same_segment};
+use playlist_kept::{Read, is_same_kind};
+use playlist_model::{Segment, Shared, same_segment};
 use stitcher::MarkedSegment;
 
 /// The Media Sequence Number of the first segment of the playlist that was `read` (RFC 8216, section 4.3.3.2); 0 if it has
@@ -85,17 +85,6 @@ pub fn have_init_sections(shown: &[MarkedSegment]) -> bool
     match shown.first() {
         Some(marked) => marked.segment.init_section.is_some(),
         None => false,
-    }
-}
-
-fn is_same_kind(a: Option<PlaylistKind>, b: Option<PlaylistKind>) -> bool
-    ensures { result ≡ kind_eq a b }
-{
-    match (a, b) {
-        (None, None) => true,
-        (Some(PlaylistKind::Event), Some(PlaylistKind::Event)) => true,
-        (Some(PlaylistKind::Vod), Some(PlaylistKind::Vod)) => true,
-        _ => false,
     }
 }
 

@@ -1,27 +1,27 @@
 //! The window, as it is written.
 ghost use Rattle.std.specs.Prelude.{◌≡◌, ◌<◌, ◌≤◌, ◌+◌, ◌-◌, ◌^◌, ◌||◌, ◌∷◌, ◌++◌, [], ℕ, List, IfOk, IfErr, OnOk, MatchOption, None, drop, filter, length, map, min, nat_lt, not, bytes_eq, reverse, false, true};
 ghost use Rattle.std.specs.List.{list_all, list_any};
-ghost use Rattle.stitcher.specs.Stitched.{fits};
+ghost use Rattle.stitcher.specs.Stitched.{can_be_numbered};
 ghost use Rattle.pod_store.specs.Store.{Store, pod_for};
 ghost use Rattle.playlist_model.specs.declared.DateRange.{DateRange};
 ghost use Rattle.stitcher.specs.StitchedSegments.{AreDecided, KnowRuns, ends_in, item_fits, rest_in, stitched_segments};
 ghost use Rattle.stitcher.specs.Written.{written_item};
-ghost use Rattle.channel_spec.specs.Kept.{items_on, listed, numbers_on, rest_after, rest_on, start_on, stitched_on, window_on};
+ghost use Rattle.channel_spec.specs.Kept.{items_on, listed, numbers_on, rest_after, next_rest, start_on, stitched_on, window_on};
 ghost use Rattle.channel_spec.specs.Inner.Kept.{ends_of};
 ghost use Rattle.channel_spec.specs.LastWindow.{last_pieces};
-ghost use Rattle.channel_spec.specs.Live.{date_range_text, date_ranges_left, place_of, rest_over};
+ghost use Rattle.channel_spec.specs.Live.{date_range_text, date_ranges_left, item_place, rest_over};
 ghost use Rattle.channel_spec.specs.Successor.{first_number};
 ghost use Rattle.playlist_kept.specs.Kept.{playlist_in};
-ghost use Rattle.channel_window.specs.Marking.{place_on, so_far};
-ghost use Rattle.channel_window.specs.Listed.{AreRising, IsRestDecided, RefusesList, head_of, states_time};
+ghost use Rattle.channel_window.specs.Marking.{place_on, history_in};
+ghost use Rattle.channel_window.specs.Listed.{AreRising, IsRestDecided, RefusesList, head_of, writes_time};
 ghost use Rattle.channel_window.specs.Inner.Listed.{first_alone, first_numbers_of, pod_keeps, texts_left, AreAmong};
 ghost use Rattle.pod_store.specs.Store.{is_one_of};
 ghost use Rattle.channel_window.specs.Inner.Placing.{rest_count};
-ghost use Rattle.channel_window.specs.Inner.Placing.{HasRoom, IsWithin, rest_of};
+ghost use Rattle.channel_window.specs.Inner.Placing.{HasRoom, IsWithin, rest_of_newest_run};
 ghost use Rattle.channel_window.specs.Showing.{kept_before, kept_in};
 
 use crate::listing::{front_before, front_to};
-use crate::placing::{place_of, rest_count};
+use crate::placing::{newest_run_place, rest_count};
 use crate::state::Before;
 use crate::successor::{first_number, first_shown};
 use channel_spec::{Heading, RefreshFault};
@@ -36,7 +36,7 @@ use stitcher::{
 };
 
 // The stitched list of these segments between these ends, whose first item has these numbers.
-fn stitched<'a>(
+fn stitch_segments<'a>(
     alloc: Global,
     list: &'a [MarkedSegment],
     cut: usize,
@@ -91,12 +91,12 @@ fn item_place(store: &PodStore, rest: &Option<Rest>, number: u64, list: &[Marked
     requires decided { AreDecided store.now list.now }
     requires runs { KnowRuns None list.now }
     requires rising { AreRising list.now }
-    ensures value { result ≡ place_of number (so_far store.now list.now) }
+    ensures value { result ≡ item_place number (history_in store.now list.now) }
     ensures room { result + rest_count store.now rest.now < 2 ^ 64 }
     ensures within { (most : ℕ) → IsWithin store.now rest.now list.now most
         → result + rest_count store.now rest.now ≤ most }
 {
-    place_of(store, front_to(number, list))
+    newest_run_place(store, front_to(number, list))
 }
 
 // What a window that starts at `start` has of the pod of the newest run of `gone`, the segments before it, after `rest_items`
@@ -112,7 +112,8 @@ fn rest_of(
     requires runs { KnowRuns None gone.now }
     ensures decided { IfOk result (λ rest. IsRestDecided store.now rest) }
     ensures value { IfOk result
-        (λ rest. rest_in store.now rest ≡ rest_of rest_items start (so_far store.now gone.now)) }
+        (λ rest. rest_in store.now rest
+        ≡ rest_of_newest_run rest_items start (history_in store.now gone.now)) }
 {
     let Some((newest, _)) = gone.split_last() else {
         return Ok(None);
@@ -122,7 +123,7 @@ fn rest_of(
     };
     Ok(Some(Rest {
         id: id.clone()?,
-        place: start.saturating_sub(place_of(store, gone) + rest_items),
+        place: start.saturating_sub(newest_run_place(store, gone) + rest_items),
     }))
 }
 
@@ -149,8 +150,8 @@ fn later_start(
     requires runs { KnowRuns None list.now }
     requires rising { AreRising list.now }
     ensures place { IfOk result
-        (λ s. s.place ≡ min (place_of number
-        (so_far store.now list.now) + rest_count store.now rest.now) stood) }
+        (λ s. s.place ≡ min (item_place number
+        (history_in store.now list.now) + rest_count store.now rest.now) stood) }
     ensures within { IfOk result
         (λ s. (most : ℕ) → IsWithin store.now rest.now list.now most
         → s.place ≤ most) }
@@ -158,7 +159,7 @@ fn later_start(
     ensures rest { IfOk result
         (λ s. rest_in store.now s.rest
         ≡ rest_over (rest_count store.now rest.now) s.place number
-        (so_far store.now list.now)) }
+        (history_in store.now list.now)) }
 {
     let rest_items = rest_count(store, rest);
     let item = item_place(store, rest, number, list) + rest_items;
@@ -187,16 +188,18 @@ pub(crate) fn start_of(
     requires stood { stood ≡ length (last_pieces (kept_before before.now).last (kept_in (kept_before before.now))) }
     ensures place { IfOk result
         (λ s. s.place ≡ start_on (kept_before before.now).last (first_number (playlist_in read.now).segments)
-        (kept_in (kept_before before.now)) (so_far (kept_before before.now).store list.now)) }
+        (kept_in (kept_before before.now)) (history_in (kept_before before.now).store list.now)) }
     ensures within { IfOk result
         (λ s. (most : ℕ) → IsWithin (kept_before before.now).store (kept_before before.now).shown.rest list.now most
         → s.place ≤ most) }
     ensures decided { IfOk result (λ s. IsRestDecided (kept_before before.now).store s.rest) }
     ensures rest { IfOk result
         (λ s. rest_in (kept_before before.now).store s.rest
-        ≡ rest_on (kept_before before.now).last (first_number (listed (kept_in (kept_before before.now)).shown))
+        ≡ next_rest (kept_before before.now).last
+        (first_number (listed (kept_in (kept_before before.now)).shown))
         (first_number (playlist_in read.now).segments) s.place
-        (so_far (kept_before before.now).store list.now) (rest_in (kept_before before.now).store (kept_before before.now).shown.rest)) }
+        (history_in (kept_before before.now).store list.now)
+        (rest_in (kept_before before.now).store (kept_before before.now).shown.rest)) }
 {
     let (store, shown) = (&before.state.store, &before.state.shown);
     let number = first_number(read);
@@ -243,28 +246,31 @@ pub fn placed_of<'a>(
     ensures whole { IfOk result
         (λ w. w.whole ≡ map written_item
         (reverse (items_on (kept_in (kept_before before.now)) (playlist_in read.now)
-        (so_far (kept_before before.now).store list.now) lasted))) }
+        (history_in (kept_before before.now).store list.now) lasted))) }
     ensures window { IfOk result
         (λ w. drop w.start w.whole
         ≡ map written_item (window_on (kept_in (kept_before before.now)) (playlist_in read.now)
-        (so_far (kept_before before.now).store list.now) lasted)) }
+        (history_in (kept_before before.now).store list.now) lasted)) }
     ensures left { IfOk result (λ w. IsRestDecided (kept_before before.now).store w.rest) }
     ensures rest { IfOk result
         (λ w. rest_in (kept_before before.now).store w.rest
-        ≡ rest_after (kept_in (kept_before before.now)) (playlist_in read.now) (so_far (kept_before before.now).store list.now)) }
+        ≡ rest_after (kept_in (kept_before before.now)) (playlist_in read.now)
+        (history_in (kept_before before.now).store list.now)) }
     ensures fit { IfOk result
-        (λ w. list_all fits (items_on (kept_in (kept_before before.now)) (playlist_in read.now)
-        (so_far (kept_before before.now).store list.now) lasted) ≡ true) }
+        (λ w. list_all can_be_numbered
+        (items_on (kept_in (kept_before before.now)) (playlist_in read.now)
+        (history_in (kept_before before.now).store list.now) lasted) ≡ true) }
     ensures err { IfErr result
-        (λ e. RefusesList e (list_all fits
-        (items_on (kept_in (kept_before before.now)) (playlist_in read.now) (so_far (kept_before before.now).store list.now) lasted)
+        (λ e. RefusesList e (list_all can_be_numbered
+        (items_on (kept_in (kept_before before.now)) (playlist_in read.now)
+        (history_in (kept_before before.now).store list.now) lasted)
         ≡ false)) }
 {
     let (store, shown) = (&before.state.store, &before.state.shown);
     let ends = ends_of(&shown.rest, read.playlist.end_list, lasted)?;
     let first = numbers_on(&before.state.last, shown.numbers, list, store, &ends)?;
     let cut = before.list.len();
-    let whole = stitched(alloc, list, cut, store, first, &ends)?;
+    let whole = stitch_segments(alloc, list, cut, store, first, &ends)?;
     let start = start_of(before, read, list, stood)?;
     Ok(PlacedList {
         whole,
@@ -274,7 +280,7 @@ pub fn placed_of<'a>(
 }
 
 /// The numbers of the first of `items`; all are 0 if there is none.
-pub fn head_of(items: &StitchedList<'_>) -> Numbers
+pub fn head_numbers(items: &StitchedList<'_>) -> Numbers
     ensures { result ≡ head_of items.now }
 {
     first_numbers_in(items.items())
@@ -301,7 +307,7 @@ pub(crate) fn first_numbers_in(items: StitchedItems<'_>) -> Numbers
 
 /// Whether one of `items` states a time. Mostly the first one does, if one does.
 pub fn is_any_timed(items: &StitchedList<'_>) -> bool
-    ensures { result ≡ list_any states_time items.now }
+    ensures { result ≡ list_any writes_time items.now }
 {
     let mut items = items.items();
     while let Some(item) = items.next() {
@@ -380,11 +386,12 @@ fn numbers_on(
     ends: &Ends,
 ) -> Result<Numbers, RefreshFault>
     requires { AreDecided store.now list.now }
-    ensures ok { IfOk result (λ n. n ≡ numbers_on last.now numbers (so_far store.now list.now)) }
+    ensures ok { IfOk result
+        (λ n. n ≡ numbers_on last.now numbers (history_in store.now list.now)) }
     ensures err { IfErr result
         (λ e. RefusesList e (list_all item_fits
         (stitched_segments store.now
-        (numbers_on last.now numbers (so_far store.now list.now)) ends.now list.now) ≡ false)) }
+        (numbers_on last.now numbers (history_in store.now list.now)) ends.now list.now) ≡ false)) }
 {
     match last {
         Some(_) => Ok(numbers),
@@ -412,7 +419,7 @@ fn texts_left<'a>(
 }
 
 // What is left of these breaks after the first, if that is this one.
-fn left_after<'a>(ids: &'a [Shared<Text>], id: &str) -> Option<&'a [Shared<Text>]>
+fn ids_after<'a>(ids: &'a [Shared<Text>], id: &str) -> Option<&'a [Shared<Text>]>
     ensures { MatchOption result (Unit {0}) (λ left. ids.now ≡ id.now ∷ left.now) }
 {
     match ids.split_first() {
@@ -451,7 +458,7 @@ fn push_other<'a, 'b>(
         (texts.new.items ≡ texts.old.items ++ texts_left ids.now (date_range.now ∷ [])) }
     ensures left { IfOk result (λ left. AreAmong left.now ids.now) }
 {
-    if let Some(later) = left_after(left, date_range.id.as_str()) {
+    if let Some(later) = ids_after(left, date_range.id.as_str()) {
         return Ok(later);
     }
     if let Some(later) = left_after_found(ids, date_range.id.as_str()) {
@@ -494,7 +501,7 @@ pub fn date_ranges_left<'a>(
 ) -> Result<Vec<TextRef<'a>>, AllocError>
     ensures { IfOk result
         (λ v. v.items ≡ map date_range_text
-        (date_ranges_left (list_any states_time items.now) ids.now date_ranges.now)) }
+        (date_ranges_left (list_any writes_time items.now) ids.now date_ranges.now)) }
 {
     // Most playlists have no date range, and no item need be looked at then.
     if date_ranges.is_empty() {

@@ -13,7 +13,7 @@ use Rattle.connections.proofs.Served.{served}
 record Exchanged (first : List NamedChannel) (services : List Service) (last : List NamedChannel) : Type 0 where
   exchanges : List Exchange
   asked : AreExchanges services exchanges
-  run : edge.IsRun first exchanges last
+  run : edge.ExchangesLeadTo first exchanges last
 
 refused_beside : (s : Service) (before : List Service) (exchanges : List Exchange) → IsRefusal s → AreExchanges before exchanges → AreExchanges (s ∷ before) exchanges
 refused_beside s before [] r a = (r, a)
@@ -29,7 +29,7 @@ with_one first middle last s before rec (inl h) = record {
 with_one first middle last s before rec (inr h) = record {
   exchanges = rec.exchanges;
   asked = refused_beside s before rec.exchanges (record { refusal = h.refusal; refused = h.refused; text_is = h.text_is }) rec.asked;
-  run = subst (edge.IsRun first rec.exchanges) (sym h.kept) rec.run;
+  run = subst (edge.ExchangesLeadTo first rec.exchanges) (sym h.kept) rec.run;
 }
 
 exchanged : (first : List NamedChannel) (services : List Service) (last : List NamedChannel) → InTurn first services last → Exchanged first services last

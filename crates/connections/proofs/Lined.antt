@@ -1,40 +1,40 @@
 -- Who stands in line comes nearer with each call.
 use Rattle.std.proofs.Common.{◌≡◌, ℕ, ◌+◌, ◌≤◌, ◌==◌, Bool, true, false, cond, List, [], ◌∷◌, ◌++◌, drop, filter, refl, sym, arith, true≢false}
-use Rattle.connections.specs.Lines.{stands_in, is_other, is_first, ahead, LineEvent, joins, leaves, calls, line_after, calls_in, Waits, LineIsKept}
+use Rattle.connections.specs.Lines.{is_in_line, is_other, is_first, ahead, LineEvent, joins, leaves, calls, line_after, calls_in, Waits, LineIsKept}
 
 -- ---- one joins
 
-behind_all : (place k : ℕ) (line : List ℕ) → stands_in place line ≡ true
-    → (stands_in place (line ++ k ∷ []) ≡ true) × (ahead place (line ++ k ∷ []) ≡ ahead place line)
+behind_all : (place k : ℕ) (line : List ℕ) → is_in_line place line ≡ true
+    → (is_in_line place (line ++ k ∷ []) ≡ true) × (ahead place (line ++ k ∷ []) ≡ ahead place line)
 behind_all place k [] there = absurd (true≢false (sym there))
 behind_all place k (one ∷ behind) there = grind (arith, behind_all place k behind)
 
-join_one : (b : Bool) (place k : ℕ) (line : List ℕ) → stands_in place line ≡ true
-    → (stands_in place (cond b line (line ++ k ∷ [])) ≡ true) × (ahead place (cond b line (line ++ k ∷ [])) ≡ ahead place line)
+join_one : (b : Bool) (place k : ℕ) (line : List ℕ) → is_in_line place line ≡ true
+    → (is_in_line place (cond b line (line ++ k ∷ [])) ≡ true) × (ahead place (cond b line (line ++ k ∷ [])) ≡ ahead place line)
 join_one true place k line there = (there, refl)
 join_one false place k line there = behind_all place k line there
 
 -- ---- one leaves
 
-without : (place k : ℕ) (line : List ℕ) → (k == place) ≡ false → stands_in place line ≡ true
-    → (stands_in place (filter (is_other k) line) ≡ true) × (ahead place (filter (is_other k) line) ≤ ahead place line)
+without : (place k : ℕ) (line : List ℕ) → (k == place) ≡ false → is_in_line place line ≡ true
+    → (is_in_line place (filter (is_other k) line) ≡ true) × (ahead place (filter (is_other k) line) ≤ ahead place line)
 without place k [] other there = absurd (true≢false (sym there))
 without place k (one ∷ behind) other there = grind (arith, without place k behind other)
 
 -- ---- the first one is called
 
-called : (place : ℕ) (line : List ℕ) → is_first place line ≡ false → stands_in place line ≡ true
-    → (stands_in place (drop 1 line) ≡ true) × (ahead place (drop 1 line) + 1 ≡ ahead place line)
+called : (place : ℕ) (line : List ℕ) → is_first place line ≡ false → is_in_line place line ≡ true
+    → (is_in_line place (drop 1 line) ≡ true) × (ahead place (drop 1 line) + 1 ≡ ahead place line)
 called place line other there = grind arith
 
 -- ---- all that happens
 
 nearer : (place : ℕ) (line : List ℕ) (events : List LineEvent) → Waits place line events
-    → (stands_in place (line_after line events) ≡ true) × (calls_in events + ahead place (line_after line events) ≤ ahead place line)
+    → (is_in_line place (line_after line events) ≡ true) × (calls_in events + ahead place (line_after line events) ≤ ahead place line)
 nearer place line [] waits = (waits, omega arith)
 nearer place line (joins k ∷ before) waits =
     let it = nearer place line before waits.0 in
-    let next = join_one (stands_in k (line_after line before)) place k (line_after line before) it.0 in
+    let next = join_one (is_in_line k (line_after line before)) place k (line_after line before) it.0 in
     (next.0, omega (arith, it.1, next.1))
 nearer place line (leaves k ∷ before) waits =
     let it = nearer place line before waits.0 in

@@ -1,11 +1,11 @@
 -- A reply grows shorter with each turn that goes on.
 use Rattle.std.proofs.Common.{◌≡◌, ℕ, zero, suc, List, [], ◌∷◌, ap, arith}
 use Rattle.connections.specs.Clients.{AreElsewhere, RepliesAreSent, WentOn}
-use Rattle.connections.specs.Runs.{IsRun}
+use Rattle.connections.specs.Runs.{EventsLeadTo}
 use Rattle.connections.specs.Table.{State, ClientEvent, arrival, request_bytes, reply_bytes, departure, at}
 
 -- what happens elsewhere leaves a client as it is
-stays_elsewhere : (place : ℕ) (first last : State) (events : List ClientEvent) → IsRun first events last → AreElsewhere place events → at last place ≡ at first place
+stays_elsewhere : (place : ℕ) (first last : State) (events : List ClientEvent) → EventsLeadTo first events last → AreElsewhere place events → at last place ≡ at first place
 stays_elsewhere place first last [] run others = ap (λ s. at s place) run
 stays_elsewhere place first last (arrival k ∷ before) (middle, run, h) others = grind (arith, stays_elsewhere place first middle before run others.1)
 stays_elsewhere place first last (request_bytes k piece ∷ before) (middle, run, h) others = grind (arith, stays_elsewhere place first middle before run others.1)

@@ -9,8 +9,8 @@ use Rattle.http_edge.specs.Served.{IsServed}
 use Rattle.connections.specs.declared.conversation.Conversation.{Conversation}
 use Rattle.connections.specs.declared.conversation.Conversation.TheVariants.{Asking, Answering}
 use Rattle.connections.specs.Conversing.{Goes}
-use Rattle.connections.specs.Table.{State, at, left_of, taken_of, ClientEvent, arrival, request_bytes, reply_bytes, departure, Puts, GoesOn, Happens}
-use Rattle.connections.specs.Runs.{visits, said, taken, Service, IsAsking, HasReply, StandsAt, IsRun, IsServedRun}
+use Rattle.connections.specs.Table.{State, at, left_of, taken_of, ClientEvent, arrival, request_bytes, reply_bytes, departure, PutsAtPlace, ConversationGoesOn, Happens}
+use Rattle.connections.specs.Runs.{visits, said, reply_bytes_taken, Service, IsAsking, HasReply, ConversationStandsAt, EventsLeadTo, IsServedRun}
 
 -- ---- places
 
@@ -31,18 +31,18 @@ by_place P k here there place = grind arith
 
 -- ---- what doesn't concern a place
 
-more_services : (place : ℕ) (events : List ClientEvent) (s : Service) (services : List Service) (c : Option Conversation) → StandsAt place events services c
-    → StandsAt place events (s ∷ services) c
+more_services : (place : ℕ) (events : List ClientEvent) (s : Service) (services : List Service) (c : Option Conversation) → ConversationStandsAt place events services c
+    → ConversationStandsAt place events (s ∷ services) c
 more_services place events s services c h = grind arith
 
 -- where an event leaves what was said, taken and visited
 carried : (place : ℕ) (now before : List ClientEvent) (services : List Service) (c : Option Conversation) → visits place now ≡ visits place before
-    → said place now ≡ said place before → taken place now ≡ taken place before → StandsAt place before services c → StandsAt place now services c
+    → said place now ≡ said place before → reply_bytes_taken place now ≡ reply_bytes_taken place before → ConversationStandsAt place before services c → ConversationStandsAt place now services c
 carried place now before services c v s t h = grind arith
 
-moved : (place : ℕ) (events : List ClientEvent) (services : List Service) (old new : Option Conversation) → new ≡ old → StandsAt place events services old
-    → StandsAt place events services new
-moved place events services old new e h = subst (StandsAt place events services) (sym e) h
+moved : (place : ℕ) (events : List ClientEvent) (services : List Service) (old new : Option Conversation) → new ≡ old → ConversationStandsAt place events services old
+    → ConversationStandsAt place events services new
+moved place events services old new e h = subst (ConversationStandsAt place events services) (sym e) h
 
 -- ---- a client comes
 
@@ -58,8 +58,8 @@ on_departure first middle last k before run h = grind arith
 
 -- ---- a client takes
 
-took_here : (k count : ℕ) (before : List ClientEvent) (services : List Service) (c : Option Conversation) → count ≤ length (left_of c) → StandsAt k before services c
-    → StandsAt k (reply_bytes k count ∷ before) services (taken_of count c)
+took_here : (k count : ℕ) (before : List ClientEvent) (services : List Service) (c : Option Conversation) → count ≤ length (left_of c) → ConversationStandsAt k before services c
+    → ConversationStandsAt k (reply_bytes k count ∷ before) services (taken_of count c)
 took_here k count before services c le h = grind (arith, chosen, same, drop-drop)
 
 on_reply_bytes : (first middle last : State) (k count : ℕ) (before : List ClientEvent) → IsServedRun first before middle → Happens middle (reply_bytes k count) last
@@ -72,20 +72,20 @@ said_here : (k : ℕ) (piece : List ℕ) (before : List ClientEvent) → said k 
 said_here k piece before = chosen (k == k) (said k before ++ piece) (said k before) (same k)
 
 -- another place
-given_there : (k : ℕ) (piece : List ℕ) (before : List ClientEvent) (services : List Service) (middle last : State) (it : Option Conversation) → Puts middle last k it
-    → ((place : ℕ) → StandsAt place before services (at middle place)) → (place : ℕ) → (k == place) ≡ false
-    → StandsAt place (request_bytes k piece ∷ before) services (at last place)
+given_there : (k : ℕ) (piece : List ℕ) (before : List ClientEvent) (services : List Service) (middle last : State) (it : Option Conversation) → PutsAtPlace middle last k it
+    → ((place : ℕ) → ConversationStandsAt place before services (at middle place)) → (place : ℕ) → (k == place) ≡ false
+    → ConversationStandsAt place (request_bytes k piece ∷ before) services (at last place)
 given_there k piece before services middle last it puts each place e = grind arith
 
 -- nothing is served by it
 unserved : (first middle last : State) (k : ℕ) (piece : List ℕ) (before : List ClientEvent) (it : Option Conversation) (run : IsServedRun first before middle)
-    → Puts middle last k it → last.edge ≡ middle.edge → StandsAt k (request_bytes k piece ∷ before) run.services it
+    → PutsAtPlace middle last k it → last.edge ≡ middle.edge → ConversationStandsAt k (request_bytes k piece ∷ before) run.services it
     → IsServedRun first (request_bytes k piece ∷ before) last
 unserved first middle last k piece before it run puts edge here = grind arith
 
 -- it makes the request whole
 newly : (first middle last : State) (k : ℕ) (piece : List ℕ) (before : List ClientEvent) (bytes rest : List ℕ) (status : ℕ) (run : IsServedRun first before middle)
-    → IsAsking k before bytes → IsServed (bytes ++ piece) middle.edge last.edge rest status → Puts middle last k (Some (Answering rest status))
+    → IsAsking k before bytes → IsServed (bytes ++ piece) middle.edge last.edge rest status → PutsAtPlace middle last k (Some (Answering rest status))
     → IsServedRun first (request_bytes k piece ∷ before) last
 newly first middle last k piece before bytes rest status run asks served puts =
     let service : Service = record { place = k; visit = visits k before; bytes = bytes ++ piece; text = rest; status = status } in
@@ -98,7 +98,7 @@ newly first middle last k piece before bytes rest status run asks served puts =
             run.pieces,
           );
       each =
-          by_place (λ place. StandsAt place events (service ∷ run.services) (at last place)) k
+          by_place (λ place. ConversationStandsAt place events (service ∷ run.services) (at last place)) k
           (moved k events (service ∷ run.services) (Some (Answering rest status)) (at last k) puts.here
           (record {
             service = service;
@@ -115,7 +115,7 @@ newly first middle last k piece before bytes rest status run asks served puts =
     }
 
 to_asking : (first middle last : State) (k : ℕ) (piece : List ℕ) (before : List ClientEvent) (bytes : List ℕ) (pieces : ℕ) (run : IsServedRun first before middle)
-    → IsAsking k before bytes → (after : Conversation) → Goes (Asking bytes pieces) piece middle.edge last.edge after → Puts middle last k (Some after)
+    → IsAsking k before bytes → (after : Conversation) → Goes (Asking bytes pieces) piece middle.edge last.edge after → PutsAtPlace middle last k (Some after)
     → IsServedRun first (request_bytes k piece ∷ before) last
 to_asking first middle last k piece before bytes pieces run stands (Asking more count) goes puts =
     unserved first middle last k piece before (Some (Asking more count)) run puts goes.4 (record {
@@ -140,13 +140,13 @@ to_answering k piece before services rest status h = record {
 }
 
 on_request_bytes_at : (first middle last : State) (k : ℕ) (piece : List ℕ) (before : List ClientEvent) (c : Option Conversation) (run : IsServedRun first before middle)
-    → StandsAt k before run.services c → GoesOn c middle k piece last → IsServedRun first (request_bytes k piece ∷ before) last
+    → ConversationStandsAt k before run.services c → ConversationGoesOn c middle k piece last → IsServedRun first (request_bytes k piece ∷ before) last
 on_request_bytes_at first middle last k piece before None run stands h = unserved first middle last k piece before None run h.0 h.1 tt
 on_request_bytes_at first middle last k piece before (Some (Asking bytes pieces)) run stands h =
     to_asking first middle last k piece before bytes pieces run stands h.0 h.1 h.2
 on_request_bytes_at first middle last k piece before (Some (Answering rest status)) run stands h =
     unserved first middle last k piece before (Some (Answering rest status)) run
-    (subst (λ (c : Conversation). Puts middle last k (Some c)) h.1.0 h.2) h.1.1
+    (subst (λ (c : Conversation). PutsAtPlace middle last k (Some c)) h.1.0 h.2) h.1.1
     (to_answering k piece before run.services rest status stands)
 
 -- ---- all
@@ -155,6 +155,6 @@ on_event : (first middle last : State) (e : ClientEvent) (before : List ClientEv
     → IsServedRun first (e ∷ before) last
 on_event first middle last e before run h = grind (arith, on_arrival, on_request_bytes_at, on_reply_bytes, on_departure)
 
-pub served : (first last : State) (events : List ClientEvent) → ((place : ℕ) → at first place ≡ None) → IsRun first events last → IsServedRun first events last
+pub served : (first last : State) (events : List ClientEvent) → ((place : ℕ) → at first place ≡ None) → EventsLeadTo first events last → IsServedRun first events last
 served first last [] vacant h = grind (arith, moved)
 served first last (e ∷ before) vacant h = grind (arith, on_event, served first h.0 before vacant h.1)

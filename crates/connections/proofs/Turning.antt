@@ -13,7 +13,7 @@ use Rattle.connections.specs.declared.devices.Passage.TheVariants.{Bytes}
 use Rattle.connections.specs.Devices.{DeviceStand, Calls, one_call}
 use Rattle.connections.specs.Table.{State, at, left_of, taken_of}
 use Rattle.connections.specs.Wires.{HasHeard, HasSaid}
-use Rattle.connections.specs.Turns.{joined, MovedEach, HasListened, HasSpoken}
+use Rattle.connections.specs.Turns.{bytes_of_pieces, MovedEach, HasListened, HasSpoken}
 
 pub moved_none : (calls : Calls) → MovedEach zero calls calls
 unfolding MovedEach
@@ -27,7 +27,7 @@ pub heard_more : (first before after : DeviceStand) (place : ℕ) (old middle ne
     → is_asking (at middle place) ≡ true → HasHeard before after place middle new → HasListened first after place old new
 heard_more first before after place old middle new listened asking heard = record {
   pieces = heard.piece ∷ listened.pieces;
-  given = Consumes-trans first.bytes before.bytes after.bytes (joined listened.pieces) heard.piece listened.given heard.gave_it.given;
+  given = Consumes-trans first.bytes before.bytes after.bytes (bytes_of_pieces listened.pieces) heard.piece listened.given heard.gave_it.given;
   run = (middle, listened.run, asking, heard.happens);
 }
 

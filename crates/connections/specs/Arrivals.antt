@@ -9,8 +9,8 @@ use Rattle.connections.specs.declared.conversation.Conversation.{Conversation}
 use Rattle.connections.specs.declared.conversation.Conversation.TheVariants.{Asking, Answering}
 use Rattle.connections.specs.Table.{State, at, held_of}
 
-abbrev pub place_of : Arrival → ℕ
-place_of arrival = arrival.place
+abbrev pub arrival_place : Arrival → ℕ
+arrival_place arrival = arrival.place
 
 -- it is of another place
 abbrev pub is_elsewhere : ℕ → Arrival → Bool
@@ -49,7 +49,7 @@ first (arrival ∷ later) = Some arrival.place
 
 -- the first of which this is so: none of which it is so came before
 abbrev pub first_that : (Arrival → Bool) → List Arrival → Option ℕ
-first_that test arrivals = option_map place_of (find test arrivals)
+first_that test arrivals = option_map arrival_place (find test arrivals)
 
 -- for one that comes the client is given up that has asked longest; if none asks, the one that has been ending longest, and
 -- only if all have a reply on its way the one that came first

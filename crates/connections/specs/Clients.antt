@@ -10,7 +10,7 @@ use Rattle.connections.specs.declared.devices.Passage.TheVariants.{WouldWait}
 use Rattle.connections.specs.Arrivals.{is_asking}
 use Rattle.connections.specs.Devices.{DeviceStand, AreNext}
 use Rattle.connections.specs.Limits.{reads_in_turn, writes_in_turn}
-use Rattle.connections.specs.Runs.{IsRun}
+use Rattle.connections.specs.Runs.{EventsLeadTo}
 use Rattle.connections.specs.Table.{State, ClientEvent, arrival, request_bytes, reply_bytes, departure, at, held_of, left_of}
 use Rattle.connections.specs.Turns.{MovedEach, HasListened, HasListenedUntil, HasNoMore, HasSpoken, HasSpokenUntil, is_read_out}
 
@@ -65,8 +65,8 @@ module _ {X : Type 0} (incoming outgoing : X → DeviceStand) (place : ℕ) (bef
   HasToWait = ((incoming after).calls.last ≡ Some WouldWait) ⊎ ((outgoing after).calls.last ≡ Some WouldWait)
 
 -- the last call told its end, or failed; or it was granted what it asked, and nothing that it sent is unread
-abbrev pub HasEnded : Bool → Option Passage → Type 0
-HasEnded granted last = HasNoMore last ⊎ ((granted ≡ true) × (is_read_out last ≡ true))
+abbrev pub ConnectionHasEnded : Bool → Option Passage → Type 0
+ConnectionHasEnded granted last = HasNoMore last ⊎ ((granted ≡ true) × (is_read_out last ≡ true))
 
 -- of its reply so many bytes fewer are left, at least
 abbrev pub AreSent : ℕ → ℕ → State → State → Type 0
@@ -87,7 +87,7 @@ unfoldable pub WentOn : ℕ → ℕ → State → State → Type 0
 WentOn zero place old new = new ≡ old
 WentOn (suc n) place old new =
     (before middle : State) × (events : List ClientEvent)
-    × WentOn n place old before × IsRun before events middle × AreElsewhere place events × AreSent writes_in_turn place middle new
+    × WentOn n place old before × EventsLeadTo before events middle × AreElsewhere place events × AreSent writes_in_turn place middle new
 
 -- after so many turns that went on, four times as many bytes of the reply are gone, at least
 abbrev pub RepliesAreSent : Type 0

@@ -6,7 +6,7 @@ use Rattle.http_messages.specs.Replies.{refusal_reply, sends_body, text_sent}
 use Rattle.http_edge.specs.Edges.{RepresentsRequests}
 use Rattle.http_edge.specs.Isolation.{Exchange, IsIsolatedIn}
 use Rattle.connections.specs.Table.{State, at, ClientEvent}
-use Rattle.connections.specs.Runs.{Service, AreOf, StandsAt, IsRun}
+use Rattle.connections.specs.Runs.{Service, AreOf, ConversationStandsAt, EventsLeadTo}
 
 -- the service's bytes ask this request, and its text is that of this reply
 pub record IsExchange (s : Service) (e : Exchange) : Type 0 where
@@ -30,7 +30,7 @@ AreExchanges (s ∷ before) (e ∷ earlier) = (IsExchange s e × AreExchanges be
 pub record IsIsolatedRun (events : List ClientEvent) (last : State) : Type 0 where
   pub services : List Service
   pub pieces : AreOf events services
-  pub each : (place : ℕ) → StandsAt place events services (at last place)
+  pub each : (place : ℕ) → ConversationStandsAt place events services (at last place)
   pub exchanges : List Exchange
   pub asked : AreExchanges services exchanges
   pub isolated : (name : List ℕ) → IsIsolatedIn name exchanges
@@ -38,4 +38,4 @@ pub record IsIsolatedRun (events : List ClientEvent) (last : State) : Type 0 whe
 -- whatever clients come, say, take and leave, from an edge that stands for no request and nobody there on
 abbrev pub ClientsAreIsolated : Type 0
 ClientsAreIsolated =
-    (first last : State) (events : List ClientEvent) → ((place : ℕ) → at first place ≡ None) → RepresentsRequests first.edge [] → IsRun first events last → IsIsolatedRun events last
+    (first last : State) (events : List ClientEvent) → ((place : ℕ) → at first place ≡ None) → RepresentsRequests first.edge [] → EventsLeadTo first events last → IsIsolatedRun events last

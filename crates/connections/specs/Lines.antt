@@ -3,16 +3,16 @@ use Rattle.std.specs.Prelude.{◌≡◌, ℕ, ◌+◌, ◌≤◌, ◌==◌, ◌|
 
 -- ---- a line, the first one first
 
-abbrev pub stands_in : ℕ → List ℕ → Bool
-stands_in place [] = false
-stands_in place (one ∷ behind) = one == place || stands_in place behind
+abbrev pub is_in_line : ℕ → List ℕ → Bool
+is_in_line place [] = false
+is_in_line place (one ∷ behind) = one == place || is_in_line place behind
 
 abbrev pub is_other : ℕ → ℕ → Bool
 is_other place one = not (one == place)
 
 -- behind all others, unless it stands there already
 abbrev pub line_with : ℕ → List ℕ → List ℕ
-line_with place line = if stands_in place line then line else line ++ place ∷ []
+line_with place line = if is_in_line place line then line else line ++ place ∷ []
 
 abbrev pub first_in : List ℕ → Option ℕ
 first_in [] = None
@@ -64,7 +64,7 @@ concerns place calls line = is_first place line
 
 -- it stands in this line, and none of these events takes it out
 abbrev pub Waits : ℕ → List ℕ → List LineEvent → Type 0
-Waits place line [] = stands_in place line ≡ true
+Waits place line [] = is_in_line place line ≡ true
 Waits place line (e ∷ before) = Waits place line before × (concerns place e (line_after line before) ≡ false)
 
 -- while a client waits, no more calls are made than clients stood before it: so none that joined later is called before it

@@ -26,12 +26,12 @@ said place (reply_bytes k count ∷ before) = said place before
 said place (departure k ∷ before) = said place before
 
 -- how many bytes it took of its reply
-abbrev pub taken : ℕ → List ClientEvent → ℕ
-taken place [] = 0
-taken place (arrival k ∷ before) = if k == place then 0 else taken place before
-taken place (request_bytes k piece ∷ before) = taken place before
-taken place (reply_bytes k count ∷ before) = if k == place then taken place before + count else taken place before
-taken place (departure k ∷ before) = taken place before
+abbrev pub reply_bytes_taken : ℕ → List ClientEvent → ℕ
+reply_bytes_taken place [] = 0
+reply_bytes_taken place (arrival k ∷ before) = if k == place then 0 else reply_bytes_taken place before
+reply_bytes_taken place (request_bytes k piece ∷ before) = reply_bytes_taken place before
+reply_bytes_taken place (reply_bytes k count ∷ before) = if k == place then reply_bytes_taken place before + count else reply_bytes_taken place before
+reply_bytes_taken place (departure k ∷ before) = reply_bytes_taken place before
 
 -- ---- what is served
 
@@ -74,7 +74,7 @@ IsOneOf s (one ∷ more) = (s ≡ one) ⊎ IsOneOf s more
 pub record IsAsking (place : ℕ) (events : List ClientEvent) (bytes : List ℕ) : Type 0 where
   pub all : bytes ≡ said place events
   pub unfinished : IsUnfinished bytes
-  pub untaken : taken place events ≡ 0
+  pub untaken : reply_bytes_taken place events ≡ 0
 
 -- it was served by what it said first itself, and is still owed all of that reply that it didn't take
 pub record HasReply (place : ℕ) (events : List ClientEvent) (services : List Service) (rest : List ℕ) (status : ℕ) : Type 0 where
@@ -85,32 +85,32 @@ pub record HasReply (place : ℕ) (events : List ClientEvent) (services : List S
   pub more : List ℕ
   pub said_is : said place events ≡ service.bytes ++ more
   pub status_is : status ≡ service.status
-  pub rest_is : rest ≡ drop (taken place events) service.text
+  pub rest_is : rest ≡ drop (reply_bytes_taken place events) service.text
 
-abbrev pub StandsAt : ℕ → List ClientEvent → List Service → Option Conversation → Type 0
-StandsAt place events services None = Unit {0}
-StandsAt place events services (Some (Asking bytes pieces)) = IsAsking place events bytes
-StandsAt place events services (Some (Answering rest status)) = HasReply place events services rest status
+abbrev pub ConversationStandsAt : ℕ → List ClientEvent → List Service → Option Conversation → Type 0
+ConversationStandsAt place events services None = Unit {0}
+ConversationStandsAt place events services (Some (Asking bytes pieces)) = IsAsking place events bytes
+ConversationStandsAt place events services (Some (Answering rest status)) = HasReply place events services rest status
 
 -- ---- runs
 
-abbrev pub IsRun : State → List ClientEvent → State → Type 0
-IsRun first [] last = last ≡ first
-IsRun first (e ∷ before) last = (middle : State) × IsRun first before middle × Happens middle e last
+abbrev pub EventsLeadTo : State → List ClientEvent → State → Type 0
+EventsLeadTo first [] last = last ≡ first
+EventsLeadTo first (e ∷ before) last = (middle : State) × EventsLeadTo first before middle × Happens middle e last
 
 -- things that happen at places lead from one to the other
 pub record HasRun (old new : State) : Type 0 where
   pub events : List ClientEvent
-  pub run : IsRun old events new
+  pub run : EventsLeadTo old events new
 
 -- all that was served, in the order in which it became whole, and each connection by itself
 pub record IsServedRun (first : State) (events : List ClientEvent) (last : State) : Type 0 where
   pub services : List Service
   pub turns : InTurn first.edge services last.edge
   pub pieces : AreOf events services
-  pub each : (place : ℕ) → StandsAt place events services (at last place)
+  pub each : (place : ℕ) → ConversationStandsAt place events services (at last place)
 
 -- whatever happens, from no connections on
 abbrev pub ConnectionsAreServed : Type 0
 ConnectionsAreServed =
-    (first last : State) (events : List ClientEvent) → ((place : ℕ) → at first place ≡ None) → IsRun first events last → IsServedRun first events last
+    (first last : State) (events : List ClientEvent) → ((place : ℕ) → at first place ≡ None) → EventsLeadTo first events last → IsServedRun first events last

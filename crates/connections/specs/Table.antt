@@ -51,16 +51,16 @@ pub data ClientEvent : Type 0 where
   departure : ℕ → ClientEvent
 
 -- only this place is another, and it is this
-pub record Puts (old new : State) (place : ℕ) (it : Option Conversation) : Type 0 where
+pub record PutsAtPlace (old new : State) (place : ℕ) (it : Option Conversation) : Type 0 where
   pub here : at new place ≡ it
   pub others : (other : ℕ) → other ≢ place → at new other ≡ at old other
   pub count : length new.places ≡ length old.places
 
 -- if there is a connection it goes on
-abbrev pub GoesOn : Option Conversation → State → ℕ → List ℕ → State → Type 0
-GoesOn None old place piece new = Puts old new place None × (new.edge ≡ old.edge)
-GoesOn (Some conversation) old place piece new =
-    (after : Conversation) × Goes conversation piece old.edge new.edge after × Puts old new place (Some after)
+abbrev pub ConversationGoesOn : Option Conversation → State → ℕ → List ℕ → State → Type 0
+ConversationGoesOn None old place piece new = PutsAtPlace old new place None × (new.edge ≡ old.edge)
+ConversationGoesOn (Some conversation) old place piece new =
+    (after : Conversation) × Goes conversation piece old.edge new.edge after × PutsAtPlace old new place (Some after)
 
 -- so many bytes of the reply are gone
 abbrev pub taken_of : ℕ → Option Conversation → Option Conversation
@@ -69,8 +69,8 @@ taken_of count None = None
 taken_of count (Some (Asking bytes pieces)) = Some (Asking bytes pieces)
 
 abbrev pub Happens : State → ClientEvent → State → Type 0
-Happens old (arrival place) new = Puts old new place (Some (Asking [] 0)) × (new.edge ≡ old.edge)
-Happens old (request_bytes place piece) new = GoesOn (at old place) old place piece new
+Happens old (arrival place) new = PutsAtPlace old new place (Some (Asking [] 0)) × (new.edge ≡ old.edge)
+Happens old (request_bytes place piece) new = ConversationGoesOn (at old place) old place piece new
 Happens old (reply_bytes place count) new =
-    (count ≤ length (left_of (at old place))) × Puts old new place (taken_of count (at old place)) × (new.edge ≡ old.edge)
-Happens old (departure place) new = Puts old new place None × (new.edge ≡ old.edge)
+    (count ≤ length (left_of (at old place))) × PutsAtPlace old new place (taken_of count (at old place)) × (new.edge ≡ old.edge)
+Happens old (departure place) new = PutsAtPlace old new place None × (new.edge ≡ old.edge)

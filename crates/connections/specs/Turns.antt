@@ -8,7 +8,7 @@ use Rattle.connections.specs.declared.turns.Turn.{Turn}
 use Rattle.connections.specs.declared.turns.Turn.TheVariants.{Waits, Goes, Full, Done, Failed}
 use Rattle.connections.specs.Devices.{DeviceStand, Calls, one_call}
 use Rattle.connections.specs.Table.{State, at, left_of, request_bytes, reply_bytes, departure, Happens}
-use Rattle.connections.specs.Runs.{IsRun}
+use Rattle.connections.specs.Runs.{EventsLeadTo}
 use Rattle.connections.specs.Arrivals.{is_asking}
 use Rattle.connections.specs.Wires.{GoesHeard, GoesTold}
 
@@ -36,9 +36,9 @@ IfGone Done P = Unit {0}
 -- ---- hearing
 
 -- pieces one after the other, of which the newest stands first
-abbrev pub joined : List (List ℕ) → List ℕ
-joined [] = []
-joined (piece ∷ before) = joined before ++ piece
+abbrev pub bytes_of_pieces : List (List ℕ) → List ℕ
+bytes_of_pieces [] = []
+bytes_of_pieces (piece ∷ before) = bytes_of_pieces before ++ piece
 
 -- the client at this place said these pieces, the newest first, and each while its request wasn't whole
 abbrev pub SaidWhileAsking : ℕ → State → List (List ℕ) → State → Type 0
@@ -50,7 +50,7 @@ SaidWhileAsking place old (piece ∷ before) new =
 -- one that made the request whole
 pub record HasListened (reader_old reader_new : DeviceStand) (place : ℕ) (old new : State) : Type 0 where
   pub pieces : List (List ℕ)
-  pub given : Consumes reader_old.bytes reader_new.bytes (joined pieces)
+  pub given : Consumes reader_old.bytes reader_new.bytes (bytes_of_pieces pieces)
   pub run : SaidWhileAsking place old pieces new
 
 -- so it was until the last call, after which the client went for this fault
@@ -69,7 +69,7 @@ pub record HasSpoken (writer_old writer_new : DeviceStand) (place : ℕ) (old ne
   pub taken : Appends writer_old.bytes writer_new.bytes (take count (left_of (at old place)))
   pub left : left_of (at new place) ≡ drop count (left_of (at old place))
   pub counts : List ℕ
-  pub run : IsRun old (map (reply_bytes place) counts) new
+  pub run : EventsLeadTo old (map (reply_bytes place) counts) new
 
 -- so it was until the last call, after which the client went for this fault
 pub record HasSpokenUntil (fault : EdgeFault) (writer_old writer_new : DeviceStand) (place : ℕ) (old new : State) : Type 0 where

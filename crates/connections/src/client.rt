@@ -3,7 +3,7 @@ ghost use Rattle.std.specs.Prelude.{◌≡◌, ◌<◌, ◌+◌, ◌≢◌, ℕ,
 ghost use Rattle.connections.specs.declared.devices.Passage.TheVariants.{WouldWait};
 ghost use Rattle.connections.specs.Arrivals.{is_asking};
 ghost use Rattle.http_edge.specs.Served.{BeginsWithRead};
-ghost use Rattle.connections.specs.Clients.{AreSent, HasEnded, HasMoved, HasToWait, HasTurned, HasTurnedUntil, IfAtOnce, IsShort};
+ghost use Rattle.connections.specs.Clients.{AreSent, ConnectionHasEnded, HasMoved, HasToWait, HasTurned, HasTurnedUntil, IfAtOnce, IsShort};
 ghost use Rattle.connections.specs.Devices.{AreNext};
 ghost use Rattle.connections.specs.Limits.{most_held, drains_in_turn, writes_in_turn};
 ghost use Rattle.connections.specs.Runs.{HasRun};
@@ -211,7 +211,7 @@ impl<T: Incoming + Ending> Client<T> {
         ensures goes_on { result ≢ Turn.Done → self.new.is_ending ≡ true }
         ensures waits { result ≡ Turn.Waits →
             (T.Incoming.stand self.new.device).calls.last ≡ Some WouldWait }
-        ensures done { result ≡ Turn.Done → HasEnded was_granted
+        ensures done { result ≡ Turn.Done → ConnectionHasEnded was_granted
             (T.Incoming.stand self.new.device).calls.last }
         ensures room { result ≡ Turn.Full → ⊥ }
         ensures stays { IfGone result (λ fault. ⊥) }

@@ -1,6 +1,6 @@
 //! Whose turn it is. Those whose requests may take long stand in line, and the first of them is called.
 ghost use Rattle.std.specs.Prelude.{◌≡◌, [], filter, length, IfOk, OnOk, OnErr};
-ghost use Rattle.connections.specs.Lines.{stands_in, is_other, first_in, after, joins, leaves, calls};
+ghost use Rattle.connections.specs.Lines.{is_in_line, is_other, first_in, after, joins, leaves, calls};
 
 use std::alloc::{AllocError, Global};
 use std::marker::Model;
@@ -61,7 +61,7 @@ impl Model for Line {
 }
 
 fn stands_in(places: &[usize], place: usize) -> bool
-    ensures { result ≡ stands_in place places.now }
+    ensures { result ≡ is_in_line place places.now }
 {
     for other in places {
         if *other == place {
@@ -90,7 +90,7 @@ impl Line {
 
     /// Whether the client at `place` stands in it.
     pub fn has(&self, place: usize) -> bool
-        ensures { result ≡ stands_in place self.now }
+        ensures { result ≡ is_in_line place self.now }
     {
         stands_in(self.places.as_slice(), place)
     }

@@ -8,7 +8,7 @@ ghost use Rattle.connections.specs.Inner.Giving.{IsFaultOfGiving};
 ghost use Rattle.connections.specs.Inner.Reads.{is_read};
 ghost use Rattle.connections.specs.Limits.{most_held, place_count};
 ghost use Rattle.connections.specs.Arrivals.{is_asking};
-ghost use Rattle.connections.specs.Table.{at, held_of, held_in, left_of, taken_of, phase_of, Puts, Happens};
+ghost use Rattle.connections.specs.Table.{at, held_of, held_in, left_of, taken_of, phase_of, PutsAtPlace, Happens};
 ghost use Rattle.connections.specs.Table.{arrival, request_bytes, reply_bytes, departure};
 ghost use Rattle.connections.specs.Seats.{places_below};
 
@@ -164,7 +164,7 @@ impl Connections {
     // Takes away what is at the place of `seat`.
     fn take_out<T>(&mut self, seat: &Seat<T>) -> Option<Conversation>
         ensures it { result ≡ at self.old seat.now }
-        ensures puts { Puts self.old self.new seat.now None }
+        ensures puts { PutsAtPlace self.old self.new seat.now None }
         ensures edge { self.new.edge ≡ self.old.edge }
         ensures held { held_in self.new.places + held_of result ≡ held_in self.old.places }
         ensures bound { held_in self.old.places ≤ most_held }
@@ -178,7 +178,7 @@ impl Connections {
     fn put_back<T>(&mut self, seat: &Seat<T>, conversation: Conversation)
         requires vacant { at self.old seat.now ≡ None }
         requires room { held_in self.old.places + held_of (Some conversation) ≤ most_held }
-        ensures puts { Puts self.old self.new seat.now (Some conversation) }
+        ensures puts { PutsAtPlace self.old self.new seat.now (Some conversation) }
         ensures edge { self.new.edge ≡ self.old.edge }
     {
         let it = Some(conversation);

@@ -4,7 +4,7 @@ use Rattle.std.specs.Prelude.{IsAscii, ◌==◌}
 use Rattle.std.proofs.lemmas.Str.{IsAscii-append}
 use Rattle.std.proofs.lemmas.Str.Ascii.{IsAscii-nil, IsAscii-cons}
 use Rattle.date_times.specs.Digits.{fixed_digits}
-use Rattle.date_times.specs.Times.{decimals, text_at}
+use Rattle.date_times.specs.Times.{decimals, time_text_at}
 use Rattle.date_times.proofs.WrittenDigits.{fixed_ascii}
 
 one_ascii : (b : Bool) (x y : List ℕ) → IsAscii x → IsAscii y → IsAscii (cond b x y)
@@ -15,7 +15,7 @@ one_ascii false x y h g = g
 ascii_then : (k n mark : ℕ) (rest : List ℕ) → mark < 128 → IsAscii rest → IsAscii (fixed_digits 10 k n ++ mark ∷ rest)
 ascii_then k n mark rest h g = IsAscii-append (fixed_digits 10 k n) (mark ∷ rest) (fixed_ascii k n) (IsAscii-cons mark rest h g)
 
-pub text_ascii : (n : ℕ) → IsAscii (text_at n)
+pub text_ascii : (n : ℕ) → IsAscii (time_text_at n)
 text_ascii n =
     let nanos = n % 1000000000 in
     let fraction = IsAscii-append (decimals nanos) (90 ∷ []) (one_ascii (nanos % 1000000 == 0) (fixed_digits 10 3 (nanos / 1000000)) (fixed_digits 10 9 nanos) (fixed_ascii 3 (nanos / 1000000)) (fixed_ascii 9 nanos))

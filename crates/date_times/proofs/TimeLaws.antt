@@ -9,7 +9,7 @@ use Rattle.std.proofs.lemmas.Bool.Decides.{nat_tests}
 use Rattle.std.proofs.lemmas.List.{take_at, drop_at}
 use Rattle.date_times.specs.Instant.{field, are_digits, is_date, has_date_form, is_clock, has_clock_form, seconds_at, day_number, days_in_month, days_before_month, days_before_year, fraction_len, is_fraction, fraction_nanos, zone_offset, instant_at, instant_of, nanos_from_1970, in_range}
 use Rattle.date_times.specs.Digits.{fixed_digits}
-use Rattle.date_times.specs.Times.{from_1900, year_after, month_after, date_text, decimals, text_at, time_text}
+use Rattle.date_times.specs.Times.{from_1900, year_after, month_after, date_text, decimals, time_text_at, time_text}
 use Rattle.date_times.proofs.FixedDigits.{fixed, are_own}
 use Rattle.date_times.proofs.Dates.{in_year, InYear, in_month, InMonth, year_months}
 
@@ -138,7 +138,7 @@ decimals_read false n e h =
 abbrev seconds_from_0 : ℕ → ℕ
 seconds_from_0 n = 59958230400 + n / 1000000000
 
-text_reads : (n : ℕ) → n < 9467107200000000000 → instant_of (text_at n) ≡ instant_at (seconds_from_0 n) (n % 1000000000) (Some (pos 0))
+text_reads : (n : ℕ) → n < 9467107200000000000 → instant_of (time_text_at n) ≡ instant_at (seconds_from_0 n) (n % 1000000000) (Some (pos 0))
 unfolding stamp
 text_reads n h =
     let days = n / 86400000000000 in

@@ -6,7 +6,7 @@ use Rattle.std.specs.List.{list_all, prefix_len}
 use Rattle.std.specs.Char.{is_ascii_digit}
 use Rattle.std.specs.Str.Parse.{digits_value}
 use Rattle.spec_words.specs.Bytes.{plus, hyphen, point, colon, capital_t, capital_z}
-use Rattle.fixed_duration.specs.Text.{number_of, nine_digits}
+use Rattle.fixed_duration.specs.Text.{value_of_digits, nine_digits}
 
 -- the number that the digits from i up to j write
 abbrev pub field : List ℕ → ℕ → ℕ → ℕ
@@ -83,7 +83,7 @@ is_fraction len = len == 0 || (nat_le 2 len && nat_le len 10)
 
 -- the nanoseconds of the digits after the point
 abbrev pub fraction_nanos : List ℕ → ℕ
-fraction_nanos digits = number_of (nine_digits digits)
+fraction_nanos digits = value_of_digits (nine_digits digits)
 
 -- seconds east of UTC: `hh:mm`, `hhmm` or `hh` after the sign
 abbrev pub offset_seconds : List ℕ → Option ℕ

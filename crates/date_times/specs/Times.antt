@@ -35,13 +35,13 @@ abbrev pub decimals : ℕ → List ℕ
 decimals nanos = if nanos % 1000000 == 0 then fixed_digits 10 3 (nanos / 1000000) else fixed_digits 10 9 nanos
 
 -- the text of the instant so many nanoseconds after 1900
-abbrev pub text_at : ℕ → List ℕ
-text_at n =
+abbrev pub time_text_at : ℕ → List ℕ
+time_text_at n =
     let year = year_after 300 1900 (n / 86400000000000) in let month = month_after 12 year.0 1 year.1 in
     date_text year.0 month.0 (month.1 + 1) (capital_t ∷ clock_text (n / 1000000000 % 86400) (point ∷ (decimals (n % 1000000000) ++ capital_z ∷ [])))
 
 abbrev pub time_text : ℤ → List ℕ
-time_text t = text_at (from_1900 t)
+time_text t = time_text_at (from_1900 t)
 
 -- the date so many days after the first of 1900
 abbrev pub date_at : ℕ → List ℕ

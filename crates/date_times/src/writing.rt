@@ -2,7 +2,7 @@
 ghost use Rattle.std.specs.Prelude.{◌≡◌, ◌++◌, ◌<◌, ◌≤◌, ◌^◌, ◌+◌, ◌-◌, ◌*◌, ◌/◌, [], ◌∷◌, take, OnErr, string_bytes, Some, true};
 ghost use Rattle.date_times.specs.Instant.{is_leap, days_in_month, in_range, instant_of};
 ghost use Rattle.date_times.specs.Digits.{fixed_digits};
-ghost use Rattle.date_times.specs.Times.{from_1900, days_in_year, year_after, month_after, decimals, date_at, clock_text, text_at, time_text};
+ghost use Rattle.date_times.specs.Times.{from_1900, days_in_year, year_after, month_after, decimals, date_at, clock_text, time_text_at, time_text};
 ghost use Rattle.fixed_duration.specs.Appended.{Appends};
 
 use crate::{FIRST_INSTANT, Instant};
@@ -230,7 +230,7 @@ fn put_decimals(text: &mut [u8; LONGEST], nanos: u64) -> usize
 // Writes what stands after the date of the instant so many nanoseconds after 1900, and returns where it ends.
 fn put_after_date(text: &mut [u8; LONGEST], nanos: u64) -> usize
     requires { take 10 text.old ≡ date_at (nanos / 86400000000000) }
-    ensures text { take result text.new ≡ text_at nanos }
+    ensures text { take result text.new ≡ time_text_at nanos }
     ensures room { result ≤ 30 }
 {
     put_mark(text, 10, b'T');

@@ -11,14 +11,14 @@ use Rattle.fixed_duration.specs.Duration.{duration_of}
 use Rattle.playlist_model.specs.declared.ByteRange.{ByteRange}
 use Rattle.playlist_model.specs.declared.Key.{Key}
 use Rattle.pod_store.specs.Limits.{most_pod_segments}
-use Rattle.pod_store.specs.Pods.{PodSegment, Ad, is_uri, is_method, is_format, segment_count}
+use Rattle.pod_store.specs.Pods.{PodSegment, Ad, is_uri, is_key_method, is_format, segment_count}
 use Rattle.serde_json.specs.Data.{Data}
 use Rattle.serde_json.specs.Find.{get, as_object}
 use Rattle.pod_store.specs.declared.fault.DecisionFault.{DecisionFault}
 use Rattle.pod_store.specs.declared.fault.Place.{Place}
 use Rattle.pod_store.specs.declared.fault.DecisionKind.TheVariants.{Shape, BadUri, BadDuration, BadKey, EmptyPod, TooMany}
 use Rattle.spec_words.specs.Outcomes.{◌>>=◌, or_fault, mended, refuse_if, optional, some_value, each_after}
-use Rattle.pod_store.specs.Outcome.{Outcome, fault_at, in_ad, in_segment}
+use Rattle.pod_store.specs.Outcome.{DecisionOutcome, fault_at, in_ad, in_segment}
 use Rattle.decision_files.specs.Json.{text_at, list_at}
 use Rattle.decision_files.specs.Decided as said
 use Rattle.pod_store.specs.Rules.{byte_range_fits, segment_keeps, key_keeps, ad_keeps, ads_keep}
@@ -28,25 +28,25 @@ use Rattle.decision_files.proofs.Bounds.{duration_is_small}
 
 -- ---- steps that are passed
 
-pub record Passed {A B : Type 0} (first : Outcome A) (next : A → Outcome B) (y : B) : Type 0 where
+pub record Passed {A B : Type 0} (first : DecisionOutcome A) (next : A → DecisionOutcome B) (y : B) : Type 0 where
   pub x : A
   pub was : first ≡ Ok x
   pub then : next x ≡ Ok y
 
 module _ {A B : Type 0} where
-  bind_ok : (m : Outcome A) (f : A → Outcome B) (y : B) → (m >>= f) ≡ Ok y → Passed m f y
+  bind_ok : (m : DecisionOutcome A) (f : A → DecisionOutcome B) (y : B) → (m >>= f) ≡ Ok y → Passed m f y
   bind_ok (Ok x) f y h = record { x = x; was = refl; then = h }
   bind_ok (Err e) f y h = absurd (cc)
 
   -- what holds of each answer of what follows, holds of the answer
-  after : (P : B → Type 0) (m : Outcome A) (f : A → Outcome B) → ((x : A) → m ≡ Ok x → (y : B) → f x ≡ Ok y → P y) → (y : B) → (m >>= f) ≡ Ok y → P y
+  after : (P : B → Type 0) (m : DecisionOutcome A) (f : A → DecisionOutcome B) → ((x : A) → m ≡ Ok x → (y : B) → f x ≡ Ok y → P y) → (y : B) → (m >>= f) ≡ Ok y → P y
   after P m f each y h = let p = bind_ok m f y h in each p.x p.was y p.then
 
-passed : {A : Type 0} (P : A → Type 0) (test : Bool) (e : DecisionFault) (o : Outcome A) → (test ≡ false → (x : A) → o ≡ Ok x → P x) → (x : A) → refuse_if test e o ≡ Ok x → P x
+passed : {A : Type 0} (P : A → Type 0) (test : Bool) (e : DecisionFault) (o : DecisionOutcome A) → (test ≡ false → (x : A) → o ≡ Ok x → P x) → (x : A) → refuse_if test e o ≡ Ok x → P x
 passed P true e o each x h = absurd (cc)
 passed P false e o each x h = each refl x h
 
-abbrev Are : {A : Type 0} → Outcome A → Outcome A → Type 0
+abbrev Are : {A : Type 0} → DecisionOutcome A → DecisionOutcome A → Type 0
 Are a b = a ≡ b
 
 same_ok : {A : Type 0} (x y : A) → Are (Ok x) (Ok y) → x ≡ y
@@ -104,7 +104,7 @@ next_keeps ad before done d =
 
 -- ---- lists
 
-module _ {A B : Type 0} (test : B → Bool) (next : List B → A → Outcome B) (keeps : (done : List B) (x : A) (y : B) → next done x ≡ Ok y → test y ≡ true) where
+module _ {A B : Type 0} (test : B → Bool) (next : List B → A → DecisionOutcome B) (keeps : (done : List B) (x : A) (y : B) → next done x ≡ Ok y → test y ≡ true) where
   pub each_keeps : (done : List B) (xs : List A) → list_all test done ≡ true → (ys : List B) → each_after next done xs ≡ Ok ys → list_all test ys ≡ true
   each_keeps done [] h = answers (λ ys. list_all test ys ≡ true) done h
   each_keeps done (x ∷ xs) h =
@@ -123,7 +123,7 @@ identity_is : HasFormat None
 unfolding chars is_utf8 lib.Utf8.encode
 identity_is = refl
 
-method_is : (place : Place) (d : Data) (m : List ℕ) → said.method_said place d ≡ Ok m → is_method m ≡ true
+method_is : (place : Place) (d : Data) (m : List ℕ) → said.method_said place d ≡ Ok m → is_key_method m ≡ true
 method_is place d = grind arith
 
 key_uri_is : (place : Place) (d : Data) (m : List ℕ) → said.key_uri_said place d ≡ Ok m → is_uri m ≡ true
@@ -134,11 +134,11 @@ key_uri_is place d =
 format_is : (place : Place) (d : Data) (m : List ℕ) → said.format_said place d ≡ Ok m → is_format m ≡ true
 format_is place d = grind arith
 
-some_is : {A : Type 0} (P : Option A → Type 0) (o : Outcome A) → ((x : A) → o ≡ Ok x → P (Some x)) → (y : Option A) → some_value o ≡ Ok y → P y
+some_is : {A : Type 0} (P : Option A → Type 0) (o : DecisionOutcome A) → ((x : A) → o ≡ Ok x → P (Some x)) → (y : Option A) → some_value o ≡ Ok y → P y
 some_is P (Ok x) each = answers P (Some x) (each x refl)
 some_is P (Err e) each = λ y h. absurd (cc)
 
-optional_is : {A B : Type 0} (P : Option B → Type 0) (read : A → Outcome B) (o : Option A) → P None → ((a : A) (x : B) → read a ≡ Ok x → P (Some x)) → (y : Option B) → optional read o ≡ Ok y → P y
+optional_is : {A B : Type 0} (P : Option B → Type 0) (read : A → DecisionOutcome B) (o : Option A) → P None → ((a : A) (x : B) → read a ≡ Ok x → P (Some x)) → (y : Option B) → optional read o ≡ Ok y → P y
 optional_is P read None none each = answers P None none
 optional_is P read (Some a) none each = some_is P (read a) (each a)
 
@@ -184,7 +184,7 @@ SegmentsKeep segments = (nat_lt 0 (length segments) ≡ true) × (list_all segme
 abbrev AdKeeps : Ad → Type 0
 AdKeeps ad = ad_keeps ad ≡ true
 
-none_after : {A B : Type 0} (next : List B → A → Outcome B) (done : List B) (xs : List A) (n : ℕ) → length done ≡ n → (ys : List B) → each_after next done xs ≡ Ok ys → length ys ≡ n + length xs
+none_after : {A B : Type 0} (next : List B → A → DecisionOutcome B) (done : List B) (xs : List A) (n : ℕ) → length done ≡ n → (ys : List B) → each_after next done xs ≡ Ok ys → length ys ≡ n + length xs
 none_after next done [] n e = answers (λ ys. length ys ≡ n + 0) done (omega (arith, e))
 none_after {B = B} next done (x ∷ xs) n e =
     after (λ ys. length ys ≡ n + length (x ∷ xs)) (next done x) (λ y. each_after next (done ++ y ∷ []) xs)
@@ -199,7 +199,7 @@ none_after {B = B} next done (x ∷ xs) n e =
 not_none : (n : ℕ) → (n == 0) ≡ false → nat_lt 0 n ≡ true
 not_none n h = grind (arith, nat_tests)
 
-some_read : {A B : Type 0} (next : List B → A → Outcome B) (xs : List A) (ys : List B) → (length xs == 0) ≡ false → each_after next [] xs ≡ Ok ys → nat_lt 0 (length ys) ≡ true
+some_read : {A B : Type 0} (next : List B → A → DecisionOutcome B) (xs : List A) (ys : List B) → (length xs == 0) ≡ false → each_after next [] xs ≡ Ok ys → nat_lt 0 (length ys) ≡ true
 some_read next xs ys some h = let e : length ys ≡ length xs = omega (arith, none_after next [] xs 0 refl ys h) in subst (λ n. nat_lt 0 n ≡ true) (sym e) (not_none (length xs) some)
 
 segments_keep : (ad : Place) (before : ℕ) (d : Data) (segments : List PodSegment) → said.segments_said ad before d ≡ Ok segments → SegmentsKeep segments

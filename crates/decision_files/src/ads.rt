@@ -3,10 +3,10 @@ ghost use Rattle.std.specs.Prelude.{◌≡◌, ◌≤◌, ◌+◌, IfOk, map, co
 ghost use Rattle.serde_json.specs.View.{view};
 ghost use Rattle.serde_json.specs.Find.{get};
 ghost use Rattle.spec_words.specs.Outcomes.{each_after, optional};
-ghost use Rattle.pod_store.specs.Outcome.{Gives, fault_at};
+ghost use Rattle.pod_store.specs.Outcome.{GivesOrDecisionFault, fault_at};
 ghost use Rattle.pod_store.specs.Pods.{segment_count};
 ghost use Rattle.decision_files.specs.Decided.{init_section_said, key_said, ad_said, next_ad, pod_said, ad_of};
-ghost use Rattle.decision_files.specs.Inner.Views.{part_of};
+ghost use Rattle.decision_files.specs.Inner.Views.{view_of_part};
 
 use crate::keys::{Part, init_section_said, init_section_with, key_said, keys_of};
 use crate::segments::segments_said;
@@ -20,7 +20,7 @@ fn stated_init_section(
     place: Place,
     value: &Value,
 ) -> Result<Option<Part>, DecisionFault>
-    ensures { Gives (option_map part_of) result
+    ensures { GivesOrDecisionFault (option_map view_of_part) result
         (optional (init_section_said place) (get (codes "map") (view value.now))) }
 {
     match value.get("map") {
@@ -30,7 +30,7 @@ fn stated_init_section(
 }
 
 fn stated_key(alloc: Global, place: Place, value: &Value) -> Result<Option<Key>, DecisionFault>
-    ensures { Gives (λ key. key) result
+    ensures { GivesOrDecisionFault (λ key. key) result
         (optional (key_said place) (get (codes "key") (view value.now))) }
 {
     match value.get("key") {
@@ -45,7 +45,7 @@ fn ad_of(
     key: Option<Key>,
     segments: Vec<PodSegment>,
 ) -> Result<Ad, AllocError>
-    ensures { IfOk result (λ ad. ad ≡ ad_of (option_map part_of part) key segments.items) }
+    ensures { IfOk result (λ ad. ad ≡ ad_of (option_map view_of_part part) key segments.items) }
 {
     let keys = keys_of(alloc, key)?;
     let init_section = match part {
@@ -62,7 +62,7 @@ fn ad_of(
 // The ad at a place, whose pod has so many segments in the ads before.
 fn ad_said(alloc: Global, place: Place, before: usize, value: &Value) -> Result<Ad, DecisionFault>
     requires { before ≤ MAX_POD_SEGMENTS }
-    ensures said { Gives (λ a. a) result (ad_said place before (view value.now)) }
+    ensures said { GivesOrDecisionFault (λ a. a) result (ad_said place before (view value.now)) }
     ensures most { IfOk result (λ a. before + segment_count a ≤ MAX_POD_SEGMENTS) }
 {
     let part = stated_init_section(alloc, place, value)?;
@@ -73,7 +73,7 @@ fn ad_said(alloc: Global, place: Place, before: usize, value: &Value) -> Result<
 
 // The ads of these objects, of the pod at a place.
 fn ads_of(alloc: Global, pod: Place, list: &[Value]) -> Result<Vec<Ad>, DecisionFault>
-    ensures said { Gives (λ v. v.items) result (each_after (next_ad pod) [] (map view list.now)) }
+    ensures said { GivesOrDecisionFault (λ v. v.items) result (each_after (next_ad pod) [] (map view list.now)) }
     ensures most { IfOk result (λ v. sum (map segment_count v.items) ≤ MAX_POD_SEGMENTS) }
 {
     let mut done: Vec<Ad> = Vec::new(alloc);
@@ -91,7 +91,7 @@ fn ads_of(alloc: Global, pod: Place, list: &[Value]) -> Result<Vec<Ad>, Decision
 /// The pod that `ads` state, which stand at `place`: in a break, or in none. `EmptyPod` if there are none; then the
 /// faults of each ad in turn; `OutOfMemory` only if an allocation fails.
 pub fn pod_said(alloc: Global, place: Place, ads: &[Value]) -> Result<Pod, DecisionFault>
-    ensures said { Gives (λ p. p) result (pod_said place (map view ads.now)) }
+    ensures said { GivesOrDecisionFault (λ p. p) result (pod_said place (map view ads.now)) }
 
     // That there are none is answered whatever memory there is.
     ensures told { ads.now ≡ [] → result ≡ Err (fault_at place DecisionKind.EmptyPod) }

@@ -3,8 +3,8 @@ ghost use Rattle.std.specs.Prelude.{◌≡◌, false, ◌∷◌, ◌++◌, [], m
 ghost use Rattle.serde_json.specs.View.{view};
 ghost use Rattle.std.specs.Str.{is_utf8};
 ghost use Rattle.spec_words.specs.Outcomes.{each_after, GivesExactly, Tells};
-ghost use Rattle.pod_store.specs.Outcome.{Gives, nowhere, fault_at};
-ghost use Rattle.decision_files.specs.Decided.{id_said, pod_said, break_said, next_break, breaks_said, withdraw_said, fallback_pod, fallback_said, value_said, json_of, decisions_of};
+ghost use Rattle.pod_store.specs.Outcome.{GivesOrDecisionFault, nowhere, fault_at};
+ghost use Rattle.decision_files.specs.Decided.{id_said, pod_said, decision_said, next_break, breaks_said, withdraw_said, fallback_pod, fallback_said, value_said, json_of, decisions_of};
 
 use crate::ads::pod_said;
 use crate::members::{list_at, text_at, values_of};
@@ -33,7 +33,8 @@ fn break_said<'a>(
     before: &mut IdSet<'a>,
     value: &'a Value,
 ) -> Result<Decision, DecisionFault>
-    ensures said { Gives (λ d. d) result (break_said pod before.old (view value.now)) }
+    ensures said { GivesOrDecisionFault (λ d. d) result
+        (decision_said pod before.old (view value.now)) }
     ensures ids { IfOk result (λ d. before.new ≡ before.old ++ d.0 ∷ []) }
 {
     let place = Place::in_break(pod);
@@ -52,7 +53,8 @@ fn breaks_of(
     hashing: RandomState,
     list: &[Value],
 ) -> Result<Vec<Decision>, DecisionFault>
-    ensures { Gives (λ v. v.items) result (each_after next_break [] (map view list.now)) }
+    ensures { GivesOrDecisionFault (λ v. v.items) result
+        (each_after next_break [] (map view list.now)) }
 {
     let mut done: Vec<Decision> = Vec::new(alloc);
     let mut ids = IdSet::new(alloc, hashing);
@@ -70,7 +72,7 @@ fn breaks_said(
     hashing: RandomState,
     value: &Value,
 ) -> Result<Decisions, DecisionFault>
-    ensures { Gives (λ d. d) result (breaks_said (view value.now)) }
+    ensures { GivesOrDecisionFault (λ d. d) result (breaks_said (view value.now)) }
 {
     let list = values_of(value).ok_or(Place::nowhere().fault(DecisionKind::Shape))?;
     let breaks = breaks_of(alloc, hashing, list)?;
@@ -78,7 +80,7 @@ fn breaks_said(
 }
 
 fn withdraw_said(alloc: Global, value: &Value) -> Result<Decisions, DecisionFault>
-    ensures said { Gives (λ d. d) result (withdraw_said (view value.now)) }
+    ensures said { GivesOrDecisionFault (λ d. d) result (withdraw_said (view value.now)) }
     ensures told { Tells result (withdraw_said (view value.now)) }
 {
     let id = value
@@ -91,7 +93,7 @@ fn withdraw_said(alloc: Global, value: &Value) -> Result<Decisions, DecisionFaul
 }
 
 fn fallback_pod(alloc: Global, value: &Value) -> Result<Decisions, DecisionFault>
-    ensures { Gives (λ d. d) result (fallback_pod (view value.now)) }
+    ensures { GivesOrDecisionFault (λ d. d) result (fallback_pod (view value.now)) }
 {
     let nowhere = Place::nowhere();
     let ads = list_at(value, "ads").ok_or(nowhere.fault(DecisionKind::Shape))?;
@@ -100,7 +102,7 @@ fn fallback_pod(alloc: Global, value: &Value) -> Result<Decisions, DecisionFault
 }
 
 fn fallback_said(alloc: Global, value: &Value) -> Result<Decisions, DecisionFault>
-    ensures { Gives (λ d. d) result (fallback_said (view value.now)) }
+    ensures { GivesOrDecisionFault (λ d. d) result (fallback_said (view value.now)) }
 {
     if value.is_null() {
         return Ok(Decisions::NoFallback);
@@ -113,7 +115,7 @@ fn value_said(
     hashing: RandomState,
     value: &Value,
 ) -> Result<Decisions, DecisionFault>
-    ensures { Gives (λ d. d) result (value_said (view value.now)) }
+    ensures { GivesOrDecisionFault (λ d. d) result (value_said (view value.now)) }
 {
     let breaks = value.get("breaks");
     let withdraw = value.get("withdraw");
@@ -128,7 +130,7 @@ fn value_said(
 
 // The JSON value of these bytes.
 fn json_of(alloc: Global, bytes: &[u8]) -> Result<Value, DecisionFault>
-    ensures said { Gives view result (json_of bytes.now) }
+    ensures said { GivesOrDecisionFault view result (json_of bytes.now) }
     ensures told { is_utf8 bytes.now ≡ false
         → result ≡ Err (fault_at nowhere DecisionKind.NotJson) }
 {
@@ -160,7 +162,7 @@ pub fn read_decisions(
     hashing: RandomState,
     bytes: &[u8],
 ) -> Result<Decisions, DecisionFault>
-    ensures said { Gives (λ d. d) result (decisions_of bytes.now) }
+    ensures said { GivesOrDecisionFault (λ d. d) result (decisions_of bytes.now) }
 
     // Bytes that are no text are refused whatever memory there is.
     ensures told { is_utf8 bytes.now ≡ false

@@ -4,9 +4,9 @@ ghost use Rattle.std.specs.Option.{option_copied};
 ghost use Rattle.serde_json.specs.View.{view};
 ghost use Rattle.serde_json.specs.Find.{as_str, get};
 ghost use Rattle.spec_words.specs.Outcomes.{optional, or_fault, GivesExactly, Tells};
-ghost use Rattle.pod_store.specs.Outcome.{Gives};
-ghost use Rattle.decision_files.specs.Decided.{part_said, init_section_said, format_said, text_of, method_said, key_uri_said, iv_said, key_said, key_members, keys_of, init_section_with};
-ghost use Rattle.decision_files.specs.Inner.Views.{part_of};
+ghost use Rattle.pod_store.specs.Outcome.{GivesOrDecisionFault};
+ghost use Rattle.decision_files.specs.Decided.{part_said, init_section_said, format_said, text_said, method_said, key_uri_said, iv_said, key_said, key_members, keys_of, init_section_with};
+ghost use Rattle.decision_files.specs.Inner.Views.{view_of_part};
 
 use crate::members::{byte_range_said, text_at};
 use crate::texts::{is_format, is_method, is_uri};
@@ -52,7 +52,8 @@ pub fn part_said(
     uri: &str,
     value: &Value,
 ) -> Result<Part, DecisionFault>
-    ensures said { Gives part_of result (part_said place uri.now (view value.now)) }
+    ensures said { GivesOrDecisionFault view_of_part result
+        (part_said place uri.now (view value.now)) }
     ensures told { Tells result (part_said place uri.now (view value.now)) }
 {
     let byte_range = part_of_resource(place, uri, value)?;
@@ -63,15 +64,16 @@ pub fn part_said(
 /// The resource and the part of it that `value`, the initialisation section of an ad, states (RFC 8216, section
 /// 4.3.2.5). `Shape`, at `place`, if it is no object with a URI; then the faults of `part_said`.
 pub fn init_section_said(alloc: Global, place: Place, value: &Value) -> Result<Part, DecisionFault>
-    ensures said { Gives part_of result (init_section_said place (view value.now)) }
+    ensures said { GivesOrDecisionFault view_of_part result
+        (init_section_said place (view value.now)) }
     ensures told { Tells result (init_section_said place (view value.now)) }
 {
     let uri = text_at(value, "uri").ok_or(place.fault(DecisionKind::Shape))?;
     part_said(alloc, place, uri, value)
 }
 
-fn text_of(place: Place, value: &Value) -> Result<&str, DecisionFault>
-    ensures { GivesExactly (λ text. text.now) result (text_of place (view value.now)) }
+fn text_said(place: Place, value: &Value) -> Result<&str, DecisionFault>
+    ensures { GivesExactly (λ text. text.now) result (text_said place (view value.now)) }
 {
     value.as_str().ok_or(place.fault(DecisionKind::BadKey))
 }
@@ -79,7 +81,7 @@ fn text_of(place: Place, value: &Value) -> Result<&str, DecisionFault>
 fn format_said(place: Place, value: &Value) -> Result<&str, DecisionFault>
     ensures { GivesExactly (λ text. text.now) result (format_said place (view value.now)) }
 {
-    let text = text_of(place, value)?;
+    let text = text_said(place, value)?;
     if !is_format(text) {
         return Err(place.fault(DecisionKind::BadKey));
     }
@@ -127,7 +129,7 @@ fn iv_said(place: Place, value: &Value) -> Result<u128, DecisionFault>
 }
 
 fn key_members(alloc: Global, place: Place, value: &Value) -> Result<Key, DecisionFault>
-    ensures said { Gives (λ key. key) result (key_members place (view value.now)) }
+    ensures said { GivesOrDecisionFault (λ key. key) result (key_members place (view value.now)) }
     ensures told { Tells result (key_members place (view value.now)) }
 {
     let method = method_said(place, value)?;
@@ -146,7 +148,7 @@ fn key_members(alloc: Global, place: Place, value: &Value) -> Result<Key, Decisi
 /// The key that `value`, the key of an ad, states (RFC 8216, section 4.3.2.4). `Shape`, at `place`, if it is no
 /// object; then the faults of its members in turn.
 pub fn key_said(alloc: Global, place: Place, value: &Value) -> Result<Key, DecisionFault>
-    ensures said { Gives (λ key. key) result (key_said place (view value.now)) }
+    ensures said { GivesOrDecisionFault (λ key. key) result (key_said place (view value.now)) }
     ensures told { Tells result (key_said place (view value.now)) }
 {
     if !value.is_object() {
@@ -170,7 +172,7 @@ pub fn keys_of(alloc: Global, key: Option<Key>) -> Result<Keys, AllocError>
 /// allocation fails.
 pub fn init_section_with(keys: &Keys, part: Part) -> Result<InitSection, AllocError>
     ensures { IfOk result
-        (λ init_section. init_section ≡ init_section_with keys.now (part_of part)) }
+        (λ init_section. init_section ≡ init_section_with keys.now (view_of_part part)) }
 {
     Ok(InitSection {
         uri: part.uri,

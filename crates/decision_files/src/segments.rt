@@ -2,7 +2,7 @@
 ghost use Rattle.std.specs.Prelude.{◌≡◌, ◌≤◌, ◌+◌, ◌<◌, map, length, codes, [], Some, IfOk, OnOk};
 ghost use Rattle.serde_json.specs.View.{view};
 ghost use Rattle.spec_words.specs.Outcomes.{each_after, Tells};
-ghost use Rattle.pod_store.specs.Outcome.{Gives, fault_at};
+ghost use Rattle.pod_store.specs.Outcome.{GivesOrDecisionFault, fault_at};
 ghost use Rattle.decision_files.specs.Json.{list_at};
 ghost use Rattle.decision_files.specs.Decided.{segment_texts, segment_said, next_segment, segments_said};
 
@@ -21,7 +21,7 @@ fn segment_texts(
     duration: &str,
     value: &Value,
 ) -> Result<PodSegment, DecisionFault>
-    ensures said { Gives (λ s. s) result
+    ensures said { GivesOrDecisionFault (λ s. s) result
         (segment_texts place uri.now duration.now (view value.now)) }
     ensures told { Tells result (segment_texts place uri.now duration.now (view value.now)) }
 {
@@ -37,7 +37,7 @@ fn segment_texts(
 }
 
 fn segment_said(alloc: Global, place: Place, value: &Value) -> Result<PodSegment, DecisionFault>
-    ensures said { Gives (λ s. s) result (segment_said place (view value.now)) }
+    ensures said { GivesOrDecisionFault (λ s. s) result (segment_said place (view value.now)) }
     ensures told { Tells result (segment_said place (view value.now)) }
 {
     let uri = text_at(value, "uri").ok_or(place.fault(DecisionKind::Shape))?;
@@ -54,7 +54,7 @@ fn next_segment(
     value: &Value,
 ) -> Result<PodSegment, DecisionFault>
     requires { before ≤ MAX_POD_SEGMENTS }
-    ensures said { Gives (λ s. s) result
+    ensures said { GivesOrDecisionFault (λ s. s) result
         (next_segment ad before done.now.items (view value.now)) }
     ensures told { Tells result
         (next_segment ad before done.now.items (view value.now)) }
@@ -75,7 +75,7 @@ fn segments_of(
     list: &[Value],
 ) -> Result<Vec<PodSegment>, DecisionFault>
     requires { before ≤ MAX_POD_SEGMENTS }
-    ensures said { Gives (λ v. v.items) result
+    ensures said { GivesOrDecisionFault (λ v. v.items) result
         (each_after (next_segment ad before) [] (map view list.now)) }
     ensures most { IfOk result (λ v. before + length v.items ≤ MAX_POD_SEGMENTS) }
 {
@@ -99,7 +99,7 @@ pub fn segments_said(
     value: &Value,
 ) -> Result<Vec<PodSegment>, DecisionFault>
     requires { before ≤ MAX_POD_SEGMENTS }
-    ensures said { Gives (λ v. v.items) result (segments_said ad before (view value.now)) }
+    ensures said { GivesOrDecisionFault (λ v. v.items) result (segments_said ad before (view value.now)) }
 
     // That there are none is answered whatever memory there is.
     ensures told { list_at (codes "segments") (view value.now) ≡ Some []

@@ -3,15 +3,15 @@ use Rattle.std.specs.Prelude.{ℕ, ◌+◌, ◌*◌, ◌/◌, ◌%◌, ◌^◌, 
 use Rattle.spec_words.specs.Bytes.{point}
 use Rattle.fixed_duration.specs.declared.DurationFault.{DurationFault}
 use Rattle.fixed_duration.specs.declared.DurationFault.TheVariants.{Empty, NotDigits, TooLarge}
-use Rattle.fixed_duration.specs.Text.{is_empty, is_decimal, whole_part, fraction_part, number_of, nine_digits, fraction_digits}
+use Rattle.fixed_duration.specs.Text.{is_empty, is_decimal, whole_part, fraction_part, value_of_digits, nine_digits, fraction_digits}
 
 -- the whole seconds that a text says
 abbrev pub seconds_of : List ℕ → ℕ
-seconds_of text = number_of (whole_part text)
+seconds_of text = value_of_digits (whole_part text)
 
 -- the nanoseconds that its fraction says: digits after the ninth are dropped
 abbrev pub fraction_of : List ℕ → ℕ
-fraction_of text = number_of (nine_digits (fraction_part text))
+fraction_of text = value_of_digits (nine_digits (fraction_part text))
 
 -- the nanoseconds that a text of less than 1,000,000 seconds says, or why it says none
 abbrev pub duration_of : List ℕ → Result ℕ DurationFault

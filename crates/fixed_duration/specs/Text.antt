@@ -28,8 +28,8 @@ is_decimal text = are_digits (whole_part text) && are_digits (fraction_part text
     && not (is_empty (whole_part text) && is_empty (fraction_part text))
 
 -- the number that digits write
-abbrev pub number_of : List ℕ → ℕ
-number_of digits = digits_value 10 digits
+abbrev pub value_of_digits : List ℕ → ℕ
+value_of_digits digits = digits_value 10 digits
 
 -- the first nine digits, filled up with zeros: a fraction of a second in nanoseconds
 abbrev pub nine_digits : List ℕ → List ℕ

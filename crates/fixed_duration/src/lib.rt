@@ -4,7 +4,7 @@
 
 ghost use Rattle.std.specs.Prelude.{◌≡◌, ℕ, ◌+◌, ◌*◌, ◌/◌, ◌^◌, ◌<◌, ◌≤◌, ◌++◌, Ok, OnOk, OnErr, IsTrue, decimal, length, take, string_bytes, string_len, string_capacity};
 ghost use Rattle.std.specs.Option.{SomeIff};
-ghost use Rattle.fixed_duration.specs.Text.{whole_part, fraction_part, are_digits, number_of, nine_digits, fraction_digits};
+ghost use Rattle.fixed_duration.specs.Text.{whole_part, fraction_part, are_digits, value_of_digits, nine_digits, fraction_digits};
 ghost use Rattle.fixed_duration.specs.Duration.{duration_of, duration_text, rounded_seconds_of};
 ghost use Rattle.fixed_duration.specs.Appended.{Appends};
 
@@ -174,7 +174,7 @@ pub fn are_all_digits(bytes: &[u8]) -> bool
 // The number that digits write, if it is below the limit. It stops there, so any number of digits may come.
 fn seconds_of(digits: &[u8]) -> Option<u64>
     requires { IsTrue (are_digits digits.now) }
-    ensures { SomeIff result (number_of digits.now < 10 ^ 6) (number_of digits.now) }
+    ensures { SomeIff result (value_of_digits digits.now < 10 ^ 6) (value_of_digits digits.now) }
 {
     let mut value: u64 = 0;
     for digit in digits {
@@ -198,7 +198,7 @@ fn power_of_ten(places: usize) -> u32
 pub fn number_of(digits: &[u8]) -> u32
     requires digits { IsTrue (are_digits digits.now) }
     requires few { length digits.now ≤ 9 }
-    ensures value { result ≡ number_of digits.now }
+    ensures value { result ≡ value_of_digits digits.now }
     ensures below { result < 10 ^ length digits.now }
 {
     let mut value: u32 = 0;
@@ -218,7 +218,7 @@ fn first_nine(digits: &[u8]) -> &[u8]
 /// 1,000,000,000. Digits after the ninth are dropped.
 pub fn nanos_of_fraction(digits: &[u8]) -> u32
     requires { IsTrue (are_digits digits.now) }
-    ensures value { result ≡ number_of (nine_digits digits.now) }
+    ensures value { result ≡ value_of_digits (nine_digits digits.now) }
     ensures below { result < 10 ^ 9 }
 {
     let digits = first_nine(digits);

@@ -3,7 +3,7 @@ use Rattle.std.proofs.Common.{◌≡◌, ◌≢◌, ℕ, List, ◌∷◌, ◌++�
 use Rattle.std.specs.Prelude.{Result, Ok, Err, IfOk}
 use Rattle.url.specs.Parts.{Parts}
 use Rattle.playlist_model.specs.Reading.{reading, limited}
-use Rattle.pod_store.specs.Outcome.{no_memory, Refuses}
+use Rattle.pod_store.specs.Outcome.{no_memory, RefusesByDecisionFault}
 use Rattle.pod_store.specs.declared.fault.DecisionFault.{DecisionFault}
 use Rattle.channel_spec.specs.declared.fault.RefreshFault.{RefreshFault}
 use Rattle.channel_spec.specs.Live.{Event, Told, told}
@@ -13,7 +13,7 @@ use Rattle.live_channel.specs.Channel.{Reading, readable, Channel, Represents, t
 use Rattle.live_channel.specs.Channel as channel
 use Rattle.http_messages.specs.declared.message.Reply.{Reply}
 use Rattle.http_messages.specs.Replies.{bare}
-use Rattle.http_edge.specs.Channels.{GivenChannel, IsGiven, with_event, told_of, playlist_of}
+use Rattle.http_edge.specs.Channels.{GivenChannel, IsGiven, with_event, told_of, owed_playlist_text}
 use Rattle.live_channel.proofs.Owed.{explains}
 use Rattle.break_finder.specs.Known.{known}
 use Rattle.channel_api.specs.Replies.{why_text, decisions_reply}
@@ -38,7 +38,7 @@ module _ (c : Channel) (given : GivenChannel) (h : IsGiven c given) where
   pub why_is : why_text (explained c.kept) c.kept.breaks ≡ why_text (owed_why (told_of given)) (known (told_of given).accepted)
   why_is = λ i. why_text (λ id. reason_is id i) (kept_is i).breaks
 
-  pub text_is : c.text ≡ playlist_of given
+  pub text_is : c.text ≡ owed_playlist_text given
   text_is = h.stands.text ∙ ap text_after same_told
 
   abbrev answer_at : List ℕ → Parts → ℕ → Result Refreshed RefreshFault
@@ -105,7 +105,7 @@ module _ (old new : Channel) (bytes : List ℕ) (given : GivenChannel) (h : IsGi
       → Represents new (decided bytes ∷ given.events) → reply ≡ bare 204 → TakesOne {E = E} (decided bytes) (decisions_owed bytes) given (Ok reply) new
   decisions_taken E reply o s e = grind arith
 
-  pub decisions_refused : {E : Type 0} (fault : DecisionFault) (r : Result Reply E) → fault ≢ no_memory → (new ≡ old) × Refuses fault (after_bytes old.kept.store bytes)
+  pub decisions_refused : {E : Type 0} (fault : DecisionFault) (r : Result Reply E) → fault ≢ no_memory → (new ≡ old) × RefusesByDecisionFault fault (after_bytes old.kept.store bytes)
       → (fault ≢ no_memory → Represents new (decided bytes ∷ given.events)) → IfOk r (λ reply. reply ≡ decisions_reply (Err fault))
       → TakesOne (decided bytes) (decisions_owed bytes) given r new
   decisions_refused fault r n o s q = grind arith

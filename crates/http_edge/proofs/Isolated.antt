@@ -14,8 +14,8 @@ use Rattle.channel_api.specs.declared.routes.Resource.{Resource}
 use Rattle.http_edge.specs.Channels.{GivenChannel, with_event}
 use Rattle.channel_api.specs.Replies.{exists}
 use Rattle.channel_api.specs.Routes.{path_of, route_of}
-use Rattle.http_edge.specs.Table.{Table, TableEntry, Turn, unmoved, event_turn, given_at, put_given, without, removed, read_turn, made, tried, added, fresh, turn_at, routed, turn, table_of, reply_to}
-use Rattle.http_edge.specs.Isolation.{names, is_on, replies_on, was_served, IsIsolated}
+use Rattle.http_edge.specs.Table.{Table, TableEntry, Turn, unmoved, event_turn, given_at, put_given, without_channel, removed, read_turn, made, tried, added, fresh, turn_at, routed, turn, table_of, reply_to}
+use Rattle.http_edge.specs.Isolation.{is_route_of, is_on, replies_on, was_served, IsIsolated}
 
 -- ---- the entries of a name
 
@@ -42,14 +42,14 @@ put_picked : (x : List ℕ) (g : GivenChannel) (table : Table) → picked x (put
 put_picked x g [] = refl
 put_picked x g (e ∷ later) = put_step (bytes_eq x e.name) x g e later (put_given x g later) (picked x later) refl refl (put_picked x g later)
 
-without_step : (b : Bool) (x : List ℕ) (e : TableEntry) (later out p : Table) → bytes_eq x e.name ≡ b → picked x later ≡ p → picked x out ≡ without x p
-    → picked x (cond b later (e ∷ out)) ≡ without x (cond b (e ∷ p) p)
-without_step true x e later out p is same h = same ∙ sym (ap (λ c. cond c p (e ∷ without x p)) is)
+without_step : (b : Bool) (x : List ℕ) (e : TableEntry) (later out p : Table) → bytes_eq x e.name ≡ b → picked x later ≡ p → picked x out ≡ without_channel x p
+    → picked x (cond b later (e ∷ out)) ≡ without_channel x (cond b (e ∷ p) p)
+without_step true x e later out p is same h = same ∙ sym (ap (λ c. cond c p (e ∷ without_channel x p)) is)
 without_step false x e later out p is same h = ap (λ c. cond c (e ∷ picked x out) (picked x out)) is ∙ h
 
-without_picked : (x : List ℕ) (table : Table) → picked x (without x table) ≡ without x (picked x table)
+without_picked : (x : List ℕ) (table : Table) → picked x (without_channel x table) ≡ without_channel x (picked x table)
 without_picked x [] = refl
-without_picked x (e ∷ later) = without_step (bytes_eq x e.name) x e later (without x later) (picked x later) refl refl (without_picked x later)
+without_picked x (e ∷ later) = without_step (bytes_eq x e.name) x e later (without_channel x later) (picked x later) refl refl (without_picked x later)
 
 none_step : (b : Bool) (e : TableEntry) (p : Table) (q : Option GivenChannel) → is_some (cond b (Some e.given) q) ≡ false → (is_some q ≡ false → p ≡ []) → cond b (e ∷ p) p ≡ []
 none_step true e p q n h = absurd (true≢false n)
@@ -90,9 +90,9 @@ without_other_step : (b : Bool) (x n : List ℕ) (e : TableEntry) (later out : T
 without_other_step true x n e later out other is h = sym (ap (λ c. cond c (e ∷ picked x later) (picked x later)) (not_this x n e other is))
 without_other_step false x n e later out other is h = ap (λ l. cond (bytes_eq x e.name) (e ∷ l) l) h
 
-without_other : (x n : List ℕ) (table : Table) → bytes_eq x n ≡ false → picked x (without n table) ≡ picked x table
+without_other : (x n : List ℕ) (table : Table) → bytes_eq x n ≡ false → picked x (without_channel n table) ≡ picked x table
 without_other x n [] other = refl
-without_other x n (e ∷ later) other = without_other_step (bytes_eq n e.name) x n e later (without n later) other refl (without_other x n later other)
+without_other x n (e ∷ later) other = without_other_step (bytes_eq n e.name) x n e later (without_channel n later) other refl (without_other x n later other)
 
 event_other : (x n : List ℕ) (event : channel.Given) (owed : GivenChannel → Reply) (table : Table) (o : Option GivenChannel) → bytes_eq x n ≡ false
     → picked x (event_turn table n event owed o).table ≡ picked x table
@@ -121,7 +121,7 @@ made_other x n table (Ok said) other = tried_other x n said.1 table (base_of sai
 at_other : (x n : List ℕ) (r : Request) (resource : Resource) (table : Table) → bytes_eq x n ≡ false → picked x (turn_at table r n resource).table ≡ picked x table
 at_other x n r resource table other = grind (arith, event_other, made_other, read_other, removed_other)
 
-pub turn_other : (x : List ℕ) (r : Request) (o : Option (List ℕ × Resource)) (table : Table) → names x o ≡ false → picked x (routed table r o).table ≡ picked x table
+pub turn_other : (x : List ℕ) (r : Request) (o : Option (List ℕ × Resource)) (table : Table) → is_route_of x o ≡ false → picked x (routed table r o).table ≡ picked x table
 turn_other x r None table other = refl
 turn_other x r (Some route) table other = at_other x route.0 r route.1 table other
 
@@ -199,7 +199,7 @@ named_this : (x n : List ℕ) (r : Request) (resource : Resource) (table : Table
     → shown x (turn_at table r n resource) ≡ turn_at (picked x table) r n resource
 named_this x n r resource table is served = grind (arith, at_this)
 
-turn_this : (x : List ℕ) (r : Request) (o : Option (List ℕ × Resource)) (table : Table) → names x o ≡ true → was_served (routed table r o).reply ≡ true
+turn_this : (x : List ℕ) (r : Request) (o : Option (List ℕ × Resource)) (table : Table) → is_route_of x o ≡ true → was_served (routed table r o).reply ≡ true
     → shown x (routed table r o) ≡ routed (picked x table) r o
 turn_this x r None table on served = absurd (true≢false (sym on))
 turn_this x r (Some route) table on served = named_this x route.0 r route.1 table (sym ((bytes_eq-Decides x route.0).0 on)) served

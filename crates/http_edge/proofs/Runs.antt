@@ -9,8 +9,8 @@ use Rattle.http_messages.specs.Replies.{bare}
 use Rattle.channel_api.specs.declared.routes.Resource.{Resource}
 use Rattle.channel_api.specs.Routes.{path_of, route_of}
 use Rattle.http_edge.specs.Table.{Table, turn_at, routed, turn, table_of}
-use Rattle.http_edge.specs.Edges.{NamedChannel, RepresentsRequests, Stands, TakesTurn}
-use Rattle.http_edge.specs.Isolation.{is_on, was_served, Exchange, IsRun, is_served_on, asked_of, answered_of, RunsAreIsolated}
+use Rattle.http_edge.specs.Edges.{NamedChannel, RepresentsRequests, AreGiven, TakesTurn}
+use Rattle.http_edge.specs.Isolation.{is_on, was_served, Exchange, ExchangesLeadTo, is_served_on, asked_of, answered_of, RunsAreIsolated}
 use Rattle.http_edge.proofs.Isolated.{picked, turn_other, Alike, served_step, and_parts}
 
 -- ---- a turn that is answered 503 leaves the table
@@ -41,13 +41,13 @@ module _ (x : List ℕ) (e : Exchange) (served : List Exchange) (old new : List 
   abbrev table : Table
   table = table_of h.requests
 
-  owed_in : e.reply ≡ (turn table e.request).reply → Stands new (turn table e.request).table → is_served_on x e ≡ true → Follows x (e ∷ served) new
+  owed_in : e.reply ≡ (turn table e.request).reply → AreGiven new (turn table e.request).table → is_served_on x e ≡ true → Follows x (e ∷ served) new
   owed_in same s is =
       let parts = and_parts (is_on x e.request) (was_served e.reply) is in
       let more = served_step x e.request h.requests (asked_of served) (answered_of served) parts.0 (subst (λ y. was_served y ≡ true) same parts.1) h.alike in
       record { requests = e.request ∷ h.requests; stands = s; alike = (more.0, ap (λ y. y ∷ answered_of served) same ∙ more.1) }
 
-  owed_out : e.reply ≡ (turn table e.request).reply → Stands new (turn table e.request).table → is_served_on x e ≡ false → Follows x served new
+  owed_out : e.reply ≡ (turn table e.request).reply → AreGiven new (turn table e.request).table → is_served_on x e ≡ false → Follows x served new
   owed_out same s is =
       let out = subst (λ y. (is_on x e.request && was_served y) ≡ false) same is in
       record { requests = e.request ∷ h.requests; stands = s; alike = (entries_left (is_on x e.request) x e.request table refl out ∙ h.alike.0, h.alike.1) }
@@ -60,7 +60,7 @@ module _ (x : List ℕ) (e : Exchange) (served : List Exchange) (old new : List 
 
 -- ---- all exchanges
 
-followed : (x : List ℕ) (first last : List NamedChannel) (run : List Exchange) → RepresentsRequests first [] → IsRun first run last → Follows x (filter (is_served_on x) run) last
+followed : (x : List ℕ) (first last : List NamedChannel) (run : List Exchange) → RepresentsRequests first [] → ExchangesLeadTo first run last → Follows x (filter (is_served_on x) run) last
 followed x first last [] s h = record { requests = []; stands = subst (λ k. RepresentsRequests k []) (sym h) s; alike = (refl, refl) }
 followed x first last (e ∷ before) s h =
     let k = followed x first h.0 before s h.1 in

@@ -3,10 +3,10 @@ use Rattle.std.proofs.Common.{◌≡◌, ℕ, Bool, cond, List, [], ◌∷◌, �
 use Rattle.std.specs.Prelude.{Option, Some, None, bytes_eq, String, string_bytes}
 use Rattle.std.specs.Map.{lookup, set_value, remove_entry}
 use Rattle.live_channel.specs.Channel as channel
-use Rattle.channel_api.specs.Named.{is_at}
+use Rattle.channel_api.specs.Named.{has_this_key}
 use Rattle.http_edge.specs.Channels.{GivenChannel, IsGiven}
-use Rattle.http_edge.specs.Table.{Table, TableEntry, given_at, put_given, without}
-use Rattle.http_edge.specs.Edges.{kept_of, Stands}
+use Rattle.http_edge.specs.Table.{Table, TableEntry, given_at, put_given, without_channel}
+use Rattle.http_edge.specs.Edges.{named_channel, AreGiven}
 
 abbrev pub Entries : Type 0 → Type 0
 Entries A = List (String A × channel.Channel)
@@ -27,47 +27,47 @@ some_agrees k None h = absurd h
 some_agrees k (Some g) h = (g, refl, h)
 
 module _ {A : Type 0} (name : List ℕ) where
-  same_test : (key : String A) (entry : List ℕ) → string_bytes key ≡ entry → is_at name key ≡ bytes_eq name entry
+  same_test : (key : String A) (entry : List ℕ) → string_bytes key ≡ entry → has_this_key name key ≡ bytes_eq name entry
   same_test key entry e = ap (bytes_eq name) e
 
-  pub found : (es : Entries A) (table : Table) → Stands (map kept_of es) table → Agree (lookup (is_at name) es) (given_at name table)
+  pub found : (es : Entries A) (table : Table) → AreGiven (map named_channel es) table → Agree (lookup (has_this_key name) es) (given_at name table)
   found [] [] s = tt
   found [] (t ∷ ts) s = absurd s
   found (e ∷ es) [] s = absurd s
   found (e ∷ es) (t ∷ ts) s = grind (arith, found es ts s.2)
 
   set_step : (b c : Bool) (e : String A × channel.Channel) (w : channel.Channel) (g : GivenChannel) (t : TableEntry) (es fs : Entries A) (ts us : Table) → b ≡ c
-      → string_bytes e.0 ≡ t.name → IsGiven e.1 t.given → IsGiven w g → Stands (map kept_of es) ts → Stands (map kept_of fs) us
-      → Stands (map kept_of (cond b ((e.0, w) ∷ es) (e ∷ fs))) (cond c (record t { given = g } ∷ ts) (t ∷ us))
+      → string_bytes e.0 ≡ t.name → IsGiven e.1 t.given → IsGiven w g → AreGiven (map named_channel es) ts → AreGiven (map named_channel fs) us
+      → AreGiven (map named_channel (cond b ((e.0, w) ∷ es) (e ∷ fs))) (cond c (record t { given = g } ∷ ts) (t ∷ us))
   set_step b c e w g t es fs ts us q n s h r i = grind arith
 
-  pub put : (es : Entries A) (table : Table) (w : channel.Channel) (g : GivenChannel) → Stands (map kept_of es) table → IsGiven w g
-      → Stands (map kept_of (set_value (is_at name) es w)) (put_given name g table)
+  pub put : (es : Entries A) (table : Table) (w : channel.Channel) (g : GivenChannel) → AreGiven (map named_channel es) table → IsGiven w g
+      → AreGiven (map named_channel (set_value (has_this_key name) es w)) (put_given name g table)
   put [] [] w g s h = tt
   put [] (t ∷ ts) w g s h = absurd s
   put (e ∷ es) [] w g s h = absurd s
   put (e ∷ es) (t ∷ ts) w g s h = grind (arith, put es ts w g s.2 h)
 
   remove_step : (b c : Bool) (e : String A × channel.Channel) (t : TableEntry) (es fs : Entries A) (ts us : Table) → b ≡ c
-      → string_bytes e.0 ≡ t.name → IsGiven e.1 t.given → Stands (map kept_of es) ts → Stands (map kept_of fs) us
-      → Stands (map kept_of (cond b es (e ∷ fs))) (cond c ts (t ∷ us))
+      → string_bytes e.0 ≡ t.name → IsGiven e.1 t.given → AreGiven (map named_channel es) ts → AreGiven (map named_channel fs) us
+      → AreGiven (map named_channel (cond b es (e ∷ fs))) (cond c ts (t ∷ us))
   remove_step b c e t es fs ts us q n s r i = grind arith
 
-  pub taken_out : (es : Entries A) (table : Table) → Stands (map kept_of es) table
-      → Stands (map kept_of (remove_entry (is_at name) es)) (without name table)
+  pub taken_out : (es : Entries A) (table : Table) → AreGiven (map named_channel es) table
+      → AreGiven (map named_channel (remove_entry (has_this_key name) es)) (without_channel name table)
   taken_out [] [] s = tt
   taken_out [] (t ∷ ts) s = absurd s
   taken_out (e ∷ es) [] s = absurd s
   taken_out (e ∷ es) (t ∷ ts) s = grind (arith, taken_out es ts s.2)
 
-  pub added_after : (es : Entries A) (table : Table) (key : String A) (k : channel.Channel) (g : GivenChannel) → Stands (map kept_of es) table
-      → string_bytes key ≡ name → IsGiven k g → Stands (map kept_of (es ++ (key, k) ∷ [])) (table ++ record { name = name; given = g } ∷ [])
+  pub added_after : (es : Entries A) (table : Table) (key : String A) (k : channel.Channel) (g : GivenChannel) → AreGiven (map named_channel es) table
+      → string_bytes key ≡ name → IsGiven k g → AreGiven (map named_channel (es ++ (key, k) ∷ [])) (table ++ record { name = name; given = g } ∷ [])
   added_after [] [] key k g s n h = (n, h, tt)
   added_after [] (t ∷ ts) key k g s n h = absurd s
   added_after (e ∷ es) [] key k g s n h = absurd s
   added_after (e ∷ es) (t ∷ ts) key k g s n h = (s.0, s.1, added_after es ts key k g s.2 n h)
 
-pub as_many : {A : Type 0} (es : Entries A) (table : Table) → Stands (map kept_of es) table → length es ≡ length table
+pub as_many : {A : Type 0} (es : Entries A) (table : Table) → AreGiven (map named_channel es) table → length es ≡ length table
 as_many [] [] s = refl
 as_many [] (t ∷ ts) s = absurd s
 as_many (e ∷ es) [] s = absurd s

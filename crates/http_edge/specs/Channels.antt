@@ -19,8 +19,8 @@ abbrev pub told_of : GivenChannel → Told
 told_of given = told_by given.base given.tolerance given.events
 
 -- the text of the playlist that is owed: none before the first accepted refresh
-abbrev pub playlist_of : GivenChannel → Option (List ℕ)
-playlist_of given = text_after (told_of given)
+abbrev pub owed_playlist_text : GivenChannel → Option (List ℕ)
+owed_playlist_text given = text_after (told_of given)
 
 -- a channel stands for what it was given
 pub record IsGiven (c : Channel) (given : GivenChannel) : Type 0 where

@@ -12,19 +12,19 @@ pub record NamedChannel : Type 0 where
   pub name : List ℕ
   pub channel : Channel
 
-abbrev pub kept_of : {A : Type 0} → String A × Channel → NamedChannel
-kept_of entry = record { name = string_bytes entry.0; channel = entry.1 }
+abbrev pub named_channel : {A : Type 0} → String A × Channel → NamedChannel
+named_channel entry = record { name = string_bytes entry.0; channel = entry.1 }
 
 -- each channel stands for what the table says that it was given
-abbrev pub Stands : List NamedChannel → Table → Type 0
-Stands [] [] = Unit {0}
-Stands (kept ∷ later) (entry ∷ others) = (kept.name ≡ entry.name) × IsGiven kept.channel entry.given × Stands later others
-Stands [] (entry ∷ others) = ⊥
-Stands (kept ∷ later) [] = ⊥
+abbrev pub AreGiven : List NamedChannel → Table → Type 0
+AreGiven [] [] = Unit {0}
+AreGiven (kept ∷ later) (entry ∷ others) = (kept.name ≡ entry.name) × IsGiven kept.channel entry.given × AreGiven later others
+AreGiven [] (entry ∷ others) = ⊥
+AreGiven (kept ∷ later) [] = ⊥
 
 -- an edge stands for a list of requests, the newest first
 abbrev pub RepresentsRequests : List NamedChannel → List Request → Type 0
-RepresentsRequests kept requests = Stands kept (table_of requests)
+RepresentsRequests kept requests = AreGiven kept (table_of requests)
 
 -- it stands for some list of requests
 abbrev pub RepresentsSome : List NamedChannel → Type 0
@@ -32,7 +32,7 @@ RepresentsSome kept = (requests : List Request) × RepresentsRequests kept reque
 
 -- the reply of this turn, or 503 for a failed allocation, which leaves the table
 abbrev pub TakesTurn : Turn → Table → Reply → List NamedChannel → Type 0
-TakesTurn t table reply new = ((reply ≡ t.reply) × Stands new t.table) ⊎ ((reply ≡ bare 503) × Stands new table)
+TakesTurn t table reply new = ((reply ≡ t.reply) × AreGiven new t.table) ⊎ ((reply ≡ bare 503) × AreGiven new table)
 
 -- whatever requests it stood for, the reply is the one owed and the edge stands for this request too; or it is 503 for a failed
 -- allocation, and the edge stands for what it did
@@ -44,9 +44,9 @@ AnswersRequest old request reply new =
 
 -- the reply of this turn; a failed allocation leaves the table
 abbrev pub TakenTurn : {E : Type 0} → Turn → Table → Result Reply E → List NamedChannel → Type 0
-TakenTurn t table (Ok reply) new = (reply ≡ t.reply) × Stands new t.table
-TakenTurn t table (Err e) new = Stands new table
+TakenTurn t table (Ok reply) new = (reply ≡ t.reply) × AreGiven new t.table
+TakenTurn t table (Err e) new = AreGiven new table
 
 -- whatever table they stood for, this turn of it was taken
 abbrev pub TakesTurnOf : {E : Type 0} → (Table → Turn) → List NamedChannel → Result Reply E → List NamedChannel → Type 0
-TakesTurnOf turn_of old result new = (table : Table) → Stands old table → TakenTurn (turn_of table) table result new
+TakesTurnOf turn_of old result new = (table : Table) → AreGiven old table → TakenTurn (turn_of table) table result new

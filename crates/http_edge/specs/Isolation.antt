@@ -8,13 +8,13 @@ use Rattle.channel_api.specs.Routes.{is_channel_name, path_of, path_to, route_of
 use Rattle.http_edge.specs.Table.{Table, reply_to, turn, turn_at}
 use Rattle.http_edge.specs.Edges.{NamedChannel, RepresentsRequests, AnswersRequest}
 
-abbrev pub names : List ℕ → Option (List ℕ × Resource) → Bool
-names name None = false
-names name (Some route) = bytes_eq name route.0
+abbrev pub is_route_of : List ℕ → Option (List ℕ × Resource) → Bool
+is_route_of name None = false
+is_route_of name (Some route) = bytes_eq name route.0
 
 -- a request on the channel of this name
 abbrev pub is_on : List ℕ → Request → Bool
-is_on name r = names name (route_of (path_of r.target))
+is_on name r = is_route_of name (route_of (path_of r.target))
 
 -- the replies to the requests on a channel, the newest first
 abbrev pub replies_on : List ℕ → List Request → List Reply
@@ -37,9 +37,9 @@ pub record Exchange : Type 0 where
   pub reply : Reply
 
 -- an edge came from what it was first to what it is by these exchanges, the newest first
-abbrev pub IsRun : List NamedChannel → List Exchange → List NamedChannel → Type 0
-IsRun first [] last = last ≡ first
-IsRun first (e ∷ before) last = (middle : List NamedChannel) × IsRun first before middle × AnswersRequest middle e.request e.reply last
+abbrev pub ExchangesLeadTo : List NamedChannel → List Exchange → List NamedChannel → Type 0
+ExchangesLeadTo first [] last = last ≡ first
+ExchangesLeadTo first (e ∷ before) last = (middle : List NamedChannel) × ExchangesLeadTo first before middle × AnswersRequest middle e.request e.reply last
 
 -- on the channel of this name, and not answered 503
 abbrev pub is_served_on : List ℕ → Exchange → Bool
@@ -58,7 +58,7 @@ IsIsolatedIn name run =
 
 -- whatever else was asked, of an edge that stood for no request
 abbrev pub RunsAreIsolated : Type 0
-RunsAreIsolated = (name : List ℕ) (first last : List NamedChannel) (run : List Exchange) → RepresentsRequests first [] → IsRun first run last → IsIsolatedIn name run
+RunsAreIsolated = (name : List ℕ) (first last : List NamedChannel) (run : List Exchange) → RepresentsRequests first [] → ExchangesLeadTo first run last → IsIsolatedIn name run
 
 -- ---- paths
 

@@ -8,7 +8,7 @@ use Rattle.live_channel.specs.Channel.{answer_read, after_bytes, owed_why}
 use Rattle.http_messages.specs.declared.message.Reply.{Reply}
 use Rattle.http_messages.specs.Replies.{bare}
 use Rattle.channel_api.specs.Replies.{refused_refresh, decisions_reply, live_reply, why_text, text_reply}
-use Rattle.http_edge.specs.Channels.{GivenChannel, told_of, playlist_of}
+use Rattle.http_edge.specs.Channels.{GivenChannel, told_of, owed_playlist_text}
 
 -- ---- refreshes
 
@@ -29,7 +29,7 @@ decisions_owed bytes given = decisions_reply (after_bytes (told_of given).store 
 -- ---- reads
 
 abbrev pub live_owed : GivenChannel → Reply
-live_owed given = live_reply (playlist_of given)
+live_owed given = live_reply (owed_playlist_text given)
 
 -- the breaks that looking back over all refreshes finds known, each with the reason by all that was told
 abbrev pub why_owed : GivenChannel → Reply

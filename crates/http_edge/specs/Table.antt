@@ -37,9 +37,9 @@ put_given name given [] = []
 put_given name given (entry ∷ later) =
     if bytes_eq name entry.name then record entry { given = given } ∷ later else entry ∷ put_given name given later
 
-abbrev pub without : List ℕ → Table → Table
-without name [] = []
-without name (entry ∷ later) = if bytes_eq name entry.name then later else entry ∷ without name later
+abbrev pub without_channel : List ℕ → Table → Table
+without_channel name [] = []
+without_channel name (entry ∷ later) = if bytes_eq name entry.name then later else entry ∷ without_channel name later
 
 -- ---- what a request does
 
@@ -62,7 +62,7 @@ read_turn table owed (Some given) = unmoved table (owed given)
 
 abbrev pub removed : Table → List ℕ → Option GivenChannel → Turn
 removed table name None = unmoved table not_found
-removed table name (Some given) = record { reply = bare 204; table = without name table }
+removed table name (Some given) = record { reply = bare 204; table = without_channel name table }
 
 -- ---- making a channel
 
@@ -86,25 +86,25 @@ made table name (Ok said) = tried table name said.1 (base_of said.0)
 
 -- ---- by method and route
 
-abbrev pub is_method : List ℕ → Request → Bool
-is_method method request = bytes_eq request.method method
+abbrev pub has_method : List ℕ → Request → Bool
+has_method method request = bytes_eq request.method method
 
 abbrev pub turn_at : Table → Request → List ℕ → Resource → Turn
 turn_at table r name Channel =
-    if is_method (codes "PUT") r then made table name (body_said r.body)
-    else (if is_method (codes "DELETE") r then removed table name (given_at name table)
+    if has_method (codes "PUT") r then made table name (body_said r.body)
+    else (if has_method (codes "DELETE") r then removed table name (given_at name table)
     else unmoved table (not_allowed allow.PutDelete))
 turn_at table r name Origin =
-    if is_method (codes "PUT") r then event_turn table name (refreshed r.body) (refresh_owed r.body) (given_at name table)
+    if has_method (codes "PUT") r then event_turn table name (refreshed r.body) (refresh_owed r.body) (given_at name table)
     else unmoved table (not_allowed allow.Put)
 turn_at table r name Decisions =
-    if is_method (codes "PUT") r then event_turn table name (decided r.body) (decisions_owed r.body) (given_at name table)
+    if has_method (codes "PUT") r then event_turn table name (decided r.body) (decisions_owed r.body) (given_at name table)
     else unmoved table (not_allowed allow.Put)
 turn_at table r name Live =
-    if is_method (codes "GET") r then read_turn table live_owed (given_at name table)
+    if has_method (codes "GET") r then read_turn table live_owed (given_at name table)
     else unmoved table (not_allowed allow.Get)
 turn_at table r name Why =
-    if is_method (codes "GET") r then read_turn table why_owed (given_at name table)
+    if has_method (codes "GET") r then read_turn table why_owed (given_at name table)
     else unmoved table (not_allowed allow.Get)
 
 abbrev pub routed : Table → Request → Option (List ℕ × Resource) → Turn
@@ -130,7 +130,7 @@ is_to_live (Some route) = is_live route.1
 
 -- it reads the playlist that a channel wrote last, which stands there already
 abbrev pub reads_playlist : Request → Bool
-reads_playlist r = is_method (codes "GET") r && is_to_live (route_of (path_of r.target))
+reads_playlist r = has_method (codes "GET") r && is_to_live (route_of (path_of r.target))
 
 -- ---- lists of requests, the newest first
 

@@ -10,7 +10,7 @@ ghost use Rattle.http_edge.specs.Inner.Events.{event_at};
 use crate::events::{decide, live, refresh};
 use crate::replies::{channel_fault_reply, why_reply};
 use channel_api::{
-    Naming, Resource, body_fault_reply, line, not_allowed, not_found, put_named, read_body,
+    Naming, Resource, body_fault_reply, line, not_allowed, not_found, put_named, read_wanted,
     remove_named,
 };
 use http::StatusCode;
@@ -35,11 +35,11 @@ pub struct Channels {
 
 impl Model for Channels {
     ghost use Rattle.std.specs.Prelude.{List, map};
-    ghost use Rattle.http_edge.specs.Edges.{NamedChannel, kept_of};
+    ghost use Rattle.http_edge.specs.Edges.{NamedChannel, named_channel};
 
     ghost Value = { List NamedChannel };
 
-    ghost view = { λ c. map kept_of c.by_name.entries };
+    ghost view = { λ c. map named_channel c.by_name.entries };
 }
 
 impl Channels {
@@ -84,7 +84,7 @@ impl Channels {
             self.new }
     {
         let alloc = self.alloc;
-        let wanted = match read_body(alloc, body) {
+        let wanted = match read_wanted(alloc, body) {
             Ok(wanted) => wanted,
             Err(fault) => return body_fault_reply(alloc, fault),
         };

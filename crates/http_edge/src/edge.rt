@@ -64,7 +64,7 @@ impl Edge {
     pub fn answer(&mut self, request: &Request) -> Reply
         ensures { AnswersRequest self.old request.now result self.new }
     {
-        match self.answered(request) {
+        match self.answer_request(request) {
             Ok(reply) => reply,
             Err(_) => Reply::bare(StatusCode::SERVICE_UNAVAILABLE),
         }
@@ -84,7 +84,7 @@ impl Edge {
         }
     }
 
-    fn answered(&mut self, request: &Request) -> Result<Reply, AllocError>
+    fn answer_request(&mut self, request: &Request) -> Result<Reply, AllocError>
         ensures { TakesTurnOf (λ table. turn table request.now) self.old result self.new }
     {
         let Some((name, resource)) = self.routes.find(request.target.as_str()) else {

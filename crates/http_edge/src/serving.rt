@@ -2,7 +2,7 @@
 ghost use Rattle.std.specs.Prelude.{◌≡◌, ◌≢◌, Some, OnOk, OnErr, IfOk, IfErr, IsErrOf};
 ghost use Rattle.byte_streams.specs.Stands.{TookAll, FailedAfterFront};
 ghost use Rattle.http_messages.specs.declared.receiving.Asked.{Asked as Question};
-ghost use Rattle.http_messages.specs.Received.{Holds, HoldsFront, HasEnded, HasGivenPart, IsWholeAtLastRead};
+ghost use Rattle.http_messages.specs.Received.{SourceHolds, HoldsFront, SourceHasEnded, HasGivenPart, IsWholeAtLastRead};
 ghost use Rattle.http_messages.specs.Replies.{text_sent};
 ghost use Rattle.byte_streams.specs.Fair.{IsFairToSource, IsFairToSink, GaveAtEachButLast};
 ghost use Rattle.http_edge.specs.FaultTexts.{edge_fault_text};
@@ -89,7 +89,7 @@ impl From<ReceiveFault> for EdgeFault {
 }
 
 // Writes a reply, or as much of it as the sink takes.
-fn put<K: Sink>(reply: &Reply, with_body: bool, sink: &mut K) -> Result<Served, EdgeFault>
+fn put_reply<K: Sink>(reply: &Reply, with_body: bool, sink: &mut K) -> Result<Served, EdgeFault>
     ensures ok { OnOk result (TookAll (K.stand sink.old) (K.stand sink.new)
         (text_sent with_body reply.now)) }
     ensures status { IfOk result (λ served. served.status ≡ reply.now.status) }
@@ -121,10 +121,10 @@ pub fn serve<S: Source, K: Sink>(
 
     // However the source cuts its bytes: what all that it holds asks is answered, and it doesn't end if that is a whole
     // request.
-    ensures whole { (it : Question) → Holds (S.stand source.old) it →
+    ensures whole { (it : Question) → SourceHolds (S.stand source.old) it →
         IfOk result (λ served. HasRepliedWhole
         (K.stand sink.old) (K.stand sink.new) edge.old edge.new it served.status) }
-    ensures whole_front { (it : Question) → Holds (S.stand source.old) it →
+    ensures whole_front { (it : Question) → SourceHolds (S.stand source.old) it →
         IsErrOf result EdgeFault.Write → HasRepliedFront
         (K.stand sink.old) (K.stand sink.new) edge.old edge.new it }
     ensures held { IsErrOf result EdgeFault.Ended → HoldsFront (S.stand source.old) }
@@ -138,7 +138,7 @@ pub fn serve<S: Source, K: Sink>(
     ensures unchanged { IfErr result (λ e. e ≢ EdgeFault.Write → edge.new ≡ edge.old) }
     ensures nothing { IfErr result (λ e. e ≢ EdgeFault.Write → sink.new ≡ sink.old) }
     ensures ended { IsErrOf result EdgeFault.Ended →
-        HasEnded (S.stand source.old) (S.stand source.new) }
+        SourceHasEnded (S.stand source.old) (S.stand source.new) }
     ensures unfinished { IsErrOf result EdgeFault.TooManyReads →
         HasGivenPart (S.stand source.old) (S.stand source.new) }
 
@@ -156,5 +156,5 @@ pub fn serve<S: Source, K: Sink>(
 {
     let asked = receive(alloc, source)?;
     let answer = reply_to(alloc, edge, asked)?;
-    put(&answer.reply, answer.with_body, sink)
+    put_reply(&answer.reply, answer.with_body, sink)
 }

@@ -6,14 +6,14 @@ use Rattle.http_messages.specs.declared.refusal.Refusal.TheVariants.{BadRequest,
 use Rattle.httparse.specs.declared.borrowed.Header.{Header}
 use Rattle.httparse.specs.Borrowed.{header_parts}
 use Rattle.attr_list.specs.Numbers.{decimal_of}
-use Rattle.http_messages.specs.Requests.{Field, is_named, stated_by, body_of_length}
+use Rattle.http_messages.specs.Requests.{HeaderField, is_named, stated_by, body_of_length}
 
 -- those that say a length
-abbrev pub lengths : List Header → List Field
+abbrev pub lengths : List Header → List HeaderField
 lengths fields = filter (is_named (codes "content-length")) (map header_parts fields)
 
 -- what is said, if some were read and these remain
-abbrev pub said_after : Framing → Bool → List Field → Framing
+abbrev pub said_after : Framing → Bool → List HeaderField → Framing
 said_after said false rest = stated_by rest
 said_after said true [] = said
 said_after said true (field ∷ more) = Refused BadRequest

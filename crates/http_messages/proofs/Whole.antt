@@ -16,7 +16,7 @@ use Rattle.http_messages.specs.declared.head.Framing.TheVariants.{Body, Refused}
 use Rattle.http_messages.specs.declared.receiving.Asked.{Asked}
 use Rattle.http_messages.specs.declared.receiving.Asked.TheVariants as asked
 use Rattle.http_messages.specs.Requests.{BeginsWith, HasNoHead, NeverHasHead, Asks, IsRefusedFor, framing_said}
-use Rattle.http_messages.specs.Received.{IsAsked, Holds, HasAsked}
+use Rattle.http_messages.specs.Received.{IsAsked, SourceHolds, HasAsked}
 use Rattle.http_messages.proofs.Fronts.{count_in, is_body}
 
 -- ---- more bytes
@@ -76,5 +76,5 @@ all_asked (Some input) None bytes one other given a h = absurd given
 all_asked (Some input) (Some rest) bytes one other given a h =
     asked_one input one other (subst (λ l. IsAsked l one) (sym given) (asked_more bytes rest one a)) h
 
-pub held_is_asked : (old new : SourceStand) (one other : Asked) → HasAsked old new one → Holds old other → one ≡ other
+pub held_is_asked : (old new : SourceStand) (one other : Asked) → HasAsked old new one → SourceHolds old other → one ≡ other
 held_is_asked old new one other a h = all_asked old.remaining new.remaining a.bytes one other a.given a.asks h

@@ -14,8 +14,8 @@ IsAsked bytes (asked.Request request) = Asks bytes request
 IsAsked bytes (asked.Refused refusal) = IsRefusedFor bytes refusal
 
 -- the bytes that a source holds are known, and they ask this
-abbrev pub Holds : SourceStand → Asked → Type 0
-Holds source asked = IsSomeAnd source.remaining (λ bytes. IsAsked bytes asked)
+abbrev pub SourceHolds : SourceStand → Asked → Type 0
+SourceHolds source asked = IsSomeAnd source.remaining (λ bytes. IsAsked bytes asked)
 
 -- the bytes that a source holds, if they are known, are a front of what may still be a request
 abbrev pub HoldsFront : SourceStand → Type 0
@@ -34,7 +34,7 @@ pub record HasGivenPart (old new : SourceStand) : Type 0 where
   pub unfinished : IsUnfinished bytes
 
 -- and has no more
-pub record HasEnded (old new : SourceStand) : Type 0 where
+pub record SourceHasEnded (old new : SourceStand) : Type 0 where
   pub part : HasGivenPart old new
   pub ended : IsAtEnd new.remaining
 

@@ -17,15 +17,15 @@ abbrev pub bare : ℕ → Reply
 bare status = record { status = status; allow = None; content = None }
 
 -- a reply that is a text
-abbrev pub plain : ℕ → List ℕ → Reply
-plain status text = record { status = status; allow = None; content = Some (record { media = Plain; text = text }) }
+abbrev pub plain_reply : ℕ → List ℕ → Reply
+plain_reply status text = record { status = status; allow = None; content = Some (record { media = Plain; text = text }) }
 
 abbrev pub content_text : Option Content → List ℕ
 content_text None = []
 content_text (Some content) = content.text
 
-abbrev pub body_of : Reply → List ℕ
-body_of reply = content_text reply.content
+abbrev pub reply_body : Reply → List ℕ
+reply_body reply = content_text reply.content
 
 abbrev pub refusal_status : Refusal → ℕ
 refusal_status BadRequest = 400
@@ -39,7 +39,7 @@ refusal_text TooLarge = codes "too large\n"
 
 -- the reply to a request that is refused
 abbrev pub refusal_reply : Refusal → Reply
-refusal_reply refusal = plain (refusal_status refusal) (refusal_text refusal)
+refusal_reply refusal = plain_reply (refusal_status refusal) (refusal_text refusal)
 
 -- ---- their bytes
 
@@ -78,7 +78,7 @@ length_line status body = if status == 204 then [] else codes "Content-Length: "
 -- the head of a reply, with the empty line that ends it
 abbrev pub head_text : Reply → List ℕ
 head_text r =
-    status_line r.status ++ content_type_line r.content ++ allow_line r.allow ++ length_line r.status (body_of r)
+    status_line r.status ++ content_type_line r.content ++ allow_line r.allow ++ length_line r.status (reply_body r)
     ++ (codes "Connection: close" ++ crlf) ++ crlf
 
 -- a reply to HEAD has the head alone (RFC 9110, 9.3.2)
@@ -86,7 +86,7 @@ abbrev pub sends_body : List ℕ → Bool
 sends_body method = not (bytes_eq method (codes "HEAD"))
 
 abbrev pub body_sent : Bool → Reply → List ℕ
-body_sent with_body r = if with_body then body_of r else []
+body_sent with_body r = if with_body then reply_body r else []
 
 -- what is written of a reply
 abbrev pub text_sent : Bool → Reply → List ℕ

@@ -15,11 +15,11 @@ use Rattle.http_messages.specs.Limits.{head_limit, field_limit, body_limit}
 -- ---- what the fields of a head say of the body
 
 -- a field: its name, and its value without the white space around it
-abbrev pub Field : Type 0
-Field = List ℕ × List ℕ
+abbrev pub HeaderField : Type 0
+HeaderField = List ℕ × List ℕ
 
 -- names of fields are the same in any case (RFC 9110, 5.1)
-abbrev pub is_named : List ℕ → Field → Bool
+abbrev pub is_named : List ℕ → HeaderField → Bool
 is_named name field = str_eq_ignore_ascii_case field.0 name
 
 -- a body of the stated length, if that is a number
@@ -28,19 +28,19 @@ body_of_length None = Refused BadRequest
 body_of_length (Some n) = if nat_lt body_limit n then Refused TooLarge else Body n
 
 -- the length has to be stated, and once
-abbrev pub stated_by : List Field → Framing
+abbrev pub stated_by : List HeaderField → Framing
 stated_by [] = Refused LengthRequired
 stated_by (field ∷ []) = body_of_length (decimal_of field.1)
 stated_by (field ∷ other ∷ more) = Refused BadRequest
 
 -- of the lengths that a body may have (RFC 9112, 6.3) the one that is stated is taken, and no transfer coding
-abbrev pub framing_of_put : List Field → Framing
+abbrev pub framing_of_put : List HeaderField → Framing
 framing_of_put fields =
     if list_any (is_named (codes "transfer-encoding")) fields then Refused LengthRequired
     else stated_by (filter (is_named (codes "content-length")) fields)
 
 -- no other method has a body that is read
-abbrev pub framing_of : List ℕ → List Field → Framing
+abbrev pub framing_of : List ℕ → List HeaderField → Framing
 framing_of method fields = if bytes_eq method (codes "PUT") then framing_of_put fields else Body 0
 
 abbrev pub framing_said : RequestHead → Framing

@@ -1,6 +1,6 @@
 //! Requests and replies.
 ghost use Rattle.std.specs.Prelude.{◌≡◌, ◌≤◌, slice_range, vec_len};
-ghost use Rattle.http_messages.specs.Replies.{bare, body_of};
+ghost use Rattle.http_messages.specs.Replies.{bare, reply_body};
 
 use http::{Method, StatusCode};
 use playlist_model::{Shared, Text};
@@ -99,7 +99,7 @@ impl Reply {
 
     /// The bytes of the content.
     pub fn body(&self) -> &[u8]
-        ensures { result.now ≡ body_of self.now }
+        ensures { result.now ≡ reply_body self.now }
     {
         match &self.content {
             Some(content) => content.text.as_str().as_bytes(),

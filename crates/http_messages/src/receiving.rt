@@ -2,7 +2,7 @@
 ghost use Rattle.std.specs.Prelude.{◌≡◌, ◌≤◌, ◌+◌, List, ℕ, length, take, drop, Some, Ok, Err, IfOk, IfErr, IfSome, IsErrOf};
 ghost use Rattle.http_messages.specs.declared.receiving.Asked.{Asked as Question};
 ghost use Rattle.http_messages.specs.Requests.{IsUnfinished};
-ghost use Rattle.http_messages.specs.Received.{IsHeadAt, Holds, HoldsFront, HasAsked, HasEnded, HasGivenPart, IsWholeAtLastRead};
+ghost use Rattle.http_messages.specs.Received.{IsHeadAt, SourceHolds, HoldsFront, HasAsked, SourceHasEnded, HasGivenPart, IsWholeAtLastRead};
 ghost use Rattle.http_messages.specs.Inner.Received.{IsJudgedAs, IsStep};
 ghost use Rattle.byte_streams.specs.Fair.{IsFairToSource, GaveAtEachButLast};
 
@@ -140,13 +140,13 @@ pub(crate) fn request_of(bytes: Vec<u8>, head: Head, count: usize) -> Request
 pub fn receive<S: Source>(alloc: Global, source: &mut S) -> Result<Asked, ReceiveFault>
     ensures asked { IfOk result (HasAsked (S.stand source.old) (S.stand source.new)) }
     ensures ended { IsErrOf result ReceiveFault.Ended →
-        HasEnded (S.stand source.old) (S.stand source.new) }
+        SourceHasEnded (S.stand source.old) (S.stand source.new) }
     ensures unfinished { IsErrOf result ReceiveFault.TooManyReads →
         HasGivenPart (S.stand source.old) (S.stand source.new) }
 
     // However the source cuts its bytes: what all that it holds asks is answered, and it doesn't end if that is a whole
     // request.
-    ensures whole { (it : Question) → Holds (S.stand source.old) it →
+    ensures whole { (it : Question) → SourceHolds (S.stand source.old) it →
         IfOk result (λ asked. asked ≡ it) }
     ensures held { IsErrOf result ReceiveFault.Ended → HoldsFront (S.stand source.old) }
 

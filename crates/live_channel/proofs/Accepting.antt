@@ -22,18 +22,18 @@ use Rattle.playlist_write.specs.declared.resumed.WrittenText.{WrittenText}
 use Rattle.channel_spec.specs.Live.{states_instant, date_ranges_left}
 use Rattle.channel_spec.specs.Kept.{Kept, head_numbers, window_on, items_on, kept_items, kept_list, kept_length}
 use Rattle.channel_spec.specs.Live.{date_range_text}
-use Rattle.channel_window.specs.Marking.{so_far}
+use Rattle.channel_window.specs.Marking.{history_in}
 use Rattle.channel_window.specs.ListEnd.{IsLastEnding}
 use Rattle.channel_window.specs.Showing.{AreKept, kept_in, IsShown}
 use Rattle.channel_window.specs.declared.showing.Showing.{Showing}
 use Rattle.channel_window.specs.declared.state.ChannelState.{ChannelState}
-use Rattle.channel_window.specs.Listed.{head_of, states_time}
+use Rattle.channel_window.specs.Listed.{head_of, writes_time}
 use Rattle.owed_is_denoted.specs.Owed.{out_playlist}
 use Rattle.break_finder.specs.Breaks.{Break}
 use Rattle.live_channel.specs.declared.channel.Refreshed.{Refreshed}
 use Rattle.live_channel.specs.declared.next.NextState.{NextState}
 use Rattle.live_channel.specs.Channel.{refreshed_with, fresh_after}
-use Rattle.live_channel.specs.Inner.Accepting.{breaks_after, text_with_window, state_with, accepted_state, Accepts, Follows, HasGrown, IsNext, IsReady, IsAccepted}
+use Rattle.live_channel.specs.Inner.Accepting.{breaks_after, text_with_window, state_with, accepted_state, Accepts, FollowsLastPlaylist, HasGrown, IsNext, IsReady, IsAccepted}
 use Rattle.live_channel.specs.Inner.LastText.{StoodIn}
 
 -- ---- items
@@ -42,7 +42,7 @@ pub heads : (items : List Item) → head_of (map written_item items) ≡ head_nu
 heads [] = refl
 heads (item ∷ later) = refl
 
-timed : (items : List Item) → list_any states_time (map written_item items) ≡ list_any states_instant items
+timed : (items : List Item) → list_any writes_time (map written_item items) ≡ list_any states_instant items
 timed [] = refl
 timed (item ∷ later) = ap (λ b. is_some item.piece.instant || b) (timed later)
 
@@ -54,18 +54,18 @@ left_alike timed short long date_ranges same = grind (arith, filter_same)
 
 module _ (state : ChannelState) (p : Playlist) (held : List Held) (n : ℕ) where
   abbrev seen : List Marked
-  seen = so_far state.store held
+  seen = history_in state.store held
 
   abbrev window : List Item
   window = window_on (kept_in state) p seen n
 
   pub text_seen : (items : List OutSegment) (breaks : List (List ℕ)) (text : List ℕ) → items ≡ map written_item window → NameTheSame breaks (breaks_after (kept_in state) p seen)
-      → text ≡ playlist_text (out_playlist p (map date_range_text (date_ranges_left (list_any states_time items) breaks p.date_ranges)) items)
+      → text ≡ playlist_text (out_playlist p (map date_range_text (date_ranges_left (list_any writes_time items) breaks p.date_ranges)) items)
       → text ≡ text_with_window p (breaks_after (kept_in state) p seen) window
   text_seen items breaks text w u t =
-      let stated : list_any states_time items ≡ list_any states_instant window = ap (list_any states_time) w ∙ timed window in
+      let stated : list_any writes_time items ≡ list_any states_instant window = ap (list_any writes_time) w ∙ timed window in
       t
-      ∙ (ap (λ os. playlist_text (out_playlist p (map date_range_text (date_ranges_left (list_any states_time items) breaks p.date_ranges)) os)) w
+      ∙ (ap (λ os. playlist_text (out_playlist p (map date_range_text (date_ranges_left (list_any writes_time items) breaks p.date_ranges)) os)) w
       ∙ (ap (λ b. playlist_text (out_playlist p (map date_range_text (date_ranges_left b breaks p.date_ranges)) (map written_item window))) stated
       ∙ ap (λ rs. playlist_text (out_playlist p (map date_range_text rs) (map written_item window))) (left_alike (list_any states_instant window) breaks (breaks_after (kept_in state) p seen) p.date_ranges u)))
 
@@ -91,20 +91,20 @@ module _ (tolerance : ℕ) (state : ChannelState) (p : Playlist) (held : List He
   abbrev kept : Kept
   kept = kept_in state
 
-  pub accepted : IsNext kept p showing.knowledge held (so_far state.store held) showing.so_far showing.fresh next → IsAccepted tolerance kept p held next
+  pub accepted : IsNext kept p showing.knowledge held (history_in state.store held) showing.so_far showing.fresh next → IsAccepted tolerance kept p held next
   accepted n =
       subst (λ (breaks : List Break). IsNext kept p breaks held (kept_list tolerance kept p) (kept_length tolerance kept p) (fresh_after kept.shown p) next) shown.breaks
       (subst (λ (list : List Marked). IsNext kept p showing.knowledge held list (kept_length tolerance kept p) (fresh_after kept.shown p) next) shown.list
-      (subst (λ (so_long : ℕ). IsNext kept p showing.knowledge held (so_far state.store held) so_long (fresh_after kept.shown p) next) shown.length
-      (subst (λ (fresh : ℕ). IsNext kept p showing.knowledge held (so_far state.store held) showing.so_far fresh next) shown.fresh n)))
+      (subst (λ (so_long : ℕ). IsNext kept p showing.knowledge held (history_in state.store held) so_long (fresh_after kept.shown p) next) shown.length
+      (subst (λ (fresh : ℕ). IsNext kept p showing.knowledge held (history_in state.store held) showing.so_far fresh next) shown.fresh n)))
 
 pub items_kept : (tolerance : ℕ) (state : ChannelState) (p : Playlist) (held : List Held) (showing : Showing) → IsShown tolerance state p held showing
-    → items_on (kept_in state) p (so_far state.store held) showing.so_far ≡ kept_items tolerance (kept_in state) p
+    → items_on (kept_in state) p (history_in state.store held) showing.so_far ≡ kept_items tolerance (kept_in state) p
 items_kept tolerance state p held showing shown = grind arith
 
 -- so it is whatever the segments were put behind
 pub accepted_as : (tolerance : ℕ) (state before : ChannelState) (p : Playlist) (held list : List Held) (showing : Showing) (result : Result NextState RefreshFault) → IsShown tolerance state p held showing → before ≡ state → list ≡ held
-    → IfOk result (λ next. IsNext (kept_in before) p showing.knowledge list (so_far before.store list) showing.so_far showing.fresh next) → IfOk result (λ next. IsAccepted tolerance (kept_in state) p held next)
+    → IfOk result (λ next. IsNext (kept_in before) p showing.knowledge list (history_in before.store list) showing.so_far showing.fresh next) → IfOk result (λ next. IsAccepted tolerance (kept_in state) p held next)
 accepted_as tolerance state before p held list showing result shown e f n = grind arith
 
 -- the first of them alone are those that were shown before
@@ -118,7 +118,7 @@ ready tolerance state before p come list showing written e f shown stood kept en
 
 -- ---- a refresh is accepted
 
-pub accepts : (tolerance : ℕ) (old grown new : ChannelState) (p : Playlist) (last : Heading) (next : NextState) (written : Option WrittenText) (result : Result Refreshed RefreshFault) → HasGrown old grown → Follows tolerance (kept_in old) p grown.list next → last ≡ heading_of p
+pub accepts : (tolerance : ℕ) (old grown new : ChannelState) (p : Playlist) (last : Heading) (next : NextState) (written : Option WrittenText) (result : Result Refreshed RefreshFault) → HasGrown old grown → FollowsLastPlaylist tolerance (kept_in old) p grown.list next → last ≡ heading_of p
     → OnOk result (new ≡ state_with grown last next) → IfOk result (λ done. done ≡ next.refreshed) → OnOk result (written ≡ Some next.written) → IfOk result (λ done. Accepts tolerance old p new written done)
 accepts tolerance old grown new p last next written (Ok done) (come, is) follows same state answer text = record {
   held = grown.list;

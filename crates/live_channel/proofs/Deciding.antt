@@ -10,13 +10,13 @@ use Rattle.pod_store.specs.Store.{Store, Changes, ChangesExactly}
 use Rattle.pod_store.specs.Store as store
 use Rattle.decision_files.specs.Decided.{decisions_of}
 use Rattle.spec_words.specs.Outcomes.{◌>>=◌}
-use Rattle.pod_store.specs.Outcome.{Outcome, Refuses}
+use Rattle.pod_store.specs.Outcome.{DecisionOutcome, RefusesByDecisionFault}
 use Rattle.stitcher.specs.declared.marked.MarkedSegment.{MarkedSegment as Held}
 use Rattle.stitcher.specs.StitchedSegments.{rest_in}
-use Rattle.channel_spec.specs.Live.{taken}
+use Rattle.channel_spec.specs.Live.{store_by_outcome}
 use Rattle.channel_spec.specs.LiveLaws.{HasPod}
 use Rattle.channel_spec.proofs.HeldPods.{decide_keeps}
-use Rattle.live_channel.specs.Channel.{Channel, Given, decided, withdrawn, IsAsTyped, Represents, Stands, channel_with, with_store, ChangesStore, ChangesStoreExactly, StandsOn, AlwaysStandsOn, after_bytes}
+use Rattle.live_channel.specs.Channel.{Channel, Given, decided, withdrawn, IsAsTyped, Represents, WasGivenSomething, channel_with, with_store, ChangesStore, ChangesStoreExactly, StandsOn, AlwaysStandsOn, after_bytes}
 use Rattle.channel_window.specs.declared.state.ChannelState.{ChannelState}
 use Rattle.channel_window.specs.Showing.{AreKept}
 use Rattle.live_channel.proofs.Steps.{decide_follows, undecided_follows, withdraw_follows}
@@ -32,8 +32,8 @@ module _ (base : Parts) (tolerance : ℕ) (state : ChannelState) (text : Option 
   abbrev at : Store → Channel
   at store = channel_with base tolerance (record state { store = store }) text
 
-  pub record Answered (old new : Store) (event : Given) (result : Result (Unit {0}) DecisionFault) (outcome : Outcome Store) : Type 0 where
-    pub stands : Stands (at new)
+  pub record Answered (old new : Store) (event : Given) (result : Result (Unit {0}) DecisionFault) (outcome : DecisionOutcome Store) : Type 0 where
+    pub stands : WasGivenSomething (at new)
     pub decided : kept_by new
     pub changes : ChangesStore (at old) (at new) result outcome
     pub on : StandsOn (at old) event result (at new)
@@ -47,12 +47,12 @@ module _ (base : Parts) (tolerance : ℕ) (state : ChannelState) (text : Option 
       → Represents (with_store (at old) new) (event ∷ given) → Represents (at new) (event ∷ given)
   changed old new event given s d keeps h = subst (λ c. Represents c (event ∷ given)) (sym (moved old new (all_stay (at old) given new shown state.shown.rest s refl refl d.decided d.rest keeps))) h
 
-  pub answered : (old new : Store) (event : Given) (result : Result (Unit {0}) DecisionFault) (outcome : Outcome (Store)) → Changes old new result outcome → Stands (at old) → kept_by old
-      → ((mark : Option Mark) → HasPod old mark → HasPod (taken old outcome) mark)
-      → ((given : List Given) → Represents (at old) given → Represents (with_store (at old) (taken old outcome)) (event ∷ given))
+  pub answered : (old new : Store) (event : Given) (result : Result (Unit {0}) DecisionFault) (outcome : DecisionOutcome (Store)) → Changes old new result outcome → WasGivenSomething (at old) → kept_by old
+      → ((mark : Option Mark) → HasPod old mark → HasPod (store_by_outcome old outcome) mark)
+      → ((given : List Given) → Represents (at old) given → Represents (with_store (at old) (store_by_outcome old outcome)) (event ∷ given))
       → Answered old new event result outcome
   answered old new event (Ok u) outcome h stands d keeps follows =
-      let same : taken old outcome ≡ new = ap (taken old) h in
+      let same : store_by_outcome old outcome ≡ new = ap (store_by_outcome old) h in
       let keeps_new = subst (λ (x : Store). (mark : Option Mark) → HasPod old mark → HasPod x mark) same keeps in
       let follows_new = subst (λ (x : Store). (given : List Given) → Represents (at old) given → Represents (with_store (at old) x) (event ∷ given)) same follows in
       let stay = all_stay (at old) stands.0 new shown state.shown.rest stands.1 refl refl d.decided d.rest keeps_new in
@@ -65,16 +65,16 @@ module _ (base : Parts) (tolerance : ℕ) (state : ChannelState) (text : Option 
   answered old new event (Err e) outcome h stands d keeps follows =
       let same : at new ≡ at old = ap at h.0 in
       record {
-        stands = subst Stands (sym same) stands;
+        stands = subst WasGivenSomething (sym same) stands;
         decided = subst (λ (x : Store). kept_by x) (sym h.0) d;
         changes = (same, h.1);
         on = λ given s n.
             subst (λ c. Represents c (event ∷ given)) (sym same)
-            (subst (λ (x : Store). Represents (with_store (at old) x) (event ∷ given)) (ap (taken old) (h.1 n)) (follows given s));
+            (subst (λ (x : Store). Represents (with_store (at old) x) (event ∷ given)) (ap (store_by_outcome old) (h.1 n)) (follows given s));
       }
 
   pub record Withdrew (old new : Store) (id : List ℕ) (result : Result (Unit {0}) DecisionFault) : Type 0 where
-    pub stands : Stands (at new)
+    pub stands : WasGivenSomething (at new)
     pub decided : kept_by new
     pub changes : ChangesStoreExactly (at old) (at new) result (store.withdrawn old id)
     pub on : AlwaysStandsOn (at old) (withdrawn id) (at new)
@@ -88,27 +88,27 @@ module _ (base : Parts) (tolerance : ℕ) (state : ChannelState) (text : Option 
     changes = (a.changes.0, h.1);
     on = λ given s.
         subst (λ c. Represents c (withdrawn id ∷ given)) (sym a.changes.0)
-        (subst (λ (x : Store). Represents (with_store (at old) x) (withdrawn id ∷ given)) (ap (taken old) h.1) (withdraw_follows (at old) id given s));
+        (subst (λ (x : Store). Represents (with_store (at old) x) (withdrawn id ∷ given)) (ap (store_by_outcome old) h.1) (withdraw_follows (at old) id given s));
   }
 
-  changes_too : (old new : Store) (result : Result (Unit {0}) DecisionFault) (outcome : Outcome Store) → ChangesExactly old new result outcome → Changes old new result outcome
+  changes_too : (old new : Store) (result : Result (Unit {0}) DecisionFault) (outcome : DecisionOutcome Store) → ChangesExactly old new result outcome → Changes old new result outcome
   changes_too old new (Ok u) outcome h = h
   changes_too old new (Err e) outcome h = (h.0, λ n. h.1)
 
-  pub withdraw_answered : (old new : Store) (id : List ℕ) (result : Result (Unit {0}) DecisionFault) → ChangesExactly old new result (store.withdrawn old id) → Stands (at old) → kept_by old
+  pub withdraw_answered : (old new : Store) (id : List ℕ) (result : Result (Unit {0}) DecisionFault) → ChangesExactly old new result (store.withdrawn old id) → WasGivenSomething (at old) → kept_by old
       → Withdrew old new id result
   withdraw_answered old new id result h stands d =
       withdrew old new id result h
       (answered old new (withdrawn id) result (store.withdrawn old id) (changes_too old new result (store.withdrawn old id) h) stands d (decide_keeps (Withdraw id) old) (λ given s. withdraw_follows (at old) id given s))
 
   pub decide_answered : (old new : Store) (bytes : List ℕ) (ds : Decisions) (result : Result (Unit {0}) DecisionFault) → IsAsTyped base (decided bytes) → decisions_of bytes ≡ Ok ds → Changes old new result (store.decided old ds)
-      → Stands (at old) → kept_by old → Answered old new (decided bytes) result (after_bytes old bytes)
+      → WasGivenSomething (at old) → kept_by old → Answered old new (decided bytes) result (after_bytes old bytes)
   decide_answered old new bytes ds result g e h stands d =
       subst (λ o. Answered old new (decided bytes) result (o >>= store.decided old)) (sym e)
       (answered old new (decided bytes) result (store.decided old ds) h stands d (decide_keeps ds old) (λ given s. decide_follows (at old) ds bytes given g e s))
 
   -- the bytes say no decisions
-  pub unread_answered : (old : Store) (bytes : List ℕ) (e : DecisionFault) → IsAsTyped base (decided bytes) → Refuses e (decisions_of bytes) → Stands (at old) → kept_by old
+  pub unread_answered : (old : Store) (bytes : List ℕ) (e : DecisionFault) → IsAsTyped base (decided bytes) → RefusesByDecisionFault e (decisions_of bytes) → WasGivenSomething (at old) → kept_by old
       → Answered old old (decided bytes) (Err e) (after_bytes old bytes)
   unread_answered old bytes e g h stands d = record {
     stands = stands;

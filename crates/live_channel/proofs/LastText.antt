@@ -7,7 +7,7 @@ use Rattle.url.specs.Parts.{Parts}
 use Rattle.playlist_model.specs.declared.Playlist.{Playlist}
 use Rattle.playlist_model.specs.LookBack.{or_earlier}
 use Rattle.playlist_model.specs.Reading.{reading, limited}
-use Rattle.stitcher.specs.Stitched.{Piece, Item, Numbers, numbered, fits}
+use Rattle.stitcher.specs.Stitched.{Piece, Item, Numbers, numbered, can_be_numbered}
 use Rattle.stitcher.specs.Written.{written_item}
 use Rattle.stitcher.specs.declared.OutSegment.{OutSegment}
 use Rattle.playlist_write.specs.declared.resumed.WrittenText.{WrittenText}
@@ -16,7 +16,7 @@ use Rattle.read_is_writable.proofs.Whole.{can_be_written}
 use Rattle.owed_is_denoted.proofs.Given.{is_read}
 use Rattle.pod_store.specs.declared.fault.DecisionFault.{DecisionFault}
 use Rattle.pod_store.specs.Store.{Store}
-use Rattle.pod_store.specs.Outcome.{Outcome}
+use Rattle.pod_store.specs.Outcome.{DecisionOutcome}
 use Rattle.channel_spec.specs.declared.fault.RefreshFault.TheVariants.{NumberRange}
 use Rattle.channel_spec.specs.Successor.{fault_if}
 use Rattle.channel_spec.specs.LiveLaws.{GoesOn}
@@ -24,7 +24,7 @@ use Rattle.channel_spec.specs.Live.{Told, told, refusal, last_playlist, after_re
 use Rattle.channel_spec.specs.Live as live
 use Rattle.channel_spec.specs.Kept.{Kept, kept_of, kept_succession, kept_after, kept_items, kept_length, kept_list, kept_window, kept_refusal, shown_from, window_by}
 use Rattle.channel_spec.specs.Successor.{first_number}
-use Rattle.channel_window.specs.ListEnd.{IsEndingOf, IsLastEnding, has_ended, last_window}
+use Rattle.channel_window.specs.ListEnd.{IsEndingOf, IsLastEnding, heading_has_ended, last_window}
 use Rattle.channel_window.specs.Showing.{kept_in}
 use Rattle.channel_window.specs.declared.state.ChannelState.{ChannelState}
 use Rattle.channel_window.specs.declared.state.Ending.{Ending}
@@ -94,17 +94,17 @@ window_written base tolerance given bytes p typed read unrefused =
     ∙ (ap (λ u. window_after u p) (sym now) ∙ sym (f.window none)))
 
 pub laid_next : (base : Parts) (tolerance : ℕ) (given : List Given) (bytes : List ℕ) (p : Playlist) (k k' : Kept) (w : WrittenText) → k ≡ kept_of (told_by base tolerance given) → k' ≡ kept_of (told_by base tolerance (refreshed bytes ∷ given))
-    → AllByRecursion (IsAsTyped base) (refreshed bytes ∷ given) → reading limited base bytes ≡ Ok p → kept_succession k p ≡ None → list_all fits (kept_items tolerance k p) ≡ true
+    → AllByRecursion (IsAsTyped base) (refreshed bytes ∷ given) → reading limited base bytes ≡ Ok p → kept_succession k p ≡ None → list_all can_be_numbered (kept_items tolerance k p) ≡ true
     → IsLaid (map written_item (kept_window tolerance k p)) w → IsLaidOut k' (Some w)
 laid_next base tolerance given bytes p k k' w e e' typed read follows fit laid = grind (arith, window_written, reverse)
 
 -- and the end is known from which the list goes on then
 pub ending_next : (base : Parts) (tolerance : ℕ) (given : List Given) (bytes : List ℕ) (p : Playlist) (k k' : Kept) (e : Option Ending) → k ≡ kept_of (told_by base tolerance given) → k' ≡ kept_of (told_by base tolerance (refreshed bytes ∷ given))
-    → AllByRecursion (IsAsTyped base) (refreshed bytes ∷ given) → reading limited base bytes ≡ Ok p → kept_succession k p ≡ None → list_all fits (kept_items tolerance k p) ≡ true
+    → AllByRecursion (IsAsTyped base) (refreshed bytes ∷ given) → reading limited base bytes ≡ Ok p → kept_succession k p ≡ None → list_all can_be_numbered (kept_items tolerance k p) ≡ true
     → IsEndingOf (shown_from (first_number p.segments) (kept_list tolerance k p)) p.end_list (kept_length tolerance k p) (map written_item (kept_window tolerance k p)) e → IsLastEnding k' e
 ending_next base tolerance given bytes p k k' ending e e' typed read follows fit end =
     let t = told_by base tolerance given in
-    let unrefused : kept_refusal tolerance k p ≡ None = ap (λ o. or_earlier o (fault_if (not (list_all fits (kept_items tolerance k p))) NumberRange)) follows ∙ ap (λ b. fault_if (not b) NumberRange) fit in
+    let unrefused : kept_refusal tolerance k p ≡ None = ap (λ o. or_earlier o (fault_if (not (list_all can_be_numbered (kept_items tolerance k p))) NumberRange)) follows ∙ ap (λ b. fault_if (not b) NumberRange) fit in
     let there : kept_refusal tolerance (kept_of t) p ≡ None = ap (λ x. kept_refusal tolerance x p) (sym e) ∙ unrefused in
     let sound = is_read p (can_be_written limited base bytes p read) in
     let f = kept_follows tolerance p (events_of base given) (sound, all_given base given typed.1) in
@@ -114,22 +114,22 @@ ending_next base tolerance given bytes p k k' ending e e' typed read follows fit
     let after : k' ≡ kept_after tolerance k p = e' ∙ (ap kept_of now ∙ (sym (f.kept none) ∙ ap (λ x. kept_after tolerance x p) (sym e))) in
     let window : map written_item (kept_window tolerance k p) ≡ last_window k' =
     ap (map written_item) (ap (λ x. kept_window tolerance x p) e ∙ (sym is ∙ ap (λ x. reverse (last_items x)) (sym e'))) in
-    subst (λ (x : Kept). IsEndingOf x.shown (has_ended x.last) x.so_far (last_window k') ending) (sym after)
+    subst (λ (x : Kept). IsEndingOf x.shown (heading_has_ended x.last) x.so_far (last_window k') ending) (sym after)
     (subst (λ w. IsEndingOf (shown_from (first_number p.segments) (kept_list tolerance k p)) p.end_list (kept_length tolerance k p) w ending) window end)
 
 -- ---- decisions leave it
 
-pub still : (old new : Channel) (result : Result (Unit {0}) DecisionFault) (outcome : Outcome Store) → ChangesStore old new result outcome → last_items new.kept ≡ last_items old.kept
+pub still : (old new : Channel) (result : Result (Unit {0}) DecisionFault) (outcome : DecisionOutcome Store) → ChangesStore old new result outcome → last_items new.kept ≡ last_items old.kept
 still old new result outcome h = grind arith
 
-pub still_exactly : (old new : Channel) (result : Result (Unit {0}) DecisionFault) (outcome : Outcome Store) → ChangesStoreExactly old new result outcome → last_items new.kept ≡ last_items old.kept
+pub still_exactly : (old new : Channel) (result : Result (Unit {0}) DecisionFault) (outcome : DecisionOutcome Store) → ChangesStoreExactly old new result outcome → last_items new.kept ≡ last_items old.kept
 still_exactly old new result outcome h = grind arith
 
-pub shown_still : (old new : Channel) (result : Result (Unit {0}) DecisionFault) (outcome : Outcome Store) → ChangesStore old new result outcome → new.kept.shown ≡ old.kept.shown
+pub shown_still : (old new : Channel) (result : Result (Unit {0}) DecisionFault) (outcome : DecisionOutcome Store) → ChangesStore old new result outcome → new.kept.shown ≡ old.kept.shown
 shown_still old new (Ok u) outcome h = ap (λ (c : Channel). c.kept.shown) h.1
 shown_still old new (Err e) outcome h = ap (λ (c : Channel). c.kept.shown) h.0
 
-pub shown_exactly : (old new : Channel) (result : Result (Unit {0}) DecisionFault) (outcome : Outcome Store) → ChangesStoreExactly old new result outcome → new.kept.shown ≡ old.kept.shown
+pub shown_exactly : (old new : Channel) (result : Result (Unit {0}) DecisionFault) (outcome : DecisionOutcome Store) → ChangesStoreExactly old new result outcome → new.kept.shown ≡ old.kept.shown
 shown_exactly old new (Ok u) outcome h = ap (λ (c : Channel). c.kept.shown) h.1
 shown_exactly old new (Err e) outcome h = ap (λ (c : Channel). c.kept.shown) h.0
 

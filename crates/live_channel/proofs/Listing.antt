@@ -19,7 +19,7 @@ use Rattle.channel_window.specs.Listed.{segments_in}
 use Rattle.channel_window.proofs.Found.{held_listed}
 use Rattle.playlist_kept.specs.Kept.{IsTakenFrom, kept_segments}
 use Rattle.playlist_kept.specs.declared.read_playlist.Read.{Read}
-use Rattle.playlist_kept.specs.declared.source.Source.{Source}
+use Rattle.playlist_kept.specs.declared.source.LastPlaylist.{LastPlaylist}
 use Rattle.live_channel.specs.Channel.{Given, refreshed, events_of, told_by, IsAsTyped, IsListed}
 use Rattle.live_channel.proofs.Steps.{all_given}
 use Rattle.live_channel.proofs.LastText.{told_next}
@@ -49,7 +49,7 @@ drop_none : (n : ℕ) → ◌≡◌ {A = List Segment} (drop n []) []
 drop_none zero = refl
 drop_none (suc n) = refl
 
-pub taken_over : (source : Option Source) (state : ChannelState) (read : Read) → IsListed source state.list → IsTakenFrom (kept_segments source) read → AreTaken (segments_in state.list) read.taken.now
+pub taken_over : (source : Option LastPlaylist) (state : ChannelState) (read : Read) → IsListed source state.list → IsTakenFrom (kept_segments source) read → AreTaken (segments_in state.list) read.taken.now
 taken_over None state read h t = record { from = 0; till = 0; same = ap (map kept_parts) (t ∙ (ap (drop read.from) (take_none read.till) ∙ drop_none read.from)) }
 taken_over (Some source) state read h t =
     let held = segments_in state.list in

@@ -6,23 +6,23 @@ use Rattle.std.proofs.lemmas.List.{append-nil}
 use Rattle.std.specs.Prelude.{Option, Some, None, IsSome, option_map}
 use mathlib.Core.List.{reverse_aux}
 use Rattle.pod_store.specs.Pods.{Pod}
-use Rattle.pod_store.specs.Marks.{Marked}
+use Rattle.pod_store.specs.Marks.{Marked, mark_with, mark_in}
 use Rattle.pod_store.specs.Store.{Store, pod_for, is_one_of}
 use Rattle.pod_store.specs.Inner.Store.{NameTheSame}
 use Rattle.pod_store.proofs.Repeats.{itself, and_then, with_more, once, last_named}
 use Rattle.stitcher.specs.declared.marked.MarkedSegment.{MarkedSegment as Held}
-use Rattle.stitcher.specs.StitchedSegments.{meant, mark_in, mark_with, rest_in, IsDecided, AreDecided}
+use Rattle.stitcher.specs.StitchedSegments.{meant, rest_in, IsDecided, AreDecided}
 use Rattle.channel_spec.specs.Marking.{mark_id}
-use Rattle.channel_spec.specs.Live.{ids_in, marks_from, in_use_with, rest_id}
+use Rattle.channel_spec.specs.Live.{ids_of_option, marks_from, in_use_with, rest_id}
 use Rattle.channel_spec.specs.Kept.{Kept, rest_after}
 use Rattle.channel_spec.specs.Successor.{first_number}
 use Rattle.playlist_model.specs.declared.Playlist.{Playlist}
 use Rattle.stitcher.specs.declared.ends.Rest.{Rest}
 use Rattle.channel_window.specs.Listed.{IsRestDecided}
 use Rattle.channel_window.specs.declared.state.ChannelState.{ChannelState}
-use Rattle.channel_window.specs.Marking.{so_far}
+use Rattle.channel_window.specs.Marking.{history_in}
 use Rattle.stitcher.specs.Making.{is_same_run}
-use Rattle.live_channel.specs.Inner.Marks.{IsNamed, mark_held, marks_held, marks_and_last, rest_held, breaks_held}
+use Rattle.live_channel.specs.Inner.Marks.{IsAmongMarks, mark_held, marks_held, marks_and_last, rest_held, breaks_held}
 
 id_with : (id : List ℕ) (pod : Option Pod) → IsSome pod → option_map mark_id (mark_with id pod) ≡ Some id
 id_with id None d = absurd (cc)
@@ -38,21 +38,21 @@ marks_onto store number [] before d = sym (append-nil (marks_from number before)
 marks_onto store number (m ∷ later) before d = grind (arith, id_seen, append_assoc, marks_onto store number later (meant store m ∷ before) d.1)
 
 marks_seen : (store : Store) (number : ℕ) (held : List Held) (last other : Option (List ℕ)) → AreDecided store held → last ≡ other
-    → marks_and_last number held last ≡ marks_from number (so_far store held) ++ ids_in other
+    → marks_and_last number held last ≡ marks_from number (history_in store held) ++ ids_of_option other
 marks_seen store number held last other d e = grind (arith, marks_onto)
 
-rest_seen : (store : Store) (rest : Option Rest) → IsRestDecided store rest → rest_held rest ≡ ids_in (rest_id (rest_in store rest))
+rest_seen : (store : Store) (rest : Option Rest) → IsRestDecided store rest → rest_held rest ≡ ids_of_option (rest_id (rest_in store rest))
 rest_seen store rest d = grind arith
 
 pub breaks_seen : (state : ChannelState) (kept : Kept) (p : Playlist) (held : List Held) (last other : Option (List ℕ)) (rest : Option Rest) → AreDecided state.store held → last ≡ other
-    → rest_in state.store rest ≡ rest_after kept p (so_far state.store held) → IsRestDecided state.store rest
-    → breaks_held (first_number p.segments) held last rest ≡ in_use_with (first_number p.segments) (so_far state.store held) other (rest_after kept p (so_far state.store held))
+    → rest_in state.store rest ≡ rest_after kept p (history_in state.store held) → IsRestDecided state.store rest
+    → breaks_held (first_number p.segments) held last rest ≡ in_use_with (first_number p.segments) (history_in state.store held) other (rest_after kept p (history_in state.store held))
 breaks_seen state kept p held last other rest d e left decided =
     let number = first_number p.segments in
-    let marks = marks_from number (so_far state.store held) in
+    let marks = marks_from number (history_in state.store held) in
     ap (λ ids. ids ++ rest_held rest) (marks_seen state.store number held last other d e)
-    ∙ (ap (λ ids. (marks ++ ids_in other) ++ ids) (rest_seen state.store rest decided ∙ ap (λ o. ids_in (rest_id o)) left)
-    ∙ append_assoc marks (ids_in other) (ids_in (rest_id (rest_after kept p (so_far state.store held)))))
+    ∙ (ap (λ ids. (marks ++ ids_of_option other) ++ ids) (rest_seen state.store rest decided ∙ ap (λ o. ids_of_option (rest_id o)) left)
+    ∙ append_assoc marks (ids_of_option other) (ids_of_option (rest_id (rest_after kept p (history_in state.store held)))))
 
 -- a segment without a mark adds no break
 pub none_there : (marks : List (List ℕ)) (number : ℕ) (m : Held) → m.mark ≡ None → NameTheSame marks (marks ++ mark_held number m)
@@ -63,7 +63,7 @@ pub none_before : (marks : List (List ℕ)) (number : ℕ) (m : Held) → m.segm
 none_before marks number m h = grind (arith, lt-leb, append-nil, itself)
 
 -- one from the number on adds its own
-pub one_there : (marks new : List (List ℕ)) (number : ℕ) (m : Held) → number ≤ m.segment.media_sequence → NameTheSame new (marks ++ ids_in m.mark) → NameTheSame new (marks ++ mark_held number m)
+pub one_there : (marks new : List (List ℕ)) (number : ℕ) (m : Held) → number ≤ m.segment.media_sequence → NameTheSame new (marks ++ ids_of_option m.mark) → NameTheSame new (marks ++ mark_held number m)
 one_there marks new number m h e = grind arith
 
 pub one_marked : (marks new : List (List ℕ)) (number : ℕ) (here : Held) (later list : List Held) → NameTheSame (marks ++ marks_held number (here ∷ later)) (marks_held number list)
@@ -81,15 +81,15 @@ pub put_once : (marks : List (List ℕ)) (id : List ℕ) → is_one_of marks id 
 put_once marks id h = once marks id h
 
 -- a segment that goes on the run of one whose break is named adds none
-pub named_before : (marks : List (List ℕ)) (mark previous : Option (List ℕ)) → is_same_run mark previous ≡ true → IsNamed marks previous → NameTheSame marks (marks ++ ids_in mark)
+pub named_before : (marks : List (List ℕ)) (mark previous : Option (List ℕ)) → is_same_run mark previous ≡ true → IsAmongMarks marks previous → NameTheSame marks (marks ++ ids_of_option mark)
 named_before marks mark previous e h = grind (arith, put_once, bytes_eq-Decides)
 
 -- and its own is named
-pub named_here : (marks : List (List ℕ)) (mark previous : Option (List ℕ)) → is_same_run mark previous ≡ true → IsNamed marks previous → IsNamed marks mark
+pub named_here : (marks : List (List ℕ)) (mark previous : Option (List ℕ)) → is_same_run mark previous ≡ true → IsAmongMarks marks previous → IsAmongMarks marks mark
 named_here marks mark previous e h = grind (arith, bytes_eq-Decides)
 
 -- so is one that was put
-pub named_then : (marks new : List (List ℕ)) (mark : Option (List ℕ)) → NameTheSame new (marks ++ ids_in mark) → IsNamed new mark
+pub named_then : (marks new : List (List ℕ)) (mark : Option (List ℕ)) → NameTheSame new (marks ++ ids_of_option mark) → IsAmongMarks new mark
 named_then marks new None h = tt
 named_then marks new (Some id) h = grind (arith, last_named, bytes_eq-Decides)
 

@@ -6,24 +6,24 @@ use Rattle.std.proofs.lemmas.Bool.{and_from}
 use Rattle.url.specs.Parts.{Parts}
 use Rattle.playlist_model.specs.declared.PlaylistFault.{PlaylistFault}
 use Rattle.playlist_model.specs.declared.Playlist.{Playlist}
-use Rattle.pod_store.specs.Marks.{Marked}
+use Rattle.pod_store.specs.Marks.{Marked, mark_in}
 use Rattle.playlist_model.specs.LookBack.{or_earlier}
 use Rattle.playlist_model.specs.Reading.{reading, limited}
-use Rattle.stitcher.specs.Stitched.{fits}
+use Rattle.stitcher.specs.Stitched.{can_be_numbered}
 use Rattle.read_is_writable.specs.Read.{uris_are_text}
 use Rattle.read_is_writable.proofs.Whole.{can_be_written}
 use Rattle.pod_store.specs.Store.{Entry, Store, has_id, pod_of, pod_for, is_one_of, with_copies, kept_in_use}
 use Rattle.pod_store.proofs.Copies.{pod_stays, fallback_stands}
 use Rattle.stitcher.specs.declared.marked.MarkedSegment.{MarkedSegment as Held}
 use Rattle.stitcher.specs.declared.ends.Rest.{Rest}
-use Rattle.stitcher.specs.StitchedSegments.{meant, mark_in, rest_in, IsDecided, AreDecided}
+use Rattle.stitcher.specs.StitchedSegments.{meant, rest_in, IsDecided, AreDecided}
 use Rattle.break_finder.specs.Known.{is_this}
 use Rattle.channel_spec.specs.declared.fault.RefreshFault.{RefreshFault}
 use Rattle.playlist_model.specs.declared.FaultKind.TheVariants.{OutOfMemory as NoMemory}
 use Rattle.channel_spec.specs.Unread.{is_out_of_memory_kind, fault_of_reading}
 use Rattle.channel_spec.specs.declared.fault.RefreshFault.TheVariants.{Playlist as Unreadable, NumberRange, OutOfMemory}
 use Rattle.channel_spec.specs.Successor.{first_number, fault_if}
-use Rattle.channel_spec.specs.Live.{is_marked, rest_id}
+use Rattle.channel_spec.specs.Live.{is_mark_of, rest_id}
 use Rattle.channel_spec.specs.Marking.{last_entered}
 use Rattle.channel_spec.proofs.StoreAfter.{entries_after}
 use Rattle.channel_spec.specs.Kept.{Kept, kept_succession, shown_from, kept_after, kept_items, kept_list, kept_window, kept_refusal, rest_after}
@@ -34,11 +34,11 @@ use Rattle.live_channel.specs.declared.channel.Refreshed.{Refreshed}
 use Rattle.live_channel.specs.declared.next.NextState.{NextState}
 use Rattle.channel_window.specs.declared.state.ChannelState.{ChannelState}
 use Rattle.channel_window.specs.Checked.{AreContiguous}
-use Rattle.channel_window.specs.Marking.{so_far}
+use Rattle.channel_window.specs.Marking.{history_in}
 use Rattle.channel_window.specs.Showing.{AreKept, kept_in}
 use Rattle.channel_window.specs.Listed.{IsRestDecided}
-use Rattle.live_channel.specs.Channel.{Channel, Reading, refreshed, IsAsTyped, Stands, channel_with, judged, refreshed_with, fresh_after, step_judged, step_read, says_read, is_out_of_memory, Steps, StepsUnless, Refreshes}
-use Rattle.live_channel.specs.Inner.Accepting.{breaks_after, IsAccepted, IsRead, Follows, RefusesNext, Refused, accepted_state}
+use Rattle.live_channel.specs.Channel.{Channel, Reading, refreshed, IsAsTyped, WasGivenSomething, channel_with, judged, refreshed_with, fresh_after, step_judged, step_read, says_read, is_out_of_memory, Steps, StepsUnless, Refreshes}
+use Rattle.live_channel.specs.Inner.Accepting.{breaks_after, IsAccepted, BytesAreReadAs, FollowsLastPlaylist, RefusesNext, Refused, accepted_state}
 use Rattle.channel_window.proofs.ShownWith.{marked_too}
 use Rattle.live_channel.proofs.Stores.{MarksStay, RestStays, Stay, unturned}
 use Rattle.live_channel.proofs.Steps.{steps_refresh}
@@ -65,13 +65,13 @@ pod_stays_on ids store id u =
     ap (λ o. or_earlier o store.fallback) (after_found (is_one_of ids) copied id (find (has_id id) copied.entries) u refl)
     ∙ (ap (λ f. or_earlier (option_map pod_of (find (has_id id) copied.entries)) f) (sym (fallback_stands store ids)) ∙ pod_stays store ids id)
 
-mark_stays : (ids : List (List ℕ)) (store : Store) (o : Option (List ℕ)) → IsDecided store o → ((id : List ℕ) → is_marked id (mark_in store o) ≡ true → is_one_of ids id ≡ true)
+mark_stays : (ids : List (List ℕ)) (store : Store) (o : Option (List ℕ)) → IsDecided store o → ((id : List ℕ) → is_mark_of id (mark_in store o) ≡ true → is_one_of ids id ≡ true)
     → (mark_in (kept_in_use ids store) o ≡ mark_in store o) × IsDecided (kept_in_use ids store) o
 mark_stays ids store None d h = (refl, tt)
 mark_stays ids store (Some id) d h = grind (arith, pod_stays_on, marked_too, same_id)
 
 marks_stay : (ids : List (List ℕ)) (store : Store) (held : List Held) → AreDecided store held
-    → AllByRecursion (λ (x : Marked). (id : List ℕ) → is_marked id x.mark ≡ true → is_one_of ids id ≡ true) (map (meant store) held) → MarksStay store (kept_in_use ids store) held
+    → AllByRecursion (λ (x : Marked). (id : List ℕ) → is_mark_of id x.mark ≡ true → is_one_of ids id ≡ true) (map (meant store) held) → MarksStay store (kept_in_use ids store) held
 marks_stay ids store [] d h = record { same = refl; decided = tt }
 marks_stay ids store (m ∷ later) d h =
     let here = mark_stays ids store m.mark d.0 h.0 in
@@ -97,13 +97,13 @@ or_second : (a b : Bool) → b ≡ true → (a || b) ≡ true
 or_second true b e = refl
 or_second false b e = e
 
-used_from : (first : ℕ) (uses : List ℕ → Bool) (list : List Marked) → ((id : List ℕ) → list_any (λ (s : Marked). nat_le first s.segment.media_sequence && is_marked id s.mark) list ≡ true → uses id ≡ true)
-    → AllByRecursion (λ (x : Marked). (id : List ℕ) → is_marked id x.mark ≡ true → uses id ≡ true) (shown_from first list)
+used_from : (first : ℕ) (uses : List ℕ → Bool) (list : List Marked) → ((id : List ℕ) → list_any (λ (s : Marked). nat_le first s.segment.media_sequence && is_mark_of id s.mark) list ≡ true → uses id ≡ true)
+    → AllByRecursion (λ (x : Marked). (id : List ℕ) → is_mark_of id x.mark ≡ true → uses id ≡ true) (shown_from first list)
 used_from first uses [] h = tt
 used_from first uses (s ∷ before) h = step (nat_le first s.segment.media_sequence) refl (used_from first uses before (λ id k. h id (or_second _ _ k)))
   where
-    step : (b : Bool) → nat_le first s.segment.media_sequence ≡ b → AllByRecursion (λ (x : Marked). (id : List ℕ) → is_marked id x.mark ≡ true → uses id ≡ true) (shown_from first before)
-        → AllByRecursion (λ (x : Marked). (id : List ℕ) → is_marked id x.mark ≡ true → uses id ≡ true) (cond b (s ∷ shown_from first before) [])
+    step : (b : Bool) → nat_le first s.segment.media_sequence ≡ b → AllByRecursion (λ (x : Marked). (id : List ℕ) → is_mark_of id x.mark ≡ true → uses id ≡ true) (shown_from first before)
+        → AllByRecursion (λ (x : Marked). (id : List ℕ) → is_mark_of id x.mark ≡ true → uses id ≡ true) (cond b (s ∷ shown_from first before) [])
     step true e rest = (λ id k. h id (or_first _ _ (and_from _ _ e k)), rest)
     step false e rest = tt
 
@@ -132,7 +132,7 @@ module _ (base : Parts) (tolerance : ℕ) (state : ChannelState) (text : Option 
   typed : (p : Playlist) → reading limited base bytes ≡ Ok p → list_all uris_are_text p.segments ≡ true → IsAsTyped base (refreshed bytes)
   typed p e t q f = subst (λ (x : Playlist). list_all uris_are_text x.segments ≡ true) (same_read p q (sym e ∙ f)) t
 
-  module _ (p : Playlist) (held : List Held) (a : NextState) (h : IsRead base bytes p) (f : Follows tolerance (kept_in state) p held a) where
+  module _ (p : Playlist) (held : List Held) (a : NextState) (h : BytesAreReadAs base bytes p) (f : FollowsLastPlaylist tolerance (kept_in state) p held a) where
     abbrev kept : Kept
     kept = kept_in state
 
@@ -147,15 +147,15 @@ module _ (base : Parts) (tolerance : ℕ) (state : ChannelState) (text : Option 
     after = channel_with base tolerance (accepted_state grown p a) (Some a.written.text)
 
     pub unrefused : kept_refusal tolerance kept p ≡ None
-    unrefused = no_fault (kept_succession kept p) (fault_if (not (list_all fits (kept_items tolerance kept p))) NumberRange) f.succeeds (ap (λ b. fault_if (not b) NumberRange) accepted.fit)
+    unrefused = no_fault (kept_succession kept p) (fault_if (not (list_all can_be_numbered (kept_items tolerance kept p))) NumberRange) f.succeeds (ap (λ b. fault_if (not b) NumberRange) accepted.fit)
 
     listed : (id : List ℕ) → (is_shown_with (first_number p.segments) (kept_list tolerance kept p) (or_earlier (last_entered (kept_list tolerance kept p)) kept.entered) id || is_this id (rest_id (rest_after kept p (kept_list tolerance kept p)))) ≡ true
         → is_one_of a.in_use.items id ≡ true
     listed id k = accepted.in_use.ids id ∙ (in_use_with_is (first_number p.segments) (kept_list tolerance kept p) (or_earlier (last_entered (kept_list tolerance kept p)) kept.entered) (rest_after kept p (kept_list tolerance kept p)) id ∙ k)
 
-    in_use : AllByRecursion (λ (x : Marked). (id : List ℕ) → is_marked id x.mark ≡ true → is_one_of a.in_use.items id ≡ true) (so_far state.store (drop a.gone held))
+    in_use : AllByRecursion (λ (x : Marked). (id : List ℕ) → is_mark_of id x.mark ≡ true → is_one_of a.in_use.items id ≡ true) (history_in state.store (drop a.gone held))
     in_use =
-        subst (λ (xs : List Marked). AllByRecursion (λ (x : Marked). (id : List ℕ) → is_marked id x.mark ≡ true → is_one_of a.in_use.items id ≡ true) xs) (sym accepted.shown)
+        subst (λ (xs : List Marked). AllByRecursion (λ (x : Marked). (id : List ℕ) → is_mark_of id x.mark ≡ true → is_one_of a.in_use.items id ≡ true) xs) (sym accepted.shown)
         (used_from (first_number p.segments) (is_one_of a.in_use.items) (kept_list tolerance kept p) (λ id k. listed id (or_first _ _ (or_first _ _ k))))
 
     rest_used : (id : List ℕ) → is_this id (rest_id (rest_in state.store a.shown.rest)) ≡ true → is_one_of a.in_use.items id ≡ true
@@ -165,7 +165,7 @@ module _ (base : Parts) (tolerance : ℕ) (state : ChannelState) (text : Option 
     stay = record {
       marks =
           marks_stay a.in_use.items state.store (drop a.gone held) accepted.decided
-          (unturned (λ (x : Marked). (id : List ℕ) → is_marked id x.mark ≡ true → is_one_of a.in_use.items id ≡ true) (map (meant state.store) (drop a.gone held)) [] in_use).0;
+          (unturned (λ (x : Marked). (id : List ℕ) → is_mark_of id x.mark ≡ true → is_one_of a.in_use.items id ≡ true) (map (meant state.store) (drop a.gone held)) [] in_use).0;
       rest = rest_stays a.in_use.items state.store a.shown.rest accepted.rest_decided rest_used;
     }
 
@@ -188,16 +188,16 @@ module _ (base : Parts) (tolerance : ℕ) (state : ChannelState) (text : Option 
     }
 
     pub record Goes (new : ChannelState) (done : Refreshed) : Type 0 where
-      pub stands : Stands (channel_with base tolerance new (Some a.written.text))
+      pub stands : WasGivenSomething (channel_with base tolerance new (Some a.written.text))
       pub decided : AreKept new.store new
       pub refreshes : Refreshes before bytes (Ok done) (channel_with base tolerance new (Some a.written.text))
 
-    goes_so : Stands before → Goes (accepted_state grown p a) a.refreshed
+    goes_so : WasGivenSomething before → Goes (accepted_state grown p a) a.refreshed
     goes_so s =
         let r = steps_refresh before bytes (Ok a.refreshed) after steps in
         record { stands = (refreshed bytes ∷ s.0, (r s.0 s.1).stands); decided = record { decided = stay.marks.decided; rest = stay.rest.decided; runs = accepted.runs }; refreshes = r }
 
-    pub goes : (new : ChannelState) (done : Refreshed) → new ≡ accepted_state grown p a → done ≡ a.refreshed → Stands before → Goes new done
+    pub goes : (new : ChannelState) (done : Refreshed) → new ≡ accepted_state grown p a → done ≡ a.refreshed → WasGivenSomething before → Goes new done
     goes new done e k s = subst (λ (x : ChannelState). Goes x done) (sym e) (subst (Goes (accepted_state grown p a)) (sym k) (goes_so s))
 
   -- ---- a refused refresh
@@ -206,7 +206,7 @@ module _ (base : Parts) (tolerance : ℕ) (state : ChannelState) (text : Option 
   stays (Ok answer) h k = absurd (cc)
   stays (Err e) h k = steps_refresh before bytes (Err e) before (k text)
 
-  refused_as : (p : Playlist) (e : RefreshFault) → IsRead base bytes p → RefusesNext e (kept_refusal tolerance (kept_in state) p)
+  refused_as : (p : Playlist) (e : RefreshFault) → BytesAreReadAs base bytes p → RefusesNext e (kept_refusal tolerance (kept_in state) p)
       → (b : Bool) → is_out_of_memory (Err e) ≡ b → StepsUnless b before bytes (Err e) before
   refused_as p e r h true same = refl
   refused_as p e r h false same =
@@ -218,7 +218,7 @@ module _ (base : Parts) (tolerance : ℕ) (state : ChannelState) (text : Option 
       }
 
   -- one that was read, and may not follow, or passes the range of numbers
-  pub stays_next : (p : Playlist) (result : Result Refreshed RefreshFault) → IsErr result → IsRead base bytes p → IfErr result (λ e. RefusesNext e (kept_refusal tolerance (kept_in state) p))
+  pub stays_next : (p : Playlist) (result : Result Refreshed RefreshFault) → IsErr result → BytesAreReadAs base bytes p → IfErr result (λ e. RefusesNext e (kept_refusal tolerance (kept_in state) p))
       → Refreshes before bytes result before
   stays_next p (Ok answer) h r k = absurd (cc)
   stays_next p (Err e) h r k = steps_refresh before bytes (Err e) before (refused_as p e r k (is_out_of_memory (Err e)) refl)

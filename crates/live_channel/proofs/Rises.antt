@@ -24,7 +24,7 @@ use Rattle.owed_is_denoted.proofs.Given.{is_read}
 use Rattle.channel_spec.proofs.LiveState.{StandingOf}
 use Rattle.channel_spec.proofs.EachWindow.{plain_standing, holds}
 use Rattle.channel_window.specs.declared.state.ChannelState.{ChannelState}
-use Rattle.channel_window.specs.Marking.{so_far}
+use Rattle.channel_window.specs.Marking.{history_in}
 use Rattle.channel_window.specs.Showing.{kept_in}
 use Rattle.channel_window.specs.Listed.{RiseByOne, RisesOn}
 use Rattle.live_channel.specs.Channel.{Given, events_of, told_by, IsAsTyped}
@@ -66,10 +66,10 @@ shown_falls (a ∷ before) history p s e =
     let last = a.playlist in
     any_falls (shown_from (first_number last.segments) history) p.segments _ (front_falls (first_number last.segments) _ history s.falls) (passed last p e).no_gap
 
-seen_long : (store : Store) (list : List Held) → length (so_far store list) ≡ length list
+seen_long : (store : Store) (list : List Held) → length (history_in store list) ≡ length list
 seen_long store list = length-reverse (map (meant store) list) ∙ length-map list (meant store)
 
-held_rises : (store : Store) (list : List Held) (segments : List Segment) → FallsBefore (so_far store list) segments → RisesOn list segments
+held_rises : (store : Store) (list : List Held) (segments : List Segment) → FallsBefore (history_in store list) segments → RisesOn list segments
 held_rises store list segments b = grind (arith, held_rise, seen_long)
 
 pub rises_next : (base : Parts) (tolerance : ℕ) (given : List Given) (bytes : List ℕ) (state : ChannelState) (p : Playlist) → reading limited base bytes ≡ Ok p → kept_in state ≡ kept_of (told_by base tolerance given) → AllByRecursion (IsAsTyped base) given → RisesNext state p

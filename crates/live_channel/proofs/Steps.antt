@@ -21,7 +21,7 @@ use Rattle.live_channel.specs.declared.channel.Refreshed.{Refreshed}
 use Rattle.channel_spec.specs.Live.{Event, Told, told, refusal, last_playlist, after_refresh, window_after, written_date_ranges}
 use Rattle.channel_spec.specs.Live as live
 use Rattle.channel_spec.specs.Kept.{Kept, kept_of, kept_refusal, kept_window}
-use Rattle.channel_spec.specs.KeptLaws.{Follows}
+use Rattle.channel_spec.specs.KeptLaws.{FollowsFromKept}
 use Rattle.channel_spec.proofs.KeptWhole.{kept_follows}
 use Rattle.channel_spec.specs.Live.{date_range_text}
 use Rattle.owed_is_denoted.specs.Owed.{owed_playlist, owed_text}
@@ -31,7 +31,7 @@ use Rattle.channel_spec.proofs.SoundPods.{kept_is_sound}
 use Rattle.channel_spec.specs.Sound.{AllPods}
 use Rattle.pod_store.specs.Store.{Store}
 use Rattle.decision_files.specs.Decided.{decisions_of}
-use Rattle.pod_store.specs.Outcome.{Outcome}
+use Rattle.pod_store.specs.Outcome.{DecisionOutcome}
 use Rattle.pod_store.specs.declared.Decisions.{Decisions}
 use Rattle.live_channel.specs.Channel.{Given, decided, withdrawn, refreshed, Reading, readable, decisions_in, with_store, events_in, events_of, told_by, text_after, Channel, Represents, refreshed_with, judged, fresh_after, answer_read, AnswersAs, IsAsTyped, playlist_after, step_judged, step_read, step, says_read, says, StepsUnless, AnswersUnless, WritesOwed}
 use Rattle.live_channel.specs.ChannelLaws.{StepFollows, StepsRefresh, DecideFollows, UndecidedFollows, WithdrawFollows, ChannelWrites}
@@ -46,11 +46,11 @@ read_given : (base : Parts) (bytes : List ℕ) (r : Reading) → reading limited
 read_given base bytes (Ok p) e = (is_read p (can_be_written limited base bytes p e), tt)
 read_given base bytes (Err fault) e = tt
 
-decided_given : (bytes : List ℕ) (o : Outcome Decisions) → decisions_of bytes ≡ o → ((ds : Decisions) → decisions_of bytes ≡ Ok ds → AllPods KeepsRules ds) → AllByRecursion lawful.IsSoundEvent (decisions_in o)
+decided_given : (bytes : List ℕ) (o : DecisionOutcome Decisions) → decisions_of bytes ≡ o → ((ds : Decisions) → decisions_of bytes ≡ Ok ds → AllPods KeepsRules ds) → AllByRecursion lawful.IsSoundEvent (decisions_in o)
 decided_given bytes (Ok ds) e h = (all_of KeepsRules lawful.IsSoundPod ds (λ d k. kept_is_sound d k) (h ds e), tt)
 decided_given bytes (Err fault) e h = tt
 
-decided_good : (bytes : List ℕ) (o : Outcome Decisions) → decisions_of bytes ≡ o → ((ds : Decisions) → decisions_of bytes ≡ Ok ds → AllPods KeepsRules ds) → AllByRecursion CanBeGiven (decisions_in o)
+decided_good : (bytes : List ℕ) (o : DecisionOutcome Decisions) → decisions_of bytes ≡ o → ((ds : Decisions) → decisions_of bytes ≡ Ok ds → AllPods KeepsRules ds) → AllByRecursion CanBeGiven (decisions_in o)
 decided_good bytes (Ok ds) e h = (h ds e, tt)
 decided_good bytes (Err fault) e h = tt
 
@@ -83,7 +83,7 @@ module _ (base : Parts) (tolerance : ℕ) (text : Option (List ℕ)) (given : Li
   abbrev happened : Playlist → Told
   happened p = told tolerance (live.refreshed p ∷ events_of base given)
 
-  same_answer : (p : Playlist) → Follows tolerance p (events_of base given) → (o : Option RefreshFault) → refusal tolerance t p ≡ o
+  same_answer : (p : Playlist) → FollowsFromKept tolerance p (events_of base given) → (o : Option RefreshFault) → refusal tolerance t p ≡ o
       → judged (kept_refusal tolerance (kept_of t) p) (refreshed_with (kept_window tolerance (kept_of t) p) (fresh_after (kept_of t).shown p))
       ≡ judged o (refreshed_with (window_after (after_refresh tolerance t p) p) (fresh_after t.history p))
   same_answer p f (Some fault) e =
@@ -97,7 +97,7 @@ module _ (base : Parts) (tolerance : ℕ) (text : Option (List ℕ)) (given : Li
   abbrev StandsAfter : Channel → Told → Type 0
   StandsAfter d u = (d.kept ≡ kept_of u) × (d.text ≡ text_after u)
 
-  same_channel : (p : Playlist) → Follows tolerance p (events_of base given) → text ≡ text_after t → (o : Option RefreshFault) → refusal tolerance t p ≡ o
+  same_channel : (p : Playlist) → FollowsFromKept tolerance p (events_of base given) → text ≡ text_after t → (o : Option RefreshFault) → refusal tolerance t p ≡ o
       → StandsAfter (step_judged c p o) (cond (is_none o) (after_refresh tolerance t p) t)
   same_channel p f text_is (Some fault) e = (refl, text_is)
   same_channel p f text_is None e =

@@ -4,11 +4,11 @@ use Rattle.std.specs.Prelude.{Option, Some, None, IsSome}
 use Rattle.std.specs.List.{AllByRecursion}
 use mathlib.Core.List.{reverse_aux}
 use Rattle.pod_store.specs.Pods.{Pod}
-use Rattle.pod_store.specs.Marks.{Mark, Marked}
+use Rattle.pod_store.specs.Marks.{Mark, Marked, mark_with, mark_in}
 use Rattle.pod_store.specs.Store.{Store, pod_for}
 use Rattle.stitcher.specs.declared.marked.MarkedSegment.{MarkedSegment as Held}
 use Rattle.stitcher.specs.declared.ends.Rest.{Rest}
-use Rattle.stitcher.specs.StitchedSegments.{meant, mark_in, mark_with, rest_in, IsDecided, AreDecided}
+use Rattle.stitcher.specs.StitchedSegments.{meant, rest_in, IsDecided, AreDecided}
 use Rattle.channel_window.specs.Listed.{IsRestDecided}
 use Rattle.channel_spec.specs.Kept.{Kept}
 use Rattle.channel_spec.specs.LiveLaws.{HasPod, rest_mark}

@@ -17,16 +17,16 @@ use Rattle.channel_window.specs.Showing.{AreKept, IsLastEntered, kept_in}
 use Rattle.channel_window.specs.declared.state.ChannelState.{ChannelState}
 use Rattle.channel_window.specs.Checked.{AreContiguous, AreTaken}
 use Rattle.channel_window.specs.Listed.{segments_in}
-use Rattle.playlist_kept.specs.KeptLines.{WasRead}
+use Rattle.playlist_kept.specs.KeptLines.{LinesWereRead}
 use Rattle.playlist_kept.specs.declared.source.KeptLines.{KeptLines}
-use Rattle.playlist_kept.specs.Kept.{AreKeptLines, IsAfter, IsKept, IsTakenFrom, kept_segments, playlist_in, with_taken}
+use Rattle.playlist_kept.specs.Kept.{AreKeptLines, IsAfter, IsKeptUnderBase, IsTakenFrom, kept_segments, playlist_in, with_taken}
 use Rattle.playlist_kept.specs.declared.read_playlist.Read.{Read}
-use Rattle.playlist_kept.specs.declared.source.Source.{Source}
+use Rattle.playlist_kept.specs.declared.source.LastPlaylist.{LastPlaylist}
 use Rattle.playlist_kept.specs.declared.step.Step.{Step}
 use Rattle.playlist_write.specs.declared.resumed.WrittenText.{WrittenText}
 use Rattle.live_channel.specs.declared.channel.Refreshed.{Refreshed}
-use Rattle.live_channel.specs.Channel.{Stands, IsListed, channel_with, told_by, text_in, Refreshes}
-use Rattle.live_channel.specs.Inner.Accepting.{Accepts, IsJudged, IsRead}
+use Rattle.live_channel.specs.Channel.{WasGivenSomething, IsListed, channel_with, told_by, text_in, Refreshes}
+use Rattle.live_channel.specs.Inner.Accepting.{Accepts, IsJudged, BytesAreReadAs}
 use Rattle.live_channel.specs.LastText.{IsLast}
 use Rattle.channel_window.specs.ListEnd.{IsLastEnding}
 use Rattle.live_channel.proofs.Listing.{listed_next, contiguous_too}
@@ -37,13 +37,13 @@ use Rattle.live_channel.proofs.LastText.{ending_next, laid_next, stood_before}
 
 -- what holds of a channel, but for what it keeps of the text that was read
 pub record IsSound (base : Parts) (tolerance : ℕ) (state : ChannelState) (written : Option WrittenText) : Type 0 where
-  pub stands : Stands (channel_with base tolerance state (text_in written))
+  pub stands : WasGivenSomething (channel_with base tolerance state (text_in written))
   pub kept : AreKept state.store state
   pub contiguous : AreContiguous (segments_in state.list)
   pub laid : IsLast state written
 
 module _ (base : Parts) (tolerance : ℕ) (state : ChannelState) (written : Option WrittenText) (bytes : List ℕ) (read : Read) (sound : IsSound base tolerance state written)
-    (here : IsRead base bytes (playlist_in read)) where
+    (here : BytesAreReadAs base bytes (playlist_in read)) where
   pub judged : AreTaken (segments_in state.list) read.taken.now → read.front ≤ length read.playlist.segments → IsJudged tolerance state written read
   judged taken front =
       let s = sound.stands in
@@ -100,7 +100,7 @@ texts_of front read taken here there =
     ∙ both parts.0 (list_all-append uris_are_text taken (drop front read) ∙ both there parts.1)
 
 pub read_as : (base : Parts) (bytes : List ℕ) (read : Read) → reading limited base bytes ≡ Ok (playlist_in read) → list_all uris_are_text read.playlist.segments ≡ true → list_all uris_are_text read.taken.now ≡ true
-    → IsRead base bytes (playlist_in read)
+    → BytesAreReadAs base bytes (playlist_in read)
 read_as base bytes read is here there = record {
   read = is;
   texts = texts_of read.front read.playlist.segments read.taken.now here there;
@@ -112,7 +112,7 @@ pub alone : (read : Read) → IsTakenFrom [] read → read.taken.now ≡ []
 alone read taken = taken ∙ ap (drop read.from) (take-nil read.till) ∙ drop-nil read.from
 
 pub read_alone : (base : Parts) (bytes : List ℕ) (read : Read) → reading limited base bytes ≡ Ok (playlist_in read) → list_all uris_are_text read.playlist.segments ≡ true → read.taken.now ≡ []
-    → IsRead base bytes (playlist_in read)
+    → BytesAreReadAs base bytes (playlist_in read)
 read_alone base bytes read is here none = grind (arith, read_as)
 
 -- ---- what is kept of the text
@@ -122,25 +122,25 @@ abbrev pub step_of : Read → Step
 step_of read = record { playlist = read.playlist; front = read.front; from = read.from; till = read.till; lines = read.lines }
 
 lines_kept : (base : Parts) (segments : List Segment) (ranges : List DateRange) (lines : Option KeptLines) (kept : KeptLines) → lines ≡ Some kept
-    → MatchOption lines (Unit {0}) (λ k. WasRead base k segments ranges) → WasRead base kept segments ranges
+    → MatchOption lines (Unit {0}) (λ k. LinesWereRead base k segments ranges) → LinesWereRead base kept segments ranges
 lines_kept base segments ranges lines kept is h = grind arith
 
-as_match : (base : Parts) (read : Read) (lines : Option KeptLines) → AreKeptLines base (playlist_in read) lines → MatchOption lines (Unit {0}) (λ k. WasRead base k (playlist_in read).segments (playlist_in read).date_ranges)
+as_match : (base : Parts) (read : Read) (lines : Option KeptLines) → AreKeptLines base (playlist_in read) lines → MatchOption lines (Unit {0}) (λ k. LinesWereRead base k (playlist_in read).segments (playlist_in read).date_ranges)
 as_match base read None h = h
 as_match base read (Some kept) h = h
 
-module _ (base : Parts) (read : Read) (last : Option Source) (taken : IsTakenFrom (kept_segments last) read) (lines : AreKeptLines base (playlist_in read) read.lines) where
-  segments_are : (source : Source) → IsAfter (step_of read) last source → source.segments.items ≡ (playlist_in read).segments
+module _ (base : Parts) (read : Read) (last : Option LastPlaylist) (taken : IsTakenFrom (kept_segments last) read) (lines : AreKeptLines base (playlist_in read) read.lines) where
+  segments_are : (source : LastPlaylist) → IsAfter (step_of read) last source → source.segments.items ≡ (playlist_in read).segments
   segments_are source a = a.segments ∙ ap (with_taken read.front read.playlist.segments) (sym taken)
 
-  pub kept_after : (next : Option Source) → MatchOption next (Unit {0}) (IsAfter (step_of read) last) → IsKept base next
+  pub kept_after : (next : Option LastPlaylist) → MatchOption next (Unit {0}) (IsAfter (step_of read) last) → IsKeptUnderBase base next
   kept_after None a = tt
   kept_after (Some source) a =
       let was = lines_kept base (playlist_in read).segments (playlist_in read).date_ranges read.lines source.lines a.lines (as_match base read read.lines lines) in
-      subst (λ xs. WasRead base source.lines xs source.date_ranges) (sym (segments_are source a))
-      (subst (WasRead base source.lines (playlist_in read).segments) (sym a.date_ranges) was)
+      subst (λ xs. LinesWereRead base source.lines xs source.date_ranges) (sym (segments_are source a))
+      (subst (LinesWereRead base source.lines (playlist_in read).segments) (sym a.date_ranges) was)
 
-  pub listed_after : (next : Option Source) (new : ChannelState) → MatchOption next (Unit {0}) (IsAfter (step_of read) last) → map kept_parts (segments_in new.list) ≡ map kept_parts (playlist_in read).segments
+  pub listed_after : (next : Option LastPlaylist) (new : ChannelState) → MatchOption next (Unit {0}) (IsAfter (step_of read) last) → map kept_parts (segments_in new.list) ≡ map kept_parts (playlist_in read).segments
       → IsListed next new.list
   listed_after None new a h = tt
   listed_after (Some source) new a h = h ∙ ap (map kept_parts) (sym (segments_are source a))

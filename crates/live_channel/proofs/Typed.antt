@@ -7,7 +7,7 @@ use Rattle.pod_store.specs.Pods.{Pod}
 use Rattle.pod_store.specs.declared.Decisions.{Decisions}
 use Rattle.pod_store.specs.declared.Decisions.TheVariants.{Breaks, Fallback}
 use Rattle.pod_store.specs.Rules.{ads_keep}
-use Rattle.pod_store.specs.Outcome.{Outcome}
+use Rattle.pod_store.specs.Outcome.{DecisionOutcome}
 use Rattle.decision_files.specs.Decided.{decisions_of}
 use Rattle.channel_spec.specs.Sound.{AllPods}
 use Rattle.owed_is_denoted.specs.Laws.{KeepsRules}
@@ -23,7 +23,7 @@ breaks_keep ds list e h = subst (AllPods KeepsRules) (sym e) (all_keep list h)
 pub fallback_keeps : (ds : Decisions) (pod : Pod) → ds ≡ Fallback pod → ads_keep pod.ads ≡ true → AllPods KeepsRules ds
 fallback_keeps ds pod e h = subst (AllPods KeepsRules) (sym e) h
 
-abbrev Says : Outcome Decisions → Outcome Decisions → Type 0
+abbrev Says : DecisionOutcome Decisions → DecisionOutcome Decisions → Type 0
 Says a b = a ≡ b
 
 same_ok : (x y : Decisions) → Says (Ok x) (Ok y) → x ≡ y

@@ -10,7 +10,7 @@ use Rattle.playlist_write.specs.declared.resumed.WrittenText.{WrittenText}
 use Rattle.playlist_write.specs.Owed.{Current, none_yet, said_text, segments_owed}
 use Rattle.playlist_write.specs.Laid.{after_segments, states_all, IsFrontLength, IsLaid, HasEnds}
 use Rattle.channel_spec.specs.Live.{date_ranges_left}
-use Rattle.channel_window.specs.Listed.{head_of, states_time}
+use Rattle.channel_window.specs.Listed.{head_of, writes_time}
 use Rattle.live_channel.specs.Inner.LastText.{Stood}
 
 -- ---- items in front of others
@@ -30,7 +30,7 @@ head_one : (xs ys : List OutSegment) → 0 < length xs → head_of (xs ++ ys) �
 head_one [] ys h = absurd (omega (arith, h))
 head_one (x ∷ xs) ys h = refl
 
-any_more : (xs ys : List OutSegment) → list_any states_time xs ≡ true → list_any states_time (xs ++ ys) ≡ true
+any_more : (xs ys : List OutSegment) → list_any writes_time xs ≡ true → list_any writes_time (xs ++ ys) ≡ true
 any_more [] ys h = absurd (cc)
 any_more (x ∷ xs) ys h = grind (arith, any_more xs ys)
 
@@ -47,8 +47,8 @@ module _ (whole front tail window : List OutSegment) (start : ℕ) (is : whole �
   pub head_same : head_of first ≡ head_of window
   head_same = sym (ap head_of left_is ∙ head_one first tail (some_left start front inside))
 
-  pub timed_too : list_any states_time first ≡ true → list_any states_time window ≡ true
-  timed_too h = ap (list_any states_time) left_is ∙ any_more first tail h
+  pub timed_too : list_any writes_time first ≡ true → list_any writes_time window ≡ true
+  timed_too h = ap (list_any writes_time) left_is ∙ any_more first tail h
 
   -- the lines in front are as long whatever comes after them
   front_long : (len : ℕ) → IsFrontLength front start len → IsFrontLength whole start len
@@ -87,6 +87,6 @@ none_left : (timed : Bool) (ids : List (List ℕ)) → date_ranges_left timed id
 none_left true ids = refl
 none_left false ids = refl
 
-pub dates_same : (first window : List OutSegment) (ids : List (List ℕ)) (date_ranges : List DateRange) → (date_ranges ≡ []) ⊎ (list_any states_time first ≡ true)
-    → (list_any states_time first ≡ true → list_any states_time window ≡ true) → date_ranges_left (list_any states_time first) ids date_ranges ≡ date_ranges_left (list_any states_time window) ids date_ranges
+pub dates_same : (first window : List OutSegment) (ids : List (List ℕ)) (date_ranges : List DateRange) → (date_ranges ≡ []) ⊎ (list_any writes_time first ≡ true)
+    → (list_any writes_time first ≡ true → list_any writes_time window ≡ true) → date_ranges_left (list_any writes_time first) ids date_ranges ≡ date_ranges_left (list_any writes_time window) ids date_ranges
 dates_same first window ids date_ranges h f = grind arith

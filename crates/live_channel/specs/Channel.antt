@@ -3,7 +3,7 @@ use Rattle.std.specs.Prelude.{◌≡◌, ◌≢◌, ℕ, Bool, true, false, List
 use Rattle.std.specs.List.{AllByRecursion, list_all}
 use Rattle.url.specs.Parts.{Parts}
 use Rattle.playlist_model.specs.declared.Playlist.{Playlist}
-use Rattle.playlist_kept.specs.declared.source.Source.{Source}
+use Rattle.playlist_kept.specs.declared.source.LastPlaylist.{LastPlaylist}
 use Rattle.playlist_model.specs.declared.PlaylistFault.{PlaylistFault}
 use Rattle.pod_store.specs.Marks.{Marked}
 use Rattle.playlist_model.specs.Reading.{reading, limited, Denotes}
@@ -17,7 +17,7 @@ use Rattle.pod_store.specs.Store.{decided as after_decisions}
 use Rattle.pod_store.specs.Store.{withdrawn as without_break}
 use Rattle.decision_files.specs.Decided.{decisions_of}
 use Rattle.spec_words.specs.Outcomes.{◌>>=◌}
-use Rattle.pod_store.specs.Outcome.{Outcome, no_memory, Refuses}
+use Rattle.pod_store.specs.Outcome.{DecisionOutcome, no_memory, RefusesByDecisionFault}
 use Rattle.pod_store.specs.declared.Decisions.{Decisions}
 use Rattle.pod_store.specs.declared.Decisions.TheVariants.{Withdraw}
 use Rattle.pod_store.specs.declared.fault.DecisionFault.{DecisionFault}
@@ -25,7 +25,7 @@ use Rattle.channel_spec.specs.Sound.{AllPods}
 use Rattle.stitcher.specs.Written.{written_item}
 use Rattle.channel_spec.specs.declared.fault.RefreshFault.{RefreshFault}
 use Rattle.channel_spec.specs.declared.fault.RefreshFault.TheVariants.{Playlist as Unreadable, OutOfMemory}
-use Rattle.break_finder.specs.Entering.{id_of, why}
+use Rattle.break_finder.specs.Entering.{id_of_break, why}
 use Rattle.break_finder.specs.Known.{known}
 use Rattle.break_finder.specs.declared.why.Why.{Why}
 use Rattle.break_finder.specs.declared.why.Why.TheVariants.{NotKnown}
@@ -61,7 +61,7 @@ readable (Ok p) = live.refreshed p ∷ []
 readable (Err fault) = []
 
 -- nor are those that say no decisions
-abbrev pub decisions_in : Outcome Decisions → List Event
+abbrev pub decisions_in : DecisionOutcome Decisions → List Event
 decisions_in (Ok ds) = live.decided ds ∷ []
 decisions_in (Err fault) = []
 
@@ -189,7 +189,7 @@ Steps old bytes result new = StepsUnless (is_out_of_memory result) old bytes res
 -- ---- decisions
 
 -- the store after the decisions that these bytes say, or their fault
-abbrev pub after_bytes : Store → List ℕ → Outcome Store
+abbrev pub after_bytes : Store → List ℕ → DecisionOutcome Store
 after_bytes store bytes = decisions_of bytes >>= after_decisions store
 
 abbrev pub with_store : Channel → Store → Channel
@@ -200,10 +200,10 @@ abbrev pub store_by : Channel → List Given → Store
 store_by c given = (told_by c.base c.tolerance given).store
 
 -- taken exactly if the outcome is a store; else the fault is the first one, a failed allocation apart
-abbrev pub AnswersDecision : Result (Unit {0}) DecisionFault → Outcome Store → Type 0
-AnswersDecision result outcome = MatchResult result (λ _. IsOk outcome) (λ e. Refuses e outcome)
+abbrev pub AnswersDecision : Result (Unit {0}) DecisionFault → DecisionOutcome Store → Type 0
+AnswersDecision result outcome = MatchResult result (λ _. IsOk outcome) (λ e. RefusesByDecisionFault e outcome)
 
-abbrev pub AnswersWithdrawal : Result (Unit {0}) DecisionFault → Outcome Store → Type 0
+abbrev pub AnswersWithdrawal : Result (Unit {0}) DecisionFault → DecisionOutcome Store → Type 0
 AnswersWithdrawal result outcome = MatchResult result (λ _. IsOk outcome) (λ e. outcome ≡ Err e)
 
 abbrev pub Decides : Channel → List ℕ → Result (Unit {0}) DecisionFault → Type 0
@@ -213,11 +213,11 @@ abbrev pub Withdraws : Channel → List ℕ → Result (Unit {0}) DecisionFault 
 Withdraws c id result = (given : List Given) → Represents c given → AnswersWithdrawal result (without_break (store_by c given) id)
 
 -- the store changes alone; or the fault is the one owed, a failed allocation apart, and the channel is as it was
-abbrev pub ChangesStore : Channel → Channel → Result (Unit {0}) DecisionFault → Outcome Store → Type 0
-ChangesStore old new result outcome = MatchResult result (λ _. (outcome ≡ Ok new.kept.store) × (new ≡ with_store old new.kept.store)) (λ e. (new ≡ old) × Refuses e outcome)
+abbrev pub ChangesStore : Channel → Channel → Result (Unit {0}) DecisionFault → DecisionOutcome Store → Type 0
+ChangesStore old new result outcome = MatchResult result (λ _. (outcome ≡ Ok new.kept.store) × (new ≡ with_store old new.kept.store)) (λ e. (new ≡ old) × RefusesByDecisionFault e outcome)
 
 -- the same of a call that takes no memory: the fault is the one owed
-abbrev pub ChangesStoreExactly : Channel → Channel → Result (Unit {0}) DecisionFault → Outcome Store → Type 0
+abbrev pub ChangesStoreExactly : Channel → Channel → Result (Unit {0}) DecisionFault → DecisionOutcome Store → Type 0
 ChangesStoreExactly old new result outcome = MatchResult result (λ _. (outcome ≡ Ok new.kept.store) × (new ≡ with_store old new.kept.store)) (λ e. (new ≡ old) × (outcome ≡ Err e))
 
 -- a failed allocation apart, the channel stands for one event more
@@ -235,8 +235,8 @@ abbrev pub WritesOwed : Told → Option (List ℕ) → Type 0
 WritesOwed t None = last_playlist t.accepted ≡ None
 WritesOwed t (Some text) = (p : Playlist) × ((last_playlist t.accepted ≡ Some p) × (text ≡ owed_text t p) × ((base : Parts) → Denotes base text (owed_for t p)))
 
-abbrev pub Writes : Channel → Type 0
-Writes c = (given : List Given) → Represents c given → WritesOwed (told_by c.base c.tolerance given) c.text
+abbrev pub WritesWhatIsOwed : Channel → Type 0
+WritesWhatIsOwed c = (given : List Given) → Represents c given → WritesOwed (told_by c.base c.tolerance given) c.text
 
 -- ---- why a break is filled or not
 
@@ -264,16 +264,16 @@ Explains c id result = (given : List Given) → Represents c given → result �
 
 -- the ID of the break at a place among those that looking back over all refreshes finds known
 abbrev pub Knows : Channel → ℕ → Option (List ℕ) → Type 0
-Knows c place result = (given : List Given) → Represents c given → result ≡ option_map id_of (slice_get (known (told_by c.base c.tolerance given).accepted) place)
+Knows c place result = (given : List Given) → Represents c given → result ≡ option_map id_of_break (slice_get (known (told_by c.base c.tolerance given).accepted) place)
 
 -- ---- all channels
 
 -- there is something that it was given
-abbrev pub Stands : Channel → Type 0
-Stands c = (given : List Given) × Represents c given
+abbrev pub WasGivenSomething : Channel → Type 0
+WasGivenSomething c = (given : List Given) × Represents c given
 
 -- the segments that are held are those of the playlist that was read last, number for number, in all but title, time and steps
-abbrev pub IsListed : Option Source → List Held → Type 0
+abbrev pub IsListed : Option LastPlaylist → List Held → Type 0
 IsListed None held = Unit {0}
 IsListed (Some source) held = map kept_parts (segments_in held) ≡ map kept_parts source.segments.items
 

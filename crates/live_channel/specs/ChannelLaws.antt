@@ -4,18 +4,18 @@ use Rattle.std.specs.List.{AllByRecursion, list_all}
 use Rattle.url.specs.Parts.{Parts}
 use Rattle.playlist_model.specs.declared.Playlist.{Playlist}
 use Rattle.playlist_model.specs.Reading.{reading, limited}
-use Rattle.stitcher.specs.Stitched.{fits}
+use Rattle.stitcher.specs.Stitched.{can_be_numbered}
 use Rattle.channel_spec.specs.declared.fault.RefreshFault.{RefreshFault}
 use Rattle.channel_spec.specs.Live as live
-use Rattle.channel_spec.specs.Live.{last_playlist, list_of, after_refresh, owed}
+use Rattle.channel_spec.specs.Live.{last_playlist, whole_stitched_list, after_refresh, owed}
 use Rattle.channel_spec.specs.LiveLaws.{GoesOn}
-use Rattle.channel_spec.specs.Successor.{Succeeds}
+use Rattle.channel_spec.specs.Successor.{MayFollow}
 use Rattle.decision_files.specs.Decided.{decisions_of}
 use Rattle.pod_store.specs.declared.Decisions.{Decisions}
 use Rattle.pod_store.specs.declared.Decisions.TheVariants.{Withdraw}
 use Rattle.pod_store.specs.declared.fault.DecisionFault.{DecisionFault}
 use Rattle.live_channel.specs.declared.channel.Refreshed.{Refreshed}
-use Rattle.live_channel.specs.Channel.{Given, decided, withdrawn, refreshed, Channel, told_by, Represents, owed_answer, AnswersAs, IsAsTyped, with_store, step, says, Steps, Refreshes, Writes}
+use Rattle.live_channel.specs.Channel.{Given, decided, withdrawn, refreshed, Channel, told_by, Represents, owed_answer, AnswersAs, IsAsTyped, with_store, step, says, Steps, Refreshes, WritesWhatIsOwed}
 
 -- a refresh from what is kept answers what is owed, and the channel then stands for it too
 abbrev pub StepFollows : Type 0
@@ -40,21 +40,21 @@ WithdrawFollows = (c : Channel) (id : List ℕ) (given : List Given) → Represe
 
 -- what a channel writes denotes what is owed
 abbrev pub ChannelWrites : Type 0
-ChannelWrites = (c : Channel) → Writes c
+ChannelWrites = (c : Channel) → WritesWhatIsOwed c
 
 -- ---- acceptance
 
 -- the playlist may follow the last one, if there is one (RFC 8216, 6.2.1 and 6.2.2)
-abbrev pub SucceedsLast : Option Playlist → Playlist → Type 0
-SucceedsLast None p = Unit {0}
-SucceedsLast (Some last) p = Succeeds p last
+abbrev pub MayFollowLast : Option Playlist → Playlist → Type 0
+MayFollowLast None p = Unit {0}
+MayFollowLast (Some last) p = MayFollow p last
 
 -- the bytes are read as a playlist which may follow the last one, and every number of the stitched list then fits 64 bits
 pub record IsAcceptable (c : Channel) (given : List Given) (bytes : List ℕ) : Type 0 where
   pub playlist : Playlist
   pub read : reading limited c.base bytes ≡ Ok playlist
-  pub succeeds : SucceedsLast (last_playlist (told_by c.base c.tolerance given).accepted) playlist
-  pub fits : list_all fits (list_of (after_refresh c.tolerance (told_by c.base c.tolerance given) playlist)) ≡ true
+  pub succeeds : MayFollowLast (last_playlist (told_by c.base c.tolerance given).accepted) playlist
+  pub fits : list_all can_be_numbered (whole_stitched_list (after_refresh c.tolerance (told_by c.base c.tolerance given) playlist)) ≡ true
 
 -- a refresh is accepted exactly then
 abbrev pub AcceptanceIsExact : Type 0
@@ -65,9 +65,9 @@ AcceptanceIsExact = (c : Channel) (given : List Given) (bytes : List ℕ) → Re
 -- the stitched list, numbers included, only grows, whatever is given
 abbrev pub StitchedListGrows : Type 0
 StitchedListGrows = (base : Parts) (tolerance : ℕ) (later before : List Given) → AllByRecursion (IsAsTyped base) (later ++ before) →
-    GoesOn (list_of (told_by base tolerance before)) (list_of (told_by base tolerance (later ++ before)))
+    GoesOn (whole_stitched_list (told_by base tolerance before)) (whole_stitched_list (told_by base tolerance (later ++ before)))
 
 -- each owed playlist is the one before it, or may follow it
 abbrev pub OwedPlaylistsSucceed : Type 0
 OwedPlaylistsSucceed = (base : Parts) (tolerance : ℕ) (event : Given) (before : List Given) (old new : Playlist) → AllByRecursion (IsAsTyped base) (event ∷ before) →
-    owed (told_by base tolerance before) ≡ Some old → owed (told_by base tolerance (event ∷ before)) ≡ Some new → (new ≡ old) ⊎ Succeeds new old
+    owed (told_by base tolerance before) ≡ Some old → owed (told_by base tolerance (event ∷ before)) ≡ Some new → (new ≡ old) ⊎ MayFollow new old

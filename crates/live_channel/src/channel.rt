@@ -2,11 +2,11 @@
 ghost use Rattle.std.specs.Prelude.{◌≡◌, ◌<◌, ◌≤◌, ℕ, List, [], Some, None, IfOk, IsErrOf, IsSome, length, option_map, slice_get};
 ghost use Rattle.std.specs.Option.{option_copied};
 ghost use Rattle.playlist_model.specs.Uri.{base_of};
-ghost use Rattle.live_channel.specs.Channel.{decided, withdrawn, ChangesStore, ChangesStoreExactly, after_bytes, StandsOn, AlwaysStandsOn, Represents, Decides, Withdraws, Writes, Refreshes, Knows, Explains, explained};
+ghost use Rattle.live_channel.specs.Channel.{decided, withdrawn, ChangesStore, ChangesStoreExactly, after_bytes, StandsOn, AlwaysStandsOn, Represents, Decides, Withdraws, WritesWhatIsOwed, Refreshes, Knows, Explains, explained};
 ghost use Rattle.channel_window.specs.Listed.{segments_in};
 ghost use Rattle.pod_store.specs.Store.{withdrawn as without_break};
 ghost use Rattle.pod_store.specs.Store.{is_used};
-ghost use Rattle.break_finder.specs.Entering.{id_of, why};
+ghost use Rattle.break_finder.specs.Entering.{id_of_break, why};
 ghost use Rattle.channel_spec.specs.Successor.{has_init_sections};
 ghost use Rattle.channel_spec.specs.Limits.{max_tolerance};
 
@@ -17,7 +17,7 @@ use channel_spec::{MAX_TOLERANCE, RefreshFault};
 use channel_window::{ChannelState, Row, Shown, have_init_sections};
 use decision_files::read_decisions;
 use fixed_duration::Nanos;
-use playlist_kept::Source;
+use playlist_kept::LastPlaylist;
 use playlist_model::{Shared, Text};
 use playlist_write::resumed::WrittenText;
 use pod_store::{DecisionFault, PodStore};
@@ -49,12 +49,12 @@ pub struct Channel {
     // What was written last.
     written: Option<WrittenText>,
     // What is kept of the playlist that was read last, so that the next one is read by what they have in common.
-    source: Option<Source>,
+    source: Option<LastPlaylist>,
 }
 
 impl Model for Channel {
-    ghost use Rattle.live_channel.specs.Channel.{Channel, Stands, IsListed, channel_with, text_in};
-    ghost use Rattle.playlist_kept.specs.Kept.{IsKept};
+    ghost use Rattle.live_channel.specs.Channel.{Channel, WasGivenSomething, IsListed, channel_with, text_in};
+    ghost use Rattle.playlist_kept.specs.Kept.{IsKeptUnderBase};
 
     ghost Value = { Channel };
 
@@ -66,7 +66,7 @@ impl Model for Channel {
     ghost use Rattle.channel_window.specs.Showing.{kept_in};
     ghost use Rattle.live_channel.specs.LastText.{IsLast};
 
-    ghost invariant = { λ a. Stands (channel_with a.base a.tolerance a.state (text_in a.written)) × AreKept a.state.store a.state × (IsListed a.source a.state.list × AreContiguous (segments_in a.state.list)) × IsLast a.state a.written × IsKept a.base a.source };
+    ghost invariant = { λ a. WasGivenSomething (channel_with a.base a.tolerance a.state (text_in a.written)) × AreKept a.state.store a.state × (IsListed a.source a.state.list × AreContiguous (segments_in a.state.list)) × IsLast a.state a.written × IsKeptUnderBase a.base a.source };
 }
 
 /// Why a channel can't be made.
@@ -235,7 +235,7 @@ impl Channel {
         ensures text { option_copied result ≡ self.now.text }
 
         // It denotes what is owed, under every base.
-        ensures owed { Writes self.now }
+        ensures owed { WritesWhatIsOwed self.now }
     {
         match &self.written {
             Some(written) => Some(written.text.as_str().as_bytes()),
@@ -257,7 +257,7 @@ impl Channel {
     /// The ID of the known break at `place`, from 0, in the order in which they became known. `None` past the last.
     pub fn known(&self, place: usize) -> Option<&str>
         ensures place { option_map (λ id. id.now) result
-            ≡ option_map id_of (slice_get self.now.kept.breaks place) }
+            ≡ option_map id_of_break (slice_get self.now.kept.breaks place) }
         ensures owed { Knows self.now place (option_map (λ id. id.now) result) }
     {
         self.state.shown.knowledge.ids(place)

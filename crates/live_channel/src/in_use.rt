@@ -2,9 +2,9 @@
 ghost use Rattle.std.specs.Prelude.{◌≡◌, ◌++◌, ◌∷◌, [], None, true, IfOk, OnOk};
 ghost use Rattle.pod_store.specs.Store.{is_one_of};
 ghost use Rattle.pod_store.specs.Inner.Store.{NameTheSame};
-ghost use Rattle.channel_spec.specs.Live.{ids_in};
+ghost use Rattle.channel_spec.specs.Live.{ids_of_option};
 ghost use Rattle.stitcher.specs.StitchedSegments.{KnowRuns, KnowsRun};
-ghost use Rattle.live_channel.specs.Inner.Marks.{IsNamed, breaks_held, mark_held, marks_and_last, rest_held};
+ghost use Rattle.live_channel.specs.Inner.Marks.{IsAmongMarks, breaks_held, mark_held, marks_and_last, rest_held};
 
 use playlist_model::{Shared, Text};
 use std::alloc::{AllocError, Global};
@@ -12,7 +12,7 @@ use stitcher::{MarkedSegment, Rest, goes_on};
 
 #[tactic(auto, using(pod_store::proofs::Repeats::last_named))]
 // Whether a break is the last of these: one that marks a segment mostly marks the one before.
-fn is_last(marks: &[Shared<Text>], id: &Text) -> bool
+fn is_last_mark(marks: &[Shared<Text>], id: &Text) -> bool
     ensures { result ≡ true → is_one_of marks.now id.now ≡ true }
 {
     match marks.split_last() {
@@ -26,7 +26,7 @@ fn is_last(marks: &[Shared<Text>], id: &Text) -> bool
 fn push_once(marks: &mut Vec<Shared<Text>>, id: &Shared<Text>) -> Result<(), AllocError>
     ensures { OnOk result (NameTheSame marks.new.items (marks.old.items ++ id.now ∷ [])) }
 {
-    if is_last(marks.as_slice(), id) {
+    if is_last_mark(marks.as_slice(), id) {
         return Ok(());
     }
     marks.push(id.clone()?)?;
@@ -36,7 +36,8 @@ fn push_once(marks: &mut Vec<Shared<Text>>, id: &Shared<Text>) -> Result<(), All
 #[tactic(auto, using(crate::proofs::Marks::put_none))]
 // Puts a break, if there is one, after others.
 fn push_mark(marks: &mut Vec<Shared<Text>>, mark: &Option<Shared<Text>>) -> Result<(), AllocError>
-    ensures { OnOk result (NameTheSame marks.new.items (marks.old.items ++ ids_in mark.now)) }
+    ensures { OnOk result
+        (NameTheSame marks.new.items (marks.old.items ++ ids_of_option mark.now)) }
 {
     match mark {
         Some(id) => push_once(marks, id),
@@ -56,10 +57,10 @@ fn push_marked(
     marked: &MarkedSegment,
 ) -> Result<bool, AllocError>
     requires runs { KnowsRun previous.now marked.now }
-    requires before { is_put ≡ true → IsNamed marks.old.items previous.now }
+    requires before { is_put ≡ true → IsAmongMarks marks.old.items previous.now }
     ensures same { OnOk result
         (NameTheSame marks.new.items (marks.old.items ++ mark_held number marked.now)) }
-    ensures named { IfOk result (λ put. put ≡ true → IsNamed marks.new.items marked.now.mark) }
+    ensures named { IfOk result (λ put. put ≡ true → IsAmongMarks marks.new.items marked.now.mark) }
 {
     // Most segments have no mark.
     if marked.mark.is_none() || marked.segment.media_sequence < number {

@@ -1,7 +1,7 @@
 //! What a channel comes to by a refresh that shows these segments: what it keeps then, and the text that it writes.
 ghost use Rattle.std.specs.Prelude.{◌≡◌, ◌⊎◌, [], None, IfOk, IfErr, IfSome, true, false, drop, map};
 ghost use Rattle.std.specs.List.{list_all, list_any};
-ghost use Rattle.stitcher.specs.Stitched.{fits};
+ghost use Rattle.stitcher.specs.Stitched.{can_be_numbered};
 ghost use Rattle.playlist_kept.specs.Kept.{playlist_in};
 ghost use Rattle.playlist_write.specs.Owed.{playlist_text};
 ghost use Rattle.stitcher.specs.StitchedSegments.{AreDecided, KnowRuns};
@@ -9,9 +9,9 @@ ghost use Rattle.playlist_model.specs.LookBack.{or_earlier};
 ghost use Rattle.channel_spec.specs.Marking.{last_entered};
 ghost use Rattle.channel_spec.specs.Kept.{items_on};
 ghost use Rattle.channel_spec.specs.Live.{date_range_text, date_ranges_left};
-ghost use Rattle.channel_window.specs.Marking.{so_far};
+ghost use Rattle.channel_window.specs.Marking.{history_in};
 ghost use Rattle.channel_window.specs.Showing.{kept_before, kept_in};
-ghost use Rattle.channel_window.specs.Listed.{AreRising, IsRestDecided, RefusesList, states_time};
+ghost use Rattle.channel_window.specs.Listed.{AreRising, IsRestDecided, RefusesList, writes_time};
 ghost use Rattle.owed_is_denoted.specs.Owed.{out_playlist};
 ghost use Rattle.playlist_write.specs.Laid.{IsLaid};
 ghost use Rattle.channel_window.specs.ListEnd.{IsEndOf};
@@ -23,7 +23,7 @@ use crate::in_use::breaks_in_use;
 use channel_spec::RefreshFault;
 use channel_window::{
     Before, Ending, PlacedList, Showing, Shown, SteppedList, date_ranges_left, end_within,
-    first_number, head_of, is_any_timed, place_of_number, placed_of, run_end, stepped_of,
+    first_number, head_numbers, is_any_timed, place_of_number, placed_of, run_end, stepped_of,
 };
 use fixed_duration::Nanos;
 use playlist_kept::Read;
@@ -72,7 +72,7 @@ fn count_in(written: &Option<WrittenText>) -> usize
 
 // The first of these segments stood in the last text. Which lines of it stand again, if the window starts at this place in
 // them.
-fn standing<'a>(
+fn lines_again<'a>(
     alloc: Global,
     written: &'a Option<WrittenText>,
     whole: &StitchedList<'_>,
@@ -103,7 +103,7 @@ fn standing<'a>(
 }
 
 // The text of a playlist, of which these lines stand in the last text.
-fn text_of(
+fn lay_text(
     alloc: Global,
     out: &OutPlaylist<'_>,
     again: &Option<Again<'_>>,
@@ -149,7 +149,7 @@ fn written_of<'a>(
     ensures { IfOk result
         (λ out. out ≡ out_playlist playlist.now
         (map date_range_text (date_ranges_left
-        (list_any states_time items.entry) in_use.now playlist.now.date_ranges)) items.entry) }
+        (list_any writes_time items.entry) in_use.now playlist.now.date_ranges)) items.entry) }
 {
     let date_ranges = date_ranges_left(
         alloc,
@@ -198,7 +198,7 @@ pub struct NextWindow {
 // Whether the date ranges that are written can be told from these items, the first of a window.
 fn tells_times(playlist: &Playlist, first: &StitchedList<'_>) -> bool
     ensures { result ≡ true → (playlist.now.date_ranges ≡ [])
-        ⊎ (list_any states_time first.now ≡ true) }
+        ⊎ (list_any writes_time first.now ≡ true) }
 {
     playlist.date_ranges.as_slice().is_empty() || is_any_timed(first)
 }
@@ -230,7 +230,7 @@ fn stepped_window(
     if !tells_times(&read.playlist, &first) {
         return Ok(None);
     }
-    let numbers = head_of(&first);
+    let numbers = head_numbers(&first);
     let (number, entered) = (first_number(read), refresh.entered);
     let in_use = breaks_in_use(alloc, number, list, entered, &stepped.rest)?;
     let hashing = before.state.store.hashing();
@@ -274,18 +274,19 @@ fn whole_end(
 fn whole_window(alloc: Global, refresh: &ShownRefresh<'_, '_>) -> Result<NextWindow, RefreshFault>
     requires { IsRefreshReady refresh.now }
     ensures ok { IfOk result (IsRefreshWindow refresh.now) }
-    ensures err { IfErr result (λ e. RefusesList e (list_all fits (refresh_items refresh.now) ≡ false)) }
+    ensures err { IfErr result
+        (λ e. RefusesList e (list_all can_be_numbered (refresh_items refresh.now) ≡ false)) }
 {
     let (before, read, list) = (refresh.before, refresh.read, refresh.list);
     let (lasted, stood) = (refresh.lasted, count_in(refresh.written));
     let PlacedList { whole, start, rest } = placed_of(alloc, before, read, list, lasted, stood)?;
-    let again = standing(alloc, refresh.written, &whole, start)?;
+    let again = lines_again(alloc, refresh.written, &whole, start)?;
     let end = whole_end(alloc, refresh, &whole)?;
     let mut items = whole;
     items.leave_out(start);
     let number = first_number(read);
     let in_use = breaks_in_use(alloc, number, list, refresh.entered, &rest)?;
-    let (numbers, count) = (head_of(&items), items.count());
+    let (numbers, count) = (head_numbers(&items), items.count());
     let gone = place_of_number(number, list);
     let hashing = before.state.store.hashing();
     let out = written_of(alloc, hashing, &read.playlist, in_use.as_slice(), items)?;
@@ -295,7 +296,7 @@ fn whole_window(alloc: Global, refresh: &ShownRefresh<'_, '_>) -> Result<NextWin
         rest,
         ending: end_within(end, list.len() - gone, count),
         in_use,
-        written: text_of(alloc, &out, &again)?,
+        written: lay_text(alloc, &out, &again)?,
     })
 }
 
@@ -303,7 +304,8 @@ fn whole_window(alloc: Global, refresh: &ShownRefresh<'_, '_>) -> Result<NextWin
 fn next_window(alloc: Global, refresh: &ShownRefresh<'_, '_>) -> Result<NextWindow, RefreshFault>
     requires { IsRefreshReady refresh.now }
     ensures ok { IfOk result (IsRefreshWindow refresh.now) }
-    ensures err { IfErr result (λ e. RefusesList e (list_all fits (refresh_items refresh.now) ≡ false)) }
+    ensures err { IfErr result
+        (λ e. RefusesList e (list_all can_be_numbered (refresh_items refresh.now) ≡ false)) }
 {
     match stepped_window(alloc, refresh)? {
         Some(window) => Ok(window),
@@ -325,11 +327,11 @@ pub fn next_of<'a>(
     requires { IsReady (kept_before before.now) written.now (playlist_in read.now) list.now showing.entered showing.so_far }
     ensures ok { IfOk result
         (λ next. IsNext (kept_in (kept_before before.now)) (playlist_in read.now) showing.knowledge list.now
-        (so_far (kept_before before.now).store list.now) showing.so_far showing.fresh next) }
+        (history_in (kept_before before.now).store list.now) showing.so_far showing.fresh next) }
     ensures err { IfErr result
-        (λ e. RefusesList e (list_all fits
+        (λ e. RefusesList e (list_all can_be_numbered
         (items_on (kept_in (kept_before before.now)) (playlist_in read.now)
-        (so_far (kept_before before.now).store list.now) showing.so_far) ≡ false)) }
+        (history_in (kept_before before.now).store list.now) showing.so_far) ≡ false)) }
 {
     let Showing {
         knowledge,

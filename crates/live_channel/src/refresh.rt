@@ -2,14 +2,14 @@
 //! channel comes to is kept.
 ghost use Rattle.std.specs.Prelude.{◌≡◌, ◌≤◌, ℕ, [], Some, IfOk, IfErr, OnOk, OnErr, false, length};
 ghost use Rattle.std.specs.List.{list_all};
-ghost use Rattle.stitcher.specs.Stitched.{fits};
+ghost use Rattle.stitcher.specs.Stitched.{can_be_numbered};
 ghost use Rattle.channel_spec.specs.Kept.{kept_items, kept_refusal, kept_succession};
 ghost use Rattle.channel_spec.specs.Successor.{answer_of};
 ghost use Rattle.channel_window.specs.Checked.{AreContiguous, AreTaken};
-ghost use Rattle.playlist_kept.specs.Kept.{AreKeptLines, IsKept, IsTakenFrom, kept_segments, playlist_in};
+ghost use Rattle.playlist_kept.specs.Kept.{AreKeptLines, IsKeptUnderBase, IsTakenFrom, kept_segments, playlist_in};
 ghost use Rattle.channel_window.specs.ListEnd.{IsLastEnding};
 ghost use Rattle.channel_window.specs.Showing.{AreKept, IsLastEntered, kept_in};
-ghost use Rattle.live_channel.specs.Inner.Accepting.{Accepts, Follows, HasGrown, IsAccepted, IsJudged, IsRead, Refused, RefusesNext, state_with};
+ghost use Rattle.live_channel.specs.Inner.Accepting.{Accepts, FollowsLastPlaylist, HasGrown, IsAccepted, IsJudged, BytesAreReadAs, Refused, RefusesNext, state_with};
 ghost use Rattle.channel_window.specs.Listed.{RefusesList, RisesOn, segments_in};
 ghost use Rattle.live_channel.specs.Inner.LastText.{StoodIn};
 ghost use Rattle.channel_window.specs.declared.state.ChannelState.{ChannelState as LiveState};
@@ -20,7 +20,7 @@ use crate::type_facts::{utf8_of_members, utf8_of_uris};
 use channel_spec::{Heading, RefreshFault, heading_of};
 use channel_window::{ChannelState, check_successor, shown_with};
 use fixed_duration::Nanos;
-use playlist_kept::{Read, Source};
+use playlist_kept::{LastPlaylist, Read};
 use playlist_parse::read;
 use playlist_write::resumed::WrittenText;
 use std::alloc::Global;
@@ -60,7 +60,8 @@ fn next_kept(
     ensures ok { IfOk result
         (λ a. IsAccepted tolerance (kept_in state.old) (playlist_in read.now) state.new.list a) }
     ensures err { IfErr result
-        (λ e. RefusesList e (list_all fits (kept_items tolerance (kept_in state.old) (playlist_in read.now))
+        (λ e. RefusesList e
+        (list_all can_be_numbered (kept_items tolerance (kept_in state.old) (playlist_in read.now))
         ≡ false)) }
     ensures grown { HasGrown state.old state.new }
 {
@@ -81,7 +82,8 @@ fn next_after(
 ) -> Result<NextState, RefreshFault>
     requires { IsJudged tolerance state.old written.now read.now }
     ensures ok { IfOk result
-        (λ a. Follows tolerance (kept_in state.old) (playlist_in read.now) state.new.list a) }
+        (λ a. FollowsLastPlaylist tolerance (kept_in state.old)
+        (playlist_in read.now) state.new.list a) }
     ensures err { IfErr result
         (λ e. RefusesNext e (kept_refusal tolerance (kept_in state.old) (playlist_in read.now))) }
     ensures grown { HasGrown state.old state.new }
@@ -97,10 +99,10 @@ pub fn playlist_after<'a>(
     alloc: Global,
     bytes: &'a [u8],
     base: &'a Base,
-    source: &'a Option<Source>,
+    source: &'a Option<LastPlaylist>,
 ) -> Result<Read<'a>, RefreshFault>
-    requires { IsKept base.now source.now }
-    ensures ok { IfOk result (λ read. IsRead base.now bytes.now (playlist_in read)) }
+    requires { IsKeptUnderBase base.now source.now }
+    ensures ok { IfOk result (λ read. BytesAreReadAs base.now bytes.now (playlist_in read)) }
     ensures lines { IfOk result (λ read. AreKeptLines base.now (playlist_in read) read.lines) }
     ensures taken { IfOk result (IsTakenFrom (kept_segments source.now)) }
     ensures front { IfOk result (λ read. read.front ≤ length read.playlist.segments) }
@@ -117,7 +119,7 @@ pub fn playlist_after<'a>(
 /// The playlist that `bytes` are read as under `base`, of whose text nothing is kept. The faults are those of
 /// `playlist_after`.
 pub fn playlist_of<'a>(alloc: Global, bytes: &[u8], base: &Base) -> Result<Read<'a>, RefreshFault>
-    ensures ok { IfOk result (λ read. IsRead base.now bytes.now (playlist_in read)) }
+    ensures ok { IfOk result (λ read. BytesAreReadAs base.now bytes.now (playlist_in read)) }
     ensures taken { IfOk result (λ read. read.taken.now ≡ []) }
     ensures front { IfOk result (λ read. read.front ≤ length read.playlist.segments) }
     ensures err { IfErr result

@@ -5,7 +5,7 @@ use Rattle.std.specs.List.{AllByRecursion, list_any}
 use Rattle.playlist_model.specs.LookBack.{or_earlier}
 use Rattle.pod_store.specs.Pods.{Pod}
 use Rattle.pod_store.specs.Marks.{Mark, Marked, newest_mark}
-use Rattle.pod_store.specs.Store.{Entry, Store, with_entries, has_id, pod_of, pod_for, put, without, names_used, count_with, has_own, is_used, copied_last, with_copy, with_copies, is_one_of, is_held, kept_in_use}
+use Rattle.pod_store.specs.Store.{Entry, Store, with_entries, has_id, pod_of, pod_for, put, without_pod, names_used, count_with, has_own, is_used, copied_last, with_copy, with_copies, is_one_of, is_held, kept_in_use}
 use Rattle.spec_words.specs.Outcomes.{refuse_if}
 use Rattle.pod_store.specs.Outcome.{fault_at, nowhere}
 use Rattle.pod_store.specs.declared.fault.DecisionFault.{DecisionFault}
@@ -15,7 +15,7 @@ use Rattle.pod_store.specs.declared.fault.DecisionKind.TheVariants.{Used, Full, 
 use Rattle.channel_spec.specs.Marking.{Moment, last_entered, continued, is_inside, entered, mark_of}
 use Rattle.channel_spec.specs.Sound.{AllPods}
 use Rattle.channel_spec.proofs.Entries.{IsEntered, entered_is}
-use Rattle.channel_spec.specs.Live.{taken, decide}
+use Rattle.channel_spec.specs.Live.{store_by_outcome, decide}
 
 pub filter_step : {A : Type 0} (P : A → Type 0) (x : A) (xs : List A) (b : Bool) → P x → AllByRecursion P xs → AllByRecursion P (cond b (x ∷ xs) xs)
 filter_step P x xs true p h = (p, h)
@@ -61,11 +61,11 @@ module _ (Q : Pod → Type 0) where
   without_step e store more h k true = h.1
   without_step e store more h k false = (h.0, k)
 
-  without_pods : (id : List ℕ) (store : List Entry) → Entries store → Entries (without id store)
+  without_pods : (id : List ℕ) (store : List Entry) → Entries store → Entries (without_pod id store)
   without_pods id [] h = tt
-  without_pods id (e ∷ store) h = without_step e store (without id store) h (without_pods id store h.1) (has_id id e)
+  without_pods id (e ∷ store) h = without_step e store (without_pod id store) h (without_pods id store h.1) (has_id id e)
 
-  either_store : (a b : Bool) (f g : DecisionFault) (x y : Store) → Pods x → Pods y → Pods (taken x (refuse_if a f (refuse_if b g (Ok y))))
+  either_store : (a b : Bool) (f g : DecisionFault) (x y : Store) → Pods x → Pods y → Pods (store_by_outcome x (refuse_if a f (refuse_if b g (Ok y))))
   either_store true b f g x y h k = h
   either_store false true f g x y h k = h
   either_store false false f g x y h k = k
@@ -75,7 +75,7 @@ module _ (Q : Pod → Type 0) where
       either_store (list_any (names_used store) ds) (nat_lt 256 (count_with store ds)) (fault_at nowhere Used) (fault_at nowhere Full) store (with_entries store (fold put store.entries ds)) h
       (record { entries = put_pods ds store.entries p h.entries; fallback = h.fallback })
   decide_pods (Withdraw id) store p h =
-      either_store (not (has_own store id)) (is_used store id) (fault_at nowhere Unknown) (fault_at nowhere Used) store (with_entries store (without id store.entries)) h
+      either_store (not (has_own store id)) (is_used store id) (fault_at nowhere Unknown) (fault_at nowhere Used) store (with_entries store (without_pod id store.entries)) h
       (record { entries = without_pods id store.entries h.entries; fallback = h.fallback })
   decide_pods (Fallback pod) store p h = record { entries = h.entries; fallback = p }
   decide_pods NoFallback store p h = record { entries = h.entries; fallback = tt }

@@ -12,12 +12,12 @@ use Rattle.playlist_model.specs.declared.Segment.{Segment}
 use Rattle.date_times.specs.Instant.{in_range}
 use Rattle.pod_store.specs.Pods.{PodSegment, Ad, Pod}
 use Rattle.pod_store.specs.Marks.{Mark, Marked}
-use Rattle.stitcher.specs.Stitched.{Piece, is_kept, with_keys, ad_piece, ad_pieces, pieces_of_ads, run_pieces, stitched, Numbers, numbers_at, Item, numbered, fits}
+use Rattle.stitcher.specs.Stitched.{Piece, is_kept, with_keys, ad_piece, ad_pieces, pieces_of_ads, run_pieces, stitched, Numbers, numbers_at, Item, numbered, can_be_numbered}
 use Rattle.stitcher.specs.declared.OutSegment.{OutSegment}
 use Rattle.stitcher.specs.Written.{written_item}
 use Rattle.writable.specs.Fitting.{if_some, is_clean, effective_keys_fit, init_section_fits}
 use Rattle.playlist_model.specs.Numbering.{follows, all_follow}
-use Rattle.playlist_write.specs.WellFormed.{resource_fits, duration_fits, segment_fits, out_numbers, numbers_fit, out_has_init_section, init_sections_agree}
+use Rattle.playlist_write.specs.WellFormed.{resource_fits, duration_fits, segment_fits, out_numbers, out_numbers_rise, out_has_init_section, init_sections_agree}
 use Rattle.pod_store.specs.Laws.{segment_can_be_written, ad_can_be_written}
 use Rattle.channel_spec.proofs.Reversed.{list_all-reverse}
 use Rattle.owed_is_denoted.proofs.Writable.{stitched_ad, stitched_ads, pod_can_be_written}
@@ -98,7 +98,7 @@ kept_or_not false words s n time h t = ap (λ w. fits_with w s time) h ∙ t
 abbrev pub item_fits : Item → Bool
 item_fits item = segment_fits (written_item item)
 
-pub items_fit : (first : Numbers) (pieces : List Piece) → list_all piece_stands pieces ≡ true → list_all fits (numbered first pieces) ≡ true → list_all item_fits (numbered first pieces) ≡ true
+pub items_fit : (first : Numbers) (pieces : List Piece) → list_all piece_stands pieces ≡ true → list_all can_be_numbered (numbered first pieces) ≡ true → list_all item_fits (numbered first pieces) ≡ true
 items_fit first [] h t = refl
 items_fit first (p ∷ before) h t =
     let a = and_parts _ _ h in let b = and_parts _ _ t in
@@ -116,7 +116,7 @@ abbrev pub all_fall : OutSegment → List OutSegment → Bool
 all_fall x [] = nat_le x.discontinuities x.discontinuity_sequence
 all_fall x (y ∷ before) = follows (out_numbers y) (out_numbers x) && all_fall y before
 
-pub turned_fit : (before : List OutSegment) (x : OutSegment) (later : List OutSegment) → all_fall x before ≡ true → all_follow out_numbers x later ≡ true → numbers_fit (reverse_aux before (x ∷ later)) ≡ true
+pub turned_fit : (before : List OutSegment) (x : OutSegment) (later : List OutSegment) → all_fall x before ≡ true → all_follow out_numbers x later ≡ true → out_numbers_rise (reverse_aux before (x ∷ later)) ≡ true
 turned_fit [] x later h k = and_from _ _ h k
 turned_fit (y ∷ before) x later h k = let a = and_parts _ _ h in turned_fit before y (x ∷ later) a.1 (and_from _ _ a.0 k)
 
@@ -141,7 +141,7 @@ map_aux f [] acc = refl
 map_aux f (x ∷ xs) acc = map_aux f xs (x ∷ acc)
 
 pub window_numbers : (first : Numbers) → nat_le first.discontinuities first.discontinuity_sequence ≡ true → (n : ℕ) (pieces : List Piece) → 0 < n → 0 < length pieces
-    → numbers_fit (map written_item (reverse (take n (numbered first pieces)))) ≡ true
+    → out_numbers_rise (map written_item (reverse (take n (numbered first pieces)))) ≡ true
 window_numbers first h zero pieces k l = absurd (omega (arith, k))
 window_numbers first h (suc n) [] k l = absurd (omega (arith, l))
 window_numbers first h (suc n) (p ∷ before) k l = grind (arith, map_aux, turned_fit, taken_fall)

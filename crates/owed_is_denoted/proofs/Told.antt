@@ -15,7 +15,7 @@ use Rattle.writable.specs.Fitting.{if_some, is_clean, effective_keys_fit, init_s
 use Rattle.playlist_write.specs.WellFormed.{resource_fits, duration_fits}
 use Rattle.read_is_writable.specs.Read.{segment_reads, uris_are_text, segment_can_be_written, numbers_are_words, numbers_read}
 use Rattle.read_is_writable.proofs.Texts.{segment_is_written}
-use Rattle.channel_spec.specs.Marking.{Moment, instant_of, newest_end, next_shown, show_all, is_new, history_after}
+use Rattle.channel_spec.specs.Marking.{Moment, segment_instant, newest_end, next_shown, show_all, is_new, history_after}
 use Rattle.channel_spec.specs.Successor.{first_number}
 use Rattle.channel_spec.specs.Live.{Event, decided, refreshed, Told, told, happens, refusal, after_refresh, moment, breaks_in_use, start_after, last_playlist}
 use Rattle.channel_spec.proofs.Growth.{history_grows, first_numbers_stay}
@@ -52,7 +52,7 @@ IsFine s = segment_can_be_written s ≡ true
 show_stands : (m : Moment) (history : List Marked) (segments : List Segment) → Pods IsWritten m.store → AllByRecursion Stands history → AllByRecursion IsFine segments → AllByRecursion Stands (show_all m history segments)
 show_stands m history [] k h a = h
 show_stands m history (s ∷ later) k h a =
-    let instant = instant_of history s later in
+    let instant = segment_instant history s later in
     let here : Stands (next_shown m history s later) = record {
       segment = other_time (numbers_are_words s) s s.program_date_time instant a.0 (in_range_there (newest_end history) s later);
       mark = marks_of IsWritten m history instant k (newest_of history h);

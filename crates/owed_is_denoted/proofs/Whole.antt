@@ -11,7 +11,7 @@ use Rattle.playlist_model.specs.LookBack.{or_earlier}
 use Rattle.playlist_model.specs.Reading.{limited, unlimited}
 use Rattle.playlist_model.specs.Said.{Reader}
 use Rattle.pod_store.specs.Marks.{Marked}
-use Rattle.stitcher.specs.Stitched.{Piece, Numbers, Item, numbered, stitched, fits, first_numbers}
+use Rattle.stitcher.specs.Stitched.{Piece, Numbers, Item, numbered, stitched, can_be_numbered, first_numbers}
 use Rattle.stitcher.specs.Paced.{due_stitched, due_list}
 use Rattle.std.proofs.lemmas.List.Folds.{list_all-append}
 use Rattle.stitcher.specs.declared.OutSegment.{OutSegment}
@@ -20,7 +20,7 @@ use Rattle.writable.specs.Fitting.{date_range_fits, says_date_range}
 use Rattle.playlist_write.specs.WellFormed.{version_fits, segment_fits, out_has_init_section, well_formed}
 use Rattle.playlist_write.specs.Denoted.{denoted, denoted_segment, denoted_date_range}
 use Rattle.playlist_write.proofs.Whole.{text_denotes}
-use Rattle.read_is_writable.specs.Read.{version_reads, IsSaid, text_is_clean}
+use Rattle.read_is_writable.specs.Read.{version_reads, IsSaidBy, text_is_clean}
 use Rattle.channel_spec.specs.declared.fault.RefreshFault.TheVariants.{NumberRange}
 use Rattle.channel_spec.specs.Successor.{first_number, fault_if}
 use Rattle.channel_spec.specs.Successor as successor
@@ -78,7 +78,7 @@ outs_have_init_sections m (item ∷ items) h = (has_init_section_item item ∙ h
 version_owed : (v : ℕ) → version_reads v ≡ true → version_fits (max v 6) ≡ true
 version_owed v h = grind (arith, nat_tests)
 
-date_ranges_fit : (date_ranges : List DateRange) → AllByRecursion (IsSaid limited) date_ranges → list_all text_is_clean date_ranges ≡ true → list_all date_range_fits (map date_range_text date_ranges) ≡ true
+date_ranges_fit : (date_ranges : List DateRange) → AllByRecursion (IsSaidBy limited) date_ranges → list_all text_is_clean date_ranges ≡ true → list_all date_range_fits (map date_range_text date_ranges) ≡ true
 date_ranges_fit [] said clean = refl
 date_ranges_fit (r ∷ later) (here, rest) clean =
     let c = and_parts _ _ clean in and_from _ _ (and_from _ _ c.0 (ap says_date_range here)) (date_ranges_fit later rest c.1)
@@ -91,7 +91,7 @@ some_clean : (b : Bool) (date_ranges : List DateRange) → list_all text_is_clea
 some_clean true date_ranges h = h
 some_clean false date_ranges h = refl
 
-date_ranges_said : (date_ranges : List DateRange) → AllByRecursion (IsSaid unlimited) date_ranges → flat_map denoted_date_range (map date_range_text date_ranges) ≡ date_ranges
+date_ranges_said : (date_ranges : List DateRange) → AllByRecursion (IsSaidBy unlimited) date_ranges → flat_map denoted_date_range (map date_range_text date_ranges) ≡ date_ranges
 date_ranges_said [] h = refl
 date_ranges_said (r ∷ later) (here, rest) = grind (arith, date_ranges_said later rest)
 
@@ -102,8 +102,8 @@ module _ (t : Told) (p : Playlist) where
   abbrev others : DateRange → Bool
   others r = not (is_one_of (breaks_in_use t.start (first_number p.segments) t.history) r.id)
 
-  written_said : (reader : Reader) → AllByRecursion (IsSaid reader) p.date_ranges → AllByRecursion (IsSaid reader) (written_date_ranges t p)
-  written_said reader h = some_said (IsSaid reader) stated (filter others p.date_ranges) (all_filter (IsSaid reader) others p.date_ranges h)
+  written_said : (reader : Reader) → AllByRecursion (IsSaidBy reader) p.date_ranges → AllByRecursion (IsSaidBy reader) (written_date_ranges t p)
+  written_said reader h = some_said (IsSaidBy reader) stated (filter others p.date_ranges) (all_filter (IsSaidBy reader) others p.date_ranges h)
 
   written_clean : list_all text_is_clean p.date_ranges ≡ true → list_all text_is_clean (written_date_ranges t p) ≡ true
   written_clean h = some_clean stated (filter others p.date_ranges) (list_filter text_is_clean others p.date_ranges h)
@@ -116,7 +116,7 @@ due_stands ended history h =
     let r = list_rest ended history in
     (and_parts _ _ (sym (list_all-append piece_stands r.rest (due_stitched ended history)) ∙ (ap (list_all piece_stands) (sym r.is) ∙ h))).1
 
-well : (t : Told) (p : Playlist) → Good t → WindowStanding p t.history t.start → CanBeRead p → list_all fits (due_list p.end_list t.history) ≡ true → well_formed (owed_playlist t p) ≡ true
+well : (t : Told) (p : Playlist) → Good t → WindowStanding p t.history t.start → CanBeRead p → list_all can_be_numbered (due_list p.end_list t.history) ≡ true → well_formed (owed_playlist t p) ≡ true
 well t p g s r f =
     let first = first_numbers t.history in
     let pieces = due_stitched p.end_list t.history in
@@ -144,7 +144,7 @@ within : (b : Bool) → fault_if (not b) NumberRange ≡ None → b ≡ true
 within true e = refl
 within false e = absurd (cc)
 
-accepted : (tolerance : ℕ) (t : Told) (p : Playlist) → refusal tolerance t p ≡ None → (succession_fault (last_playlist t.accepted) p ≡ None) × (list_all fits (due_list p.end_list (after_refresh tolerance t p).history) ≡ true)
+accepted : (tolerance : ℕ) (t : Told) (p : Playlist) → refusal tolerance t p ≡ None → (succession_fault (last_playlist t.accepted) p ≡ None) × (list_all can_be_numbered (due_list p.end_list (after_refresh tolerance t p).history) ≡ true)
 accepted tolerance t p e = grind arith
 
 now : (tolerance : ℕ) (t : Told) (p : Playlist) → refusal tolerance t p ≡ None → cond (is_none (refusal tolerance t p)) (after_refresh tolerance t p) t ≡ after_refresh tolerance t p

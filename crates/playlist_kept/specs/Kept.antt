@@ -5,10 +5,10 @@ use Rattle.playlist_model.specs.declared.Playlist.{Playlist}
 use Rattle.playlist_model.specs.declared.Segment.{Segment}
 use Rattle.playlist_model.specs.declared.FaultKind.TheVariants.{OutOfMemory}
 use Rattle.playlist_model.specs.Reading.{Fault}
-use Rattle.playlist_kept.specs.KeptLines.{WasRead}
+use Rattle.playlist_kept.specs.KeptLines.{LinesWereRead}
 use Rattle.playlist_kept.specs.declared.source.KeptLines.{KeptLines}
 use Rattle.playlist_kept.specs.declared.read_playlist.Read.{Read}
-use Rattle.playlist_kept.specs.declared.source.Source.{Source}
+use Rattle.playlist_kept.specs.declared.source.LastPlaylist.{LastPlaylist}
 use Rattle.playlist_kept.specs.declared.step.Step.{Step}
 
 -- segments that were read, with those that were taken over after the first of them
@@ -32,14 +32,14 @@ AnswersRead result outcome =
 -- these lines of the playlist, if any are kept, were read under this base
 abbrev pub AreKeptLines : Parts → Playlist → Option KeptLines → Type 0
 AreKeptLines base playlist None = Unit {0}
-AreKeptLines base playlist (Some kept) = WasRead base kept playlist.segments playlist.date_ranges
+AreKeptLines base playlist (Some kept) = LinesWereRead base kept playlist.segments playlist.date_ranges
 
 -- so were those of a source
-abbrev pub IsKept : Parts → Option Source → Type 0
-IsKept base None = Unit {0}
-IsKept base (Some source) = WasRead base source.lines source.segments.items source.date_ranges
+abbrev pub IsKeptUnderBase : Parts → Option LastPlaylist → Type 0
+IsKeptUnderBase base None = Unit {0}
+IsKeptUnderBase base (Some source) = LinesWereRead base source.lines source.segments.items source.date_ranges
 
-abbrev pub kept_segments : Option Source → List Segment
+abbrev pub kept_segments : Option LastPlaylist → List Segment
 kept_segments None = []
 kept_segments (Some source) = source.segments.items
 
@@ -48,7 +48,7 @@ abbrev pub IsTakenFrom : List Segment → Read → Type 0
 IsTakenFrom old read = read.taken.now ≡ drop read.from (take read.till old)
 
 -- what is kept of a playlist after this one was kept
-pub record IsAfter (step : Step) (last : Option Source) (source : Source) : Type 0 where
+pub record IsAfter (step : Step) (last : Option LastPlaylist) (source : LastPlaylist) : Type 0 where
   pub lines : step.lines ≡ Some source.lines
   pub segments : source.segments.items ≡ with_taken step.front step.playlist.segments (drop step.from (take step.till (kept_segments last)))
   pub date_ranges : source.date_ranges ≡ step.playlist.date_ranges

@@ -23,7 +23,7 @@ pub record SaysOfAll (heading : ReadHeading) (before : List Said) : Type 0 where
   pub has_media : has is_media before ≡ heading.has_media
 
 -- these lines were read under this base; their segments and date ranges are the first of these
-pub record WasRead (base : Parts) (kept : KeptLines) (all : List Segment) (ranges : List DateRange) : Type 0 where
+pub record LinesWereRead (base : Parts) (kept : KeptLines) (all : List Segment) (ranges : List DateRange) : Type 0 where
   pub before : List Said
   pub few : length (lines kept.text) < 2 ^ 63
   pub read : said_from (said_by limited base) (nothing ∷ []) (lines kept.text) ≡ Ok before

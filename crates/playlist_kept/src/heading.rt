@@ -1,5 +1,6 @@
 //! What the tags of the whole playlist said in lines that were read.
 ghost use Rattle.std.specs.Prelude.{◌≡◌, true};
+ghost use Rattle.playlist_model.specs.Same.{kind_eq};
 
 use playlist_model::PlaylistKind;
 
@@ -35,8 +36,10 @@ fn is_same_number(a: Option<u64>, b: Option<u64>) -> bool
     }
 }
 
-fn is_same_kind(a: Option<PlaylistKind>, b: Option<PlaylistKind>) -> bool
-    ensures { result ≡ true → a ≡ b }
+/// Whether both types are the same, or neither playlist has one (RFC 8216, section 4.3.3.5): `a` and `b` are theirs.
+pub fn is_same_kind(a: Option<PlaylistKind>, b: Option<PlaylistKind>) -> bool
+    ensures value { result ≡ kind_eq a b }
+    ensures same { result ≡ true → a ≡ b }
 {
     match (a, b) {
         (None, None) => true,

@@ -7,7 +7,7 @@ mod read_playlist;
 mod source;
 mod step;
 
-pub use heading::ReadHeading;
-pub use read_playlist::{Places, Read, placed};
-pub use source::{KeptLines, Source};
+pub use heading::{ReadHeading, is_same_kind};
+pub use read_playlist::{Places, Read, read_with_places};
+pub use source::{KeptLines, LastPlaylist};
 pub use step::Step;

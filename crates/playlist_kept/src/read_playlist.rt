@@ -165,7 +165,7 @@ pub fn whole_of(alloc: Global, read: Read<'_>) -> Result<Playlist, AllocError>
 #[tactic(auto, using(crate::proofs::Parts::taken_there))]
 /// The playlist that was `read`, with `lines`, what is kept of its text, and with the places of the segments that were taken
 /// over, which are `places`. If these aren't told by `read` to be there, they are copied. Fails only if an allocation fails.
-pub fn placed<'a>(
+pub fn read_with_places<'a>(
     alloc: Global,
     read: Read<'a>,
     places: Places,

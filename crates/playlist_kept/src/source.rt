@@ -22,7 +22,7 @@ pub struct KeptLines {
 
 /// What is kept of the playlist that was read last, so that the next text can be read by what they have in common.
 #[derive(Drop)]
-pub struct Source {
+pub struct LastPlaylist {
     /// The lines of its text.
     pub lines: KeptLines,
     /// Its segments.

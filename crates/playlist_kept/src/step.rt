@@ -3,7 +3,7 @@ ghost use Rattle.std.specs.Prelude.{◌≡◌, ◌++◌, IfOk, MatchOption, OnOk
 ghost use Rattle.playlist_kept.specs.Kept.{IsAfter, kept_segments, with_taken};
 
 use crate::read_playlist::Read;
-use crate::source::{KeptLines, Source};
+use crate::source::{KeptLines, LastPlaylist};
 use playlist_model::{Items, Member, Members, Playlist, Segment, Shared};
 use std::alloc::{AllocError, Global};
 
@@ -25,7 +25,7 @@ pub struct Step {
 // The segments of a source from one place up to another; none if there is no source.
 fn stretch_of(
     alloc: Global,
-    source: Option<Source>,
+    source: Option<LastPlaylist>,
     from: usize,
     till: usize,
 ) -> Vec<Member<Segment>>
@@ -97,7 +97,7 @@ impl<'a> Read<'a> {
 impl Step {
     /// What is kept of the playlist for the reading of the next one, if `last` is what was kept of the last one. Nothing is
     /// kept if no lines are, or if an allocation fails: the next text is read whole then.
-    pub fn after(self, alloc: Global, last: Option<Source>) -> Option<Source>
+    pub fn after(self, alloc: Global, last: Option<LastPlaylist>) -> Option<LastPlaylist>
         ensures { MatchOption result (Unit {0}) (IsAfter self last) }
     {
         let Step {
@@ -112,7 +112,7 @@ impl Step {
         };
         let taken = stretch_of(alloc, last, from, till);
         match members_with(alloc, &playlist.segments, front, taken) {
-            Ok(segments) => Some(Source {
+            Ok(segments) => Some(LastPlaylist {
                 lines,
                 segments,
                 date_ranges: playlist.date_ranges,

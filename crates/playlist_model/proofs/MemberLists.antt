@@ -3,9 +3,9 @@ use Rattle.std.proofs.Common.{◌≡◌, ℕ, ◌+◌, ◌<◌, zero, suc, List,
 use Rattle.std.specs.Prelude.{Option, IsTrue}
 use Rattle.std.specs.List.{slice_get}
 use Rattle.std.specs.Option.{is_some}
-use Rattle.playlist_model.specs.Members.{value_of, value_at, has_value}
+use Rattle.playlist_model.specs.Members.{found_value, value_at, has_value}
 
-value_found : {X : Type 0} (found : Option X) (h : IsTrue (is_some found)) (x : X) → found ≡ Some x → value_of found h ≡ x
+value_found : {X : Type 0} (found : Option X) (h : IsTrue (is_some found)) (x : X) → found ≡ Some x → found_value found h ≡ x
 value_found None h x e = absurd (cc e)
 value_found (Some y) h x e = cc e
 

@@ -8,9 +8,9 @@ pub none_found : IsTrue false → ⊥
 none_found h = cc h
 
 -- the value that was found
-abbrev pub value_of : {X : Type 0} (found : Option X) → IsTrue (is_some found) → X
-value_of None h = absurd (none_found h)
-value_of (Some x) h = x
+abbrev pub found_value : {X : Type 0} (found : Option X) → IsTrue (is_some found) → X
+found_value None h = absurd (none_found h)
+found_value (Some x) h = x
 
 -- a place within a list has a value
 pub has_value : {X : Type 0} (xs : List X) (place : ℕ) → place < length xs → IsTrue (is_some (slice_get xs place))
@@ -20,4 +20,4 @@ has_value (x ∷ xs) (suc place) within = let below : place < length xs = omega 
 
 -- the value at a place within a list
 abbrev pub value_at : {X : Type 0} (xs : List X) (place : ℕ) → place < length xs → X
-value_at xs place within = value_of (slice_get xs place) (has_value xs place within)
+value_at xs place within = found_value (slice_get xs place) (has_value xs place within)

@@ -13,14 +13,14 @@ use Rattle.playlist_model.specs.declared.Playlist.{Playlist}
 use Rattle.playlist_model.specs.Lines.{Kind, ignored, uri, tag, kind_of, has_control}
 use Rattle.date_times.specs.Instant.{instant_of}
 use Rattle.spec_words.specs.Outcomes.{◌>>=◌, or_fault, refuse_if}
-use Rattle.playlist_model.specs.Said.{Name, version_tag, target_tag, sequence_tag, discontinuity_sequence_tag, type_tag, ended_tag, independent_tag, frames_tag, master_tag, duration_tag, byte_range_tag, discontinuity_tag, key_tag, init_section_tag, time_tag, date_range_tag, unknown_tag, Said, nothing, version, target, sequence, discontinuity_sequence, playlist_type, ended, independent, byte_range, discontinuity, time, media, Outcome, over, Reader, number, version_of, playlist_type_of, duration_said, byte_range_of, key_said, init_section_said, date_range_said, uri_of}
+use Rattle.playlist_model.specs.Said.{Name, version_tag, target_tag, sequence_tag, discontinuity_sequence_tag, type_tag, ended_tag, independent_tag, frames_tag, master_tag, duration_tag, byte_range_tag, discontinuity_tag, key_tag, init_section_tag, time_tag, date_range_tag, unknown_tag, Said, nothing, version, target, sequence, discontinuity_sequence, playlist_type, ended, independent, byte_range, discontinuity, time, media, Outcome, over, Reader, number_said, version_of, playlist_type_of, duration_said, byte_range_of, key_said, init_section_said, date_range_said, uri_of}
 use Rattle.playlist_model.specs.LookBack.{latest, the_version, the_target, the_sequence, the_discontinuity_sequence, the_type, is_media, is_discontinuity, is_ended, is_independent, count, own_duration, media_sequence_at, discontinuity_at, keys_at, byte_range_at, segments_of, date_ranges_of}
 
 -- ---- the tags by name (RFC 8216, 4.3)
 
 -- a name, and whether it is a flag, which takes no `:`
-abbrev pub names : List (List ℕ × Bool × Name)
-names =
+abbrev pub tag_names : List (List ℕ × Bool × Name)
+tag_names =
     (codes "EXTINF", false, duration_tag)
     ∷ (codes "EXT-X-BYTERANGE", false, byte_range_tag)
     ∷ (codes "EXT-X-DISCONTINUITY", true, discontinuity_tag)
@@ -47,7 +47,7 @@ name_found colon None = unknown_tag
 name_found colon (Some (text, flag, name)) = if flag && colon then unknown_tag else name
 
 abbrev pub name_of : List ℕ → Bool → Name
-name_of text colon = name_found colon (find (λ (row : List ℕ × Bool × Name). bytes_eq text row.0) names)
+name_of text colon = name_found colon (find (λ (row : List ℕ × Bool × Name). bytes_eq text row.0) tag_names)
 
 -- ---- what a line says after the lines before it, or its first fault (4.3: of the tags of a media playlist, which of
 -- them may repeat, and where they may stand)
@@ -77,14 +77,14 @@ abbrev pub said_by_tag : Reader → Parts → List Said → Name → List ℕ �
 said_by_tag reader base before version_tag rest =
     refuse_if (is_set the_version before) fault.Repeated (version_of rest >>= λ n. Ok (version n))
 said_by_tag reader base before target_tag rest =
-    refuse_if (is_set the_target before) fault.Repeated (number rest >>= λ n. Ok (target n))
+    refuse_if (is_set the_target before) fault.Repeated (number_said rest >>= λ n. Ok (target n))
 said_by_tag reader base before sequence_tag rest =
     refuse_if (is_set the_sequence before) fault.Repeated
-    (refuse_if (has is_media before) fault.Misplaced (number rest >>= λ n. Ok (sequence n)))
+    (refuse_if (has is_media before) fault.Misplaced (number_said rest >>= λ n. Ok (sequence n)))
 said_by_tag reader base before discontinuity_sequence_tag rest =
     refuse_if (is_set the_discontinuity_sequence before) fault.Repeated
     (refuse_if (has is_media before || has is_discontinuity before) fault.Misplaced
-    (number rest >>= λ n. Ok (discontinuity_sequence n)))
+    (number_said rest >>= λ n. Ok (discontinuity_sequence n)))
 said_by_tag reader base before type_tag rest =
     refuse_if (is_set the_type before) fault.Repeated (playlist_type_of rest >>= λ kind. Ok (playlist_type kind))
 said_by_tag reader base before ended_tag rest = refuse_if (has is_ended before) fault.Repeated (Ok ended)

@@ -5,9 +5,9 @@ use Rattle.playlist_model.specs.declared.FaultKind.TheVariants as fault
 use Rattle.playlist_model.specs.Said.{Outcome}
 
 -- the fault is the outcome's, a failed allocation apart
-abbrev pub Refuses : {A : Type 0} → FaultKind → Outcome A → Type 0
-Refuses e outcome = outcomes.Refuses fault.OutOfMemory e outcome
+abbrev pub RefusesByPlaylistFault : {A : Type 0} → FaultKind → Outcome A → Type 0
+RefusesByPlaylistFault e outcome = outcomes.Refuses fault.OutOfMemory e outcome
 
 -- the value means what is owed, or the fault is the one owed, a failed allocation apart
-abbrev pub Gives : {A B : Type 0} → (A → B) → Outcome A → Outcome B → Type 0
-Gives means result outcome = outcomes.Gives fault.OutOfMemory means result outcome
+abbrev pub GivesOrPlaylistFault : {A B : Type 0} → (A → B) → Outcome A → Outcome B → Type 0
+GivesOrPlaylistFault means result outcome = outcomes.Gives fault.OutOfMemory means result outcome

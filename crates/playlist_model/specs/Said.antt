@@ -81,8 +81,8 @@ Outcome A = Result A FaultKind
 -- ---- the parts of a line
 
 -- a decimal-integer (4.2)
-abbrev pub number : List ℕ → Outcome ℕ
-number rest = or_fault fault.BadValue (decimal_of rest)
+abbrev pub number_said : List ℕ → Outcome ℕ
+number_said rest = or_fault fault.BadValue (decimal_of rest)
 
 -- EXT-X-VERSION (4.3.1.2): from 1 to 7, which RFC 8216 describes
 abbrev pub version_of : List ℕ → Outcome ℕ
@@ -192,8 +192,8 @@ time_of pair = or_fault fault.BadTime (instant_of pair.value)
 abbrev pub length_of : Pair → Outcome ℕ
 length_of pair = mended fault.BadDuration (duration_of pair.value)
 
-abbrev pub value_of : Pair → List ℕ
-value_of pair = pair.value
+abbrev pub value_in_pair : Pair → List ℕ
+value_in_pair pair = pair.value
 
 -- EXT-X-DATERANGE (4.3.2.7; 4.3.2.7.1 for SCTE35-OUT and SCTE35-IN): what its attributes say, beside its whole text
 abbrev pub date_range_of : List ℕ → List Pair → Outcome Said
@@ -209,8 +209,8 @@ date_range_of text pairs =
       end = end;
       duration = duration;
       planned_duration = planned;
-      scte35_out = option_map value_of (attribute pairs (codes "SCTE35-OUT"));
-      scte35_in = option_map value_of (attribute pairs (codes "SCTE35-IN"));
+      scte35_out = option_map value_in_pair (attribute pairs (codes "SCTE35-OUT"));
+      scte35_in = option_map value_in_pair (attribute pairs (codes "SCTE35-IN"));
       attributes = text;
     }))
 

@@ -1,10 +1,12 @@
--- Whether two keys, or two initialisation sections, are the same in all their parts.
+-- Whether two keys, or two initialisation sections, are the same in all their parts; whether two playlists are of one type.
 use Rattle.std.specs.Prelude.{ℕ, Bool, true, false, [], ◌&&◌, ◌==◌, Option, Some, None, bytes_eq}
 use Rattle.std.specs.Cmp.Lexicographic.{pointwise}
 use Rattle.playlist_model.specs.declared.Key.{Key}
 use Rattle.playlist_model.specs.declared.ByteRange.{ByteRange}
 use Rattle.playlist_model.specs.declared.InitSection.{InitSection}
 use Rattle.playlist_model.specs.declared.Segment.{Segment}
+use Rattle.playlist_model.specs.declared.PlaylistKind.{PlaylistKind}
+use Rattle.playlist_model.specs.declared.PlaylistKind.TheVariants.{Event, Vod}
 
 abbrev pub same_option : {A : Type 0} → (A → A → Bool) → Option A → Option A → Bool
 same_option same None None = true
@@ -24,6 +26,12 @@ same_byte_range a b = a.length == b.length && a.offset == b.offset
 
 abbrev pub same_init_section : InitSection → InitSection → Bool
 same_init_section a b = bytes_eq a.uri b.uri && same_option same_byte_range a.byte_range b.byte_range && pointwise same_key a.keys b.keys
+
+abbrev pub kind_eq : Option PlaylistKind → Option PlaylistKind → Bool
+kind_eq None None = true
+kind_eq (Some Event) (Some Event) = true
+kind_eq (Some Vod) (Some Vod) = true
+kind_eq _ _ = false
 
 -- a segment without its title, its time and its steps
 abbrev pub kept_parts : Segment → Segment

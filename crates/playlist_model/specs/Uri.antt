@@ -21,14 +21,14 @@ abbrev pub can_be_written : List ℕ → Bool
 can_be_written text = has_scheme text && not (has_control text) && not (list_any is_quote text)
 
 -- the join that the `url` crate makes, if it may be one
-abbrev pub joined : Parsed Parts → Option (List ℕ)
-joined (Ok url) = if can_be_written (serialize url) then Some (serialize url) else None
-joined (Err e) = None
+abbrev pub text_of_join : Parsed Parts → Option (List ℕ)
+text_of_join (Ok url) = if can_be_written (serialize url) then Some (serialize url) else None
+text_of_join (Err e) = None
 
 -- the reference itself if it has a scheme, else its join to the base; none if the join fails
 abbrev pub resolved : Parts → List ℕ → Option (List ℕ)
 resolved base reference =
-    if has_scheme reference then Some reference else joined (parse_url (Some base) reference)
+    if has_scheme reference then Some reference else text_of_join (parse_url (Some base) reference)
 
 abbrev pub is_web_scheme : List ℕ → Bool
 is_web_scheme scheme = bytes_eq scheme (codes "http") || bytes_eq scheme (codes "https")

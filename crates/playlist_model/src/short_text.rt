@@ -58,7 +58,7 @@ impl ShortText {
 
     // Two texts as one, in memory of its own.
     #[inline(never)]
-    fn owned(alloc: Global, front: &str, back: &str) -> Result<ShortText, AllocError>
+    fn heap_text(alloc: Global, front: &str, back: &str) -> Result<ShortText, AllocError>
         ensures { IfOk result (λ text. text ≡ front.now ++ back.now) }
     {
         let room = front.len().saturating_add(back.len());
@@ -71,14 +71,14 @@ impl ShortText {
     /// The text `front` and then `back`. Fails only if an allocation fails, and never if both have at most 48 bytes
     /// together.
     #[inline(always)]
-    pub fn joined(alloc: Global, front: &str, back: &str) -> Result<ShortText, AllocError>
+    pub fn join(alloc: Global, front: &str, back: &str) -> Result<ShortText, AllocError>
         ensures text { IfOk result (λ text. text ≡ front.now ++ back.now) }
         ensures memory { IsErr result → most_inline < length front.now + length back.now }
     {
         if front.len() <= MAX_INLINE && back.len() <= MAX_INLINE - front.len() {
             return Ok(ShortText::inline(front, back));
         }
-        ShortText::owned(alloc, front, back)
+        ShortText::heap_text(alloc, front, back)
     }
 
     /// A copy of `text`. Fails only if an allocation fails, and never if `text` has at most 48 bytes.
@@ -86,7 +86,7 @@ impl ShortText {
         ensures text { IfOk result (λ t. t ≡ text.now) }
         ensures memory { IsErr result → most_inline < length text.now }
     {
-        ShortText::joined(alloc, text, "")
+        ShortText::join(alloc, text, "")
     }
 
     /// Its characters; a contract sees their bytes in UTF-8.

@@ -3,14 +3,14 @@ use Rattle.std.proofs.Common.{◌≡◌, ℕ, ◌<◌, get_or, zero, suc, List, 
 use Rattle.std.specs.Prelude.{slice_get}
 use Rattle.std.proofs.lemmas.List.{append-nil}
 use Rattle.playlist_model.specs.declared.DateRange.{DateRange}
-use Rattle.playlist_parse.specs.Inner.DateRanges.{IsSaid, AreSaid, StandsAt, Adds}
+use Rattle.playlist_parse.specs.Inner.DateRanges.{IsSaidByAttributes, AreSaidByAttributes, HasAttributesAt, Adds}
 
-pub said_later : (one : DateRange) (later list : List DateRange) → list ≡ one ∷ later → AreSaid list → AreSaid later
-said_later one later list is h = (subst AreSaid is h).1
+pub said_later : (one : DateRange) (later list : List DateRange) → list ≡ one ∷ later → AreSaidByAttributes list → AreSaidByAttributes later
+said_later one later list is h = (subst AreSaidByAttributes is h).1
 
-said_at : (list : List DateRange) (place : ℕ) (one : DateRange) → AreSaid list → slice_get list place ≡ Some one → IsSaid one
+said_at : (list : List DateRange) (place : ℕ) (one : DateRange) → AreSaidByAttributes list → slice_get list place ≡ Some one → IsSaidByAttributes one
 said_at [] place one h e = absurd (cc)
-said_at (x ∷ later) zero one h e = let same : x ≡ one = cc in subst IsSaid same h.0
+said_at (x ∷ later) zero one h e = let same : x ≡ one = cc in subst IsSaidByAttributes same h.0
 said_at (x ∷ later) (suc place) one h e = said_at later place one h.1 e
 
 pub slice_there : (xs : List DateRange) (i : ℕ) (x : DateRange) → i < length xs → x ≡ get_or xs i x → slice_get xs i ≡ Some x
@@ -24,7 +24,7 @@ one_more (x ∷ later) zero one e = let same : x ≡ one = cc in ap (λ y. y ∷
 one_more (x ∷ later) (suc place) one e = ap (λ ys. x ∷ ys) (one_more later place one e)
 
 -- the one that comes next is taken
-pub met_next : (old known list now : List DateRange) (place more : ℕ) (rest : List ℕ) → take place old ++ list ≡ now → length list ≡ 0 → AreSaid known → take place known ≡ take place old → more ≡ suc place
-    → StandsAt known place rest → Adds rest now (take more known ++ list)
+pub met_next : (old known list now : List DateRange) (place more : ℕ) (rest : List ℕ) → take place old ++ list ≡ now → length list ≡ 0 → AreSaidByAttributes known → take place known ≡ take place old → more ≡ suc place
+    → HasAttributesAt known place rest → Adds rest now (take more known ++ list)
 met_next old known [] now place more rest view_is none said same is s = grind (arith, said_at, append-nil, one_more)
 met_next old known (x ∷ later) now place more rest view_is none said same is s = absurd (omega (arith, none))

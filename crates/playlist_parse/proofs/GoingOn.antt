@@ -5,7 +5,7 @@ use Rattle.url.specs.Parts.{Parts}
 use Rattle.playlist_model.specs.Said.{Said, Outcome, Reader}
 use Rattle.playlist_model.specs.LookBack.{segments_of, date_ranges_of}
 use Rattle.playlist_model.specs.Reading.{at_line, said_by, said_from, Fault}
-use Rattle.playlist_parse.specs.Inner.Resumed.{scene_at, Alike, Resumed, GoesOn}
+use Rattle.playlist_parse.specs.Inner.Resumed.{scene_at, Alike, Resumed, ReadingGoesOn}
 use Rattle.playlist_parse.proofs.OtherKinds.{is_other, Other, line_other}
 use Rattle.playlist_parse.proofs.SameAnswers.{kept_line}
 use Rattle.playlist_parse.proofs.Scenes.{segments_said, date_ranges_said, none_after, segments_step, date_ranges_step, count_step, sequence_step, discontinuity_sequence_step, alike_next}
@@ -81,5 +81,5 @@ module _ (reader : Reader) (base : Parts) where
       one_line old new line later all t.said alike other (kept_line reader base old new alike line t.said t.is)
       (goes_on_by (t.said ∷ old) (t.said ∷ new) later all (alike_next t.said old new other alike) t.later)
 
-pub goes_on : GoesOn
+pub goes_on : ReadingGoesOn
 goes_on reader base old new lines all alike h = goes_on_by reader base old new lines all alike h

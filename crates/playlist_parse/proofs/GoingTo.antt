@@ -19,14 +19,14 @@ use Rattle.playlist_parse.specs.Inner.Progress.{Progress, progress_at}
 use Rattle.playlist_parse.specs.Inner.Reached.{Reached, left_in}
 use Rattle.playlist_parse.specs.declared.reading.Reading.{Reading}
 use Rattle.playlist_kept.specs.declared.read_playlist.Places.{Places}
-use Rattle.playlist_kept.specs.declared.source.Source.{Source}
+use Rattle.playlist_kept.specs.declared.source.LastPlaylist.{LastPlaylist}
 use Rattle.playlist_kept.specs.Places.{StandInBoth}
 use Rattle.playlist_kept.specs.Kept.{AreKeptLines}
 use Rattle.playlist_parse.specs.Inner.Resumed.{Scene, scene_at, Alike, Resumed}
 use Rattle.playlist_parse.specs.Inner.LineViews.{is_free}
-use Rattle.playlist_parse.specs.Inner.Source.{Agree, TakesOver, AreLinesOf, Grown, gone_to, gone_after}
+use Rattle.playlist_parse.specs.Inner.Source.{GoOnAlike, TakesOver, AreLinesOf, Grown, gone_to, gone_after}
 use Rattle.playlist_parse.specs.Inner.HeadingView.{heading_view}
-use Rattle.playlist_kept.specs.KeptLines.{SaysOfAll, WasRead}
+use Rattle.playlist_kept.specs.KeptLines.{SaysOfAll, LinesWereRead}
 use Rattle.playlist_kept.specs.declared.source.KeptLines.{KeptLines}
 use Rattle.playlist_kept.specs.declared.heading.ReadHeading.{ReadHeading}
 use Rattle.playlist_parse.proofs.GoingOn.{goes_on}
@@ -112,7 +112,7 @@ heading_says : (heading : ReadHeading) (before : List Said) → heading_at befor
 heading_says heading before h = grind arith
 
 module _ (base : Parts) (p q new : Progress) (n m k : ℕ) (left left_now lines_here lines_there : List (List ℕ)) (common : List ℕ) (source : KeptLines) (all : List Segment) (ranges : List DateRange)
-    (here : Reached base p n left lines_here) (there : Reached base q m (lines common) lines_there) (was : WasRead base source all ranges)
+    (here : Reached base p n left lines_here) (there : Reached base q m (lines common) lines_there) (was : LinesWereRead base source all ranges)
     (same : lines source.text ≡ lines_there) (stop : Stop) (stop_here : IsStop p.standing stop) (stop_there : IsStop q.standing stop)
     (heading : p.heading ≡ q.heading) (some : q.heading.has_media ≡ true) (fewer : length p.segments ≤ length q.segments)
     (cut : left ≡ lines common ++ left_now) (is : new ≡ gone_to p (heading_view source.heading) source.stop (drop (length q.date_ranges) (take source.date_ranges ranges)) (drop (length q.segments) (take source.segments all)))
@@ -177,7 +177,7 @@ module _ (base : Parts) (p q new : Progress) (n m k : ℕ) (left left_now lines_
       }
 
 -- the same, over what agrees
-pub took_over : (old front new : Reading) (common : List ℕ) (source : Source) → Agree old.progress front.progress → left_in front ≡ lines common
+pub took_over : (old front new : Reading) (common : List ℕ) (source : LastPlaylist) → GoOnAlike old.progress front.progress → left_in front ≡ lines common
     → left_in old ≡ lines common ++ left_in new → new.progress ≡ gone_after old.progress front.progress source → new.number + front.number ≡ old.number + source.lines.next → TakesOver front source old new
 took_over old front new common source agree same cut is number = λ base was there tail all here.
     gone_on base old.progress front.progress new.progress old.number front.number new.number (left_in old ++ tail) (left_in new ++ tail) all (lines source.lines.text) common source.lines source.segments.items source.date_ranges here
@@ -185,11 +185,11 @@ took_over old front new common source agree same cut is number = λ base was the
     (ap (λ ls. ls ++ tail) cut ∙ append_assoc (lines common) (left_in new) tail) is number
 
 -- if nothing changed, nothing has to be shown
-pub stayed : (front old new : Reading) (source : Source) → new ≡ old → TakesOver front source old new
+pub stayed : (front old new : Reading) (source : LastPlaylist) → new ≡ old → TakesOver front source old new
 stayed front old new source is = grind arith
 
 -- what stands at these places was taken over
-pub taken_over : (old front new : Progress) (source : Source) (places : Places) → new ≡ gone_after old front source → places.start ≡ length old.segments → places.end ≡ length new.segments
+pub taken_over : (old front new : Progress) (source : LastPlaylist) (places : Places) → new ≡ gone_after old front source → places.start ≡ length old.segments → places.end ≡ length new.segments
     → places.from ≡ length front.segments → places.till ≡ source.lines.segments → StandInBoth source.segments.items new.segments places
 taken_over old front new source places is start end from till = grind (arith, length-append, take_all, drop_front)
 
@@ -276,7 +276,7 @@ front_is all front more n is count = grind (arith, take-append_seam)
 
 -- what is kept of the lines that were read so far
 kept : {base : Parts} {p : Progress} {number : ℕ} (text : List ℕ) (source : KeptLines) (playlist : Playlist) → Reached base p number [] (lines text)
-    → length (lines text) < 9223372036854775808 → AreLinesOf text p number source → Grown p playlist → WasRead base source playlist.segments playlist.date_ranges
+    → length (lines text) < 9223372036854775808 → AreLinesOf text p number source → Grown p playlist → LinesWereRead base source playlist.segments playlist.date_ranges
 kept {p = p} text source playlist r few is g = grind (arith, heading_says, front_is)
 
 pub kept_source : {base : Parts} {p : Progress} {number : ℕ} (text : List ℕ) (source : Option KeptLines) (playlist : Playlist) → Reached base p number [] (lines text)

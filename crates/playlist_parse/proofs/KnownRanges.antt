@@ -5,10 +5,10 @@ use Rattle.url.specs.Parts.{Parts}
 use Rattle.playlist_model.specs.declared.DateRange.{DateRange}
 use Rattle.playlist_model.specs.declared.Segment.{Segment}
 use Rattle.playlist_model.specs.Said.{nothing}
-use Rattle.playlist_kept.specs.KeptLines.{WasRead}
+use Rattle.playlist_kept.specs.KeptLines.{LinesWereRead}
 use Rattle.playlist_kept.specs.declared.source.KeptLines.{KeptLines}
-use Rattle.playlist_parse.specs.Inner.DateRanges.{AreSaid}
+use Rattle.playlist_parse.specs.Inner.DateRanges.{AreSaidByAttributes}
 use Rattle.playlist_parse.proofs.SaidAgain.{all_said}
 
-pub said_before : (base : Parts) (kept : KeptLines) (all : List Segment) (ranges : List DateRange) → WasRead base kept all ranges → AreSaid (take kept.date_ranges ranges)
-said_before base kept all ranges was = subst AreSaid was.date_ranges (all_said base (lines kept.text) (nothing ∷ []) was.before was.read tt)
+pub said_before : (base : Parts) (kept : KeptLines) (all : List Segment) (ranges : List DateRange) → LinesWereRead base kept all ranges → AreSaidByAttributes (take kept.date_ranges ranges)
+said_before base kept all ranges was = subst AreSaidByAttributes was.date_ranges (all_said base (lines kept.text) (nothing ∷ []) was.before was.read tt)

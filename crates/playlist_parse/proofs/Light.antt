@@ -8,7 +8,7 @@ use Rattle.playlist_model.specs.declared.FaultKind.{FaultKind}
 use Rattle.playlist_model.specs.declared.FaultKind.TheVariants as fault
 use Rattle.playlist_model.specs.declared.FaultKind.TheVariants.{OutOfMemory}
 use Rattle.playlist_model.specs.Lines.{Kind, ignored, uri, tag, kind_of, has_control}
-use Rattle.playlist_model.specs.Said.{Name, version_tag, target_tag, sequence_tag, discontinuity_sequence_tag, type_tag, ended_tag, independent_tag, frames_tag, master_tag, duration_tag, byte_range_tag, discontinuity_tag, key_tag, init_section_tag, time_tag, date_range_tag, unknown_tag, Said, nothing, number, version_of, playlist_type_of, Outcome}
+use Rattle.playlist_model.specs.Said.{Name, version_tag, target_tag, sequence_tag, discontinuity_sequence_tag, type_tag, ended_tag, independent_tag, frames_tag, master_tag, duration_tag, byte_range_tag, discontinuity_tag, key_tag, init_section_tag, time_tag, date_range_tag, unknown_tag, Said, nothing, number_said, version_of, playlist_type_of, Outcome}
 use Rattle.playlist_model.specs.LookBack.{the_version, the_target, the_sequence, the_discontinuity_sequence, the_type, is_media, is_discontinuity, is_ended, segments_of, with_said}
 use Rattle.playlist_model.specs.Reading.{has, is_set, name_of, said_by_tag, said_by_kind, said_by, said_from, at_line, limited, Fault}
 use Rattle.playlist_parse.specs.Light.{IsOfWhole, IsLightKind, IsLight, AreLight}
@@ -40,7 +40,7 @@ chosen : {A : Type 0} (b : Bool) (x y : Outcome A) → Lacks x → Lacks y → L
 chosen true x y h g = h
 chosen false x y h g = g
 
-a_number : (rest : List ℕ) → Lacks (number rest)
+a_number : (rest : List ℕ) → Lacks (number_said rest)
 a_number rest = owed fault.BadValue (decimal_of rest) (λ f. cc)
 
 a_version : (rest : List ℕ) → Lacks (version_of rest)
@@ -52,12 +52,12 @@ a_type rest = grind arith
 module _ (base : Parts) where
   light_tag : (before : List Said) (name : Name) (rest : List ℕ) → IsOfWhole name → Lacks (said_by_tag limited base before name rest)
   light_tag before version_tag rest h = refused (is_set the_version before) _ _ (λ f. cc) (after (version_of rest) _ (a_version rest) (λ n. tt))
-  light_tag before target_tag rest h = refused (is_set the_target before) _ _ (λ f. cc) (after (number rest) _ (a_number rest) (λ n. tt))
+  light_tag before target_tag rest h = refused (is_set the_target before) _ _ (λ f. cc) (after (number_said rest) _ (a_number rest) (λ n. tt))
   light_tag before sequence_tag rest h =
-      refused (is_set the_sequence before) _ _ (λ f. cc) (refused (has is_media before) _ _ (λ f. cc) (after (number rest) _ (a_number rest) (λ n. tt)))
+      refused (is_set the_sequence before) _ _ (λ f. cc) (refused (has is_media before) _ _ (λ f. cc) (after (number_said rest) _ (a_number rest) (λ n. tt)))
   light_tag before discontinuity_sequence_tag rest h =
       refused (is_set the_discontinuity_sequence before) _ _ (λ f. cc)
-      (refused (has is_media before || has is_discontinuity before) _ _ (λ f. cc) (after (number rest) _ (a_number rest) (λ n. tt)))
+      (refused (has is_media before || has is_discontinuity before) _ _ (λ f. cc) (after (number_said rest) _ (a_number rest) (λ n. tt)))
   light_tag before type_tag rest h = refused (is_set the_type before) _ _ (λ f. cc) (after (playlist_type_of rest) _ (a_type rest) (λ kind. tt))
   light_tag before ended_tag rest h = refused (has is_ended before) _ _ (λ f. cc) tt
   light_tag before independent_tag rest h = tt
@@ -97,11 +97,11 @@ module _ (before : List Said) where
 
   tag_keeps : (base : Parts) (name : Name) (rest : List ℕ) → IsOfWhole name → Keeps before (said_by_tag limited base before name rest)
   tag_keeps base version_tag rest h = keeps_refused (is_set the_version before) _ _ (keeps_after (version_of rest) _ (λ n. refl))
-  tag_keeps base target_tag rest h = keeps_refused (is_set the_target before) _ _ (keeps_after (number rest) _ (λ n. refl))
-  tag_keeps base sequence_tag rest h = keeps_refused (is_set the_sequence before) _ _ (keeps_refused (has is_media before) _ _ (keeps_after (number rest) _ (λ n. refl)))
+  tag_keeps base target_tag rest h = keeps_refused (is_set the_target before) _ _ (keeps_after (number_said rest) _ (λ n. refl))
+  tag_keeps base sequence_tag rest h = keeps_refused (is_set the_sequence before) _ _ (keeps_refused (has is_media before) _ _ (keeps_after (number_said rest) _ (λ n. refl)))
   tag_keeps base discontinuity_sequence_tag rest h =
       keeps_refused (is_set the_discontinuity_sequence before) _ _
-      (keeps_refused (has is_media before || has is_discontinuity before) _ _ (keeps_after (number rest) _ (λ n. refl)))
+      (keeps_refused (has is_media before || has is_discontinuity before) _ _ (keeps_after (number_said rest) _ (λ n. refl)))
   tag_keeps base type_tag rest h = keeps_refused (is_set the_type before) _ _ (keeps_after (playlist_type_of rest) _ (λ kind. refl))
   tag_keeps base ended_tag rest h = keeps_refused (has is_ended before) _ _ refl
   tag_keeps base independent_tag rest h = refl

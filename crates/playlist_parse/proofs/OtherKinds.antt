@@ -10,7 +10,7 @@ use Rattle.playlist_model.specs.declared.FaultKind.{FaultKind}
 use Rattle.playlist_model.specs.declared.FaultKind.TheVariants as fault
 use Rattle.playlist_model.specs.Lines.{Kind, ignored, uri, tag, kind_of, has_control}
 use Rattle.spec_words.specs.Outcomes.{or_fault, mended, optional, ◌>>=◌, refuse_if}
-use Rattle.playlist_model.specs.Said.{Name, sequence_tag, version_tag, target_tag, discontinuity_sequence_tag, type_tag, ended_tag, independent_tag, frames_tag, master_tag, duration_tag, byte_range_tag, discontinuity_tag, key_tag, init_section_tag, time_tag, date_range_tag, unknown_tag, Said, sequence, discontinuity_sequence, Reader, over, number, version_of, playlist_type_of, byte_range_of, attributes, required, iv_of, quoted_of, uri_of, init_section_byte_range, time_of, length_of, set_key, key_said, init_section_said, date_range_said, Outcome}
+use Rattle.playlist_model.specs.Said.{Name, sequence_tag, version_tag, target_tag, discontinuity_sequence_tag, type_tag, ended_tag, independent_tag, frames_tag, master_tag, duration_tag, byte_range_tag, discontinuity_tag, key_tag, init_section_tag, time_tag, date_range_tag, unknown_tag, Said, sequence, discontinuity_sequence, Reader, over, number_said, version_of, playlist_type_of, byte_range_of, attributes, required, iv_of, quoted_of, uri_of, init_section_byte_range, time_of, length_of, set_key, key_said, init_section_said, date_range_said, Outcome}
 use Rattle.playlist_model.specs.LookBack.{the_version, the_target, the_sequence, the_discontinuity_sequence, the_type, is_media, is_discontinuity, is_ended, count, own_duration, byte_range_at, keys_at, discontinuity_at, media_sequence_at}
 use Rattle.playlist_model.specs.Reading.{has, is_set, passes, needs_iv, name_of, within_formats, with_ivs, said_by_tag, said_by_uri, said_by_kind, said_by}
 
@@ -71,7 +71,7 @@ module _ (reader : Reader) (base : Parts) where
 
   tag_other : (before : List Said) (name : Name) (rest : List ℕ) → has is_media before ≡ true → Other (said_by_tag reader base before name rest)
   tag_other before version_tag rest h = refused (is_set the_version before) _ _ (after (version_of rest) _ (λ n. refl))
-  tag_other before target_tag rest h = refused (is_set the_target before) _ _ (after (number rest) _ (λ n. refl))
+  tag_other before target_tag rest h = refused (is_set the_target before) _ _ (after (number_said rest) _ (λ n. refl))
   tag_other before sequence_tag rest h = refused (is_set the_sequence before) _ _ (always (has is_media before) _ _ h)
   tag_other before discontinuity_sequence_tag rest h =
       refused (is_set the_discontinuity_sequence before) _ _ (always (has is_media before || has is_discontinuity before) _ _ (or_is _ _ h))

@@ -15,10 +15,10 @@ use Rattle.playlist_model.specs.declared.ByteRange.{ByteRange}
 use Rattle.playlist_model.specs.declared.FaultKind.{FaultKind}
 use Rattle.playlist_model.specs.declared.FaultKind.TheVariants as fault
 use Rattle.playlist_model.specs.Lines.{Kind, ignored, uri, tag}
-use Rattle.playlist_model.specs.Said.{Said, Outcome, Name, version_tag, target_tag, sequence_tag, discontinuity_sequence_tag, type_tag, ended_tag, independent_tag, frames_tag, master_tag, duration_tag, byte_range_tag, discontinuity_tag, key_tag, init_section_tag, time_tag, date_range_tag, unknown_tag, version, target, sequence, discontinuity_sequence, playlist_type, ended, duration, byte_range, discontinuity, key, init_section, time, date_range, number, version_of, playlist_type_of, byte_range_of, attributes, required, quoted_of, key_said, init_section_byte_range, init_section_said, time_of, length_of, value_of, uri_of, over, date_range_of, date_range_said}
+use Rattle.playlist_model.specs.Said.{Said, Outcome, Name, version_tag, target_tag, sequence_tag, discontinuity_sequence_tag, type_tag, ended_tag, independent_tag, frames_tag, master_tag, duration_tag, byte_range_tag, discontinuity_tag, key_tag, init_section_tag, time_tag, date_range_tag, unknown_tag, version, target, sequence, discontinuity_sequence, playlist_type, ended, duration, byte_range, discontinuity, key, init_section, time, date_range, number_said, version_of, playlist_type_of, byte_range_of, attributes, required, quoted_of, key_said, init_section_byte_range, init_section_said, time_of, length_of, value_in_pair, uri_of, over, date_range_of, date_range_said}
 use Rattle.playlist_model.specs.LookBack.{the_version, the_target, the_sequence, the_discontinuity_sequence, the_type, is_media, is_discontinuity, is_ended, discontinuity_at, keys_at, date_ranges_of}
 use Rattle.playlist_model.specs.Reading.{limited, is_set, has, passes, needs_iv, within_formats, with_ivs, said_by, said_by_tag, said_by_kind, said_by_uri, said_from, at_line, Fault, name_of}
-use Rattle.playlist_parse.specs.Inner.DateRanges.{IsSaid, AreSaid}
+use Rattle.playlist_parse.specs.Inner.DateRanges.{IsSaidByAttributes, AreSaidByAttributes}
 
 -- ---- what holds of an outcome, if it is one
 
@@ -53,8 +53,8 @@ after_lasts text pairs id start end lasts =
       end = end;
       duration = lasts;
       planned_duration = planned;
-      scte35_out = option_map value_of (attribute pairs (codes "SCTE35-OUT"));
-      scte35_in = option_map value_of (attribute pairs (codes "SCTE35-IN"));
+      scte35_out = option_map value_in_pair (attribute pairs (codes "SCTE35-OUT"));
+      scte35_in = option_map value_in_pair (attribute pairs (codes "SCTE35-IN"));
       attributes = text;
     }))
 
@@ -84,7 +84,7 @@ has_text rest = grind (arith, only_then, range_text)
 
 -- a date range is what its attributes say; of anything else nothing is said
 abbrev IsRight : Said → Type 0
-IsRight (date_range one) = IsSaid one
+IsRight (date_range one) = IsSaidByAttributes one
 IsRight _ = Unit {0}
 
 right_said : (rest : List ℕ) (s : Said) → date_range_said limited rest ≡ Ok s → HasText rest s → IsRight s
@@ -123,12 +123,12 @@ right_section base rest = grind arith
 
 right_tag : (base : Parts) (before : List Said) (name : Name) (rest : List ℕ) → Only IsRight (said_by_tag limited base before name rest)
 right_tag base before version_tag rest = only_if IsRight (is_set the_version before) fault.Repeated (version_of rest >>= λ n. Ok (version n)) (only_then IsRight (version_of rest) (λ n. Ok (version n)) (λ n. tt))
-right_tag base before target_tag rest = only_if IsRight (is_set the_target before) fault.Repeated (number rest >>= λ n. Ok (target n)) (only_then IsRight (number rest) (λ n. Ok (target n)) (λ n. tt))
+right_tag base before target_tag rest = only_if IsRight (is_set the_target before) fault.Repeated (number_said rest >>= λ n. Ok (target n)) (only_then IsRight (number_said rest) (λ n. Ok (target n)) (λ n. tt))
 right_tag base before sequence_tag rest =
-    only_if IsRight (is_set the_sequence before) fault.Repeated (refuse_if (has is_media before) fault.Misplaced (number rest >>= λ n. Ok (sequence n))) (only_if IsRight (has is_media before) fault.Misplaced (number rest >>= λ n. Ok (sequence n)) (only_then IsRight (number rest) (λ n. Ok (sequence n)) (λ n. tt)))
+    only_if IsRight (is_set the_sequence before) fault.Repeated (refuse_if (has is_media before) fault.Misplaced (number_said rest >>= λ n. Ok (sequence n))) (only_if IsRight (has is_media before) fault.Misplaced (number_said rest >>= λ n. Ok (sequence n)) (only_then IsRight (number_said rest) (λ n. Ok (sequence n)) (λ n. tt)))
 right_tag base before discontinuity_sequence_tag rest =
-    only_if IsRight (is_set the_discontinuity_sequence before) fault.Repeated (refuse_if (has is_media before || has is_discontinuity before) fault.Misplaced (number rest >>= λ n. Ok (discontinuity_sequence n)))
-    (only_if IsRight (has is_media before || has is_discontinuity before) fault.Misplaced (number rest >>= λ n. Ok (discontinuity_sequence n)) (only_then IsRight (number rest) (λ n. Ok (discontinuity_sequence n)) (λ n. tt)))
+    only_if IsRight (is_set the_discontinuity_sequence before) fault.Repeated (refuse_if (has is_media before || has is_discontinuity before) fault.Misplaced (number_said rest >>= λ n. Ok (discontinuity_sequence n)))
+    (only_if IsRight (has is_media before || has is_discontinuity before) fault.Misplaced (number_said rest >>= λ n. Ok (discontinuity_sequence n)) (only_then IsRight (number_said rest) (λ n. Ok (discontinuity_sequence n)) (λ n. tt)))
 right_tag base before type_tag rest = only_if IsRight (is_set the_type before) fault.Repeated (playlist_type_of rest >>= λ kind. Ok (playlist_type kind)) (only_then IsRight (playlist_type_of rest) (λ kind. Ok (playlist_type kind)) (λ kind. tt))
 right_tag base before ended_tag rest = only_if IsRight (has is_ended before) fault.Repeated (Ok ended) tt
 right_tag base before independent_tag rest = tt
@@ -159,24 +159,24 @@ right_line base before line = grind (arith, only_if, right_kind)
 
 -- ---- all lines
 
-said_last : (list : List DateRange) (one : DateRange) → AreSaid list → IsSaid one → AreSaid (list ++ one ∷ [])
+said_last : (list : List DateRange) (one : DateRange) → AreSaidByAttributes list → IsSaidByAttributes one → AreSaidByAttributes (list ++ one ∷ [])
 said_last [] one h k = (k, tt)
 said_last (x ∷ later) one h k = (h.0, said_last later one h.1 k)
 
-one_said : (before : List Said) (s : Said) → AreSaid (date_ranges_of before) → IsRight s → AreSaid (date_ranges_of (s ∷ before))
+one_said : (before : List Said) (s : Said) → AreSaidByAttributes (date_ranges_of before) → IsRight s → AreSaidByAttributes (date_ranges_of (s ∷ before))
 one_said before (date_range one) h k = said_last (date_ranges_of before) one h k
 one_said before _ h k = h
 
 same_all : (a b : List Said) → (let r : Result (List Said) Fault = Ok a in r) ≡ Ok b → a ≡ b
 same_all a b e = cc
 
-next_said : (o : Outcome Said) (next : Said → Result (List Said) Fault) (before all : List Said) (n : ℕ) → AreSaid (date_ranges_of before) → Only IsRight o
-    → ((s : Said) → AreSaid (date_ranges_of (s ∷ before)) → next s ≡ Ok all → AreSaid (date_ranges_of all)) → at_line n o next ≡ Ok all → AreSaid (date_ranges_of all)
+next_said : (o : Outcome Said) (next : Said → Result (List Said) Fault) (before all : List Said) (n : ℕ) → AreSaidByAttributes (date_ranges_of before) → Only IsRight o
+    → ((s : Said) → AreSaidByAttributes (date_ranges_of (s ∷ before)) → next s ≡ Ok all → AreSaidByAttributes (date_ranges_of all)) → at_line n o next ≡ Ok all → AreSaidByAttributes (date_ranges_of all)
 next_said (Ok s) next before all n h k more f = more s (one_said before s h k) f
 next_said (Err d) next before all n h k more f = absurd (cc)
 
-pub all_said : (base : Parts) (lines : List (List ℕ)) (before all : List Said) → said_from (said_by limited base) before lines ≡ Ok all → AreSaid (date_ranges_of before) → AreSaid (date_ranges_of all)
-all_said base [] before all e h = subst (λ s. AreSaid (date_ranges_of s)) (same_all before all e) h
+pub all_said : (base : Parts) (lines : List (List ℕ)) (before all : List Said) → said_from (said_by limited base) before lines ≡ Ok all → AreSaidByAttributes (date_ranges_of before) → AreSaidByAttributes (date_ranges_of all)
+all_said base [] before all e h = subst (λ s. AreSaidByAttributes (date_ranges_of s)) (same_all before all e) h
 all_said base (line ∷ later) before all e h =
     next_said (said_by limited base before line) (λ said. said_from (said_by limited base) (said ∷ before) later) before all (length before + 1) h (right_line base before line)
     (λ s k f. all_said base later (s ∷ before) all f k) e

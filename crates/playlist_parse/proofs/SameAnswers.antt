@@ -9,7 +9,7 @@ use Rattle.playlist_model.specs.declared.FaultKind.{FaultKind}
 use Rattle.playlist_model.specs.declared.FaultKind.TheVariants as fault
 use Rattle.playlist_model.specs.Lines.{Kind, ignored, uri, tag, kind_of, has_control}
 use Rattle.spec_words.specs.Outcomes.{◌>>=◌, refuse_if}
-use Rattle.playlist_model.specs.Said.{Name, sequence_tag, version_tag, target_tag, discontinuity_sequence_tag, type_tag, ended_tag, independent_tag, frames_tag, master_tag, duration_tag, byte_range_tag, discontinuity_tag, key_tag, init_section_tag, time_tag, date_range_tag, unknown_tag, Said, version, target, sequence, discontinuity_sequence, playlist_type, ended, discontinuity, no_keys, key, media, Reader, over, number, version_of, playlist_type_of, uri_of, key_said, init_section_said, Outcome}
+use Rattle.playlist_model.specs.Said.{Name, sequence_tag, version_tag, target_tag, discontinuity_sequence_tag, type_tag, ended_tag, independent_tag, frames_tag, master_tag, duration_tag, byte_range_tag, discontinuity_tag, key_tag, init_section_tag, time_tag, date_range_tag, unknown_tag, Said, version, target, sequence, discontinuity_sequence, playlist_type, ended, discontinuity, no_keys, key, media, Reader, over, number_said, version_of, playlist_type_of, uri_of, key_said, init_section_said, Outcome}
 use Rattle.playlist_model.specs.LookBack.{is_media, is_discontinuity, count, byte_range_from, keys_at, put_key}
 use Rattle.playlist_model.specs.Inner.Heading.{Heading, heading_at}
 use Rattle.playlist_model.specs.Reading.{has, passes, needs_iv, name_of, within_formats, with_ivs, said_by_tag, said_by_uri, said_by_kind, said_by}
@@ -51,11 +51,11 @@ module _ (reader : Reader) (base : Parts) (old new : List Said) (alike : Alike o
 
   same_tag : (name : Name) (rest : List ℕ) → said_by_tag reader base old name rest ≡ said_by_tag reader base new name rest
   same_tag version_tag rest = ap (λ (h : Heading). refuse_if (is_some h.version) fault.Repeated (version_of rest >>= λ n. Ok (version n))) heading
-  same_tag target_tag rest = ap (λ (h : Heading). refuse_if (is_some h.target_duration) fault.Repeated (number rest >>= λ n. Ok (target n))) heading
+  same_tag target_tag rest = ap (λ (h : Heading). refuse_if (is_some h.target_duration) fault.Repeated (number_said rest >>= λ n. Ok (target n))) heading
   same_tag sequence_tag rest =
-      ap (λ (h : Heading). refuse_if h.has_sequence fault.Repeated (refuse_if h.has_media fault.Misplaced (number rest >>= λ n. Ok (sequence n)))) heading
+      ap (λ (h : Heading). refuse_if h.has_sequence fault.Repeated (refuse_if h.has_media fault.Misplaced (number_said rest >>= λ n. Ok (sequence n)))) heading
   same_tag discontinuity_sequence_tag rest =
-      refused_alike _ _ _ _ fault.Repeated fault.Misplaced (number rest >>= λ n. Ok (discontinuity_sequence n)) (ap (λ (h : Heading). h.has_discontinuity_sequence) heading)
+      refused_alike _ _ _ _ fault.Repeated fault.Misplaced (number_said rest >>= λ n. Ok (discontinuity_sequence n)) (ap (λ (h : Heading). h.has_discontinuity_sequence) heading)
       (or_is (has is_media old) (has is_discontinuity old) alike.media ∙ sym (or_is (has is_media new) (has is_discontinuity new) media_new))
   same_tag type_tag rest = ap (λ (h : Heading). refuse_if (is_some h.playlist_type) fault.Repeated (playlist_type_of rest >>= λ kind. Ok (playlist_type kind))) heading
   same_tag ended_tag rest = ap (λ (h : Heading). refuse_if h.end_list fault.Repeated (Ok ended)) heading

@@ -7,7 +7,7 @@ use Rattle.playlist_model.specs.declared.FaultKind.{FaultKind}
 use Rattle.playlist_model.specs.declared.FaultKind.TheVariants as fault
 use Rattle.playlist_model.specs.Lines.{tag}
 use Rattle.playlist_model.specs.Said.{Said, Name, unknown_tag, Outcome}
-use Rattle.playlist_model.specs.Reading.{names, name_found, name_of, said_by_kind, said_by_tag, limited}
+use Rattle.playlist_model.specs.Reading.{tag_names, name_found, name_of, said_by_kind, said_by_tag, limited}
 use Rattle.playlist_parse.specs.declared.tag.Tag.{Tag}
 use Rattle.playlist_parse.specs.declared.tag.Tag.TheVariants.{Unknown}
 use Rattle.playlist_parse.specs.Inner.LineViews.{tag_view}
@@ -26,8 +26,8 @@ no_row : (text : List ℕ) (rows : List (List ℕ × Bool × Name)) → NoneIs t
 no_row text [] n = refl
 no_row text (row ∷ rows) n = let other = differs text row.0 (bytes_eq text row.0) refl n.0 in rw other (no_row text rows n.1)
 
-pub unnamed : (text : List ℕ) (colon : Bool) → NoneIs text names → unknown_tag ≡ name_of text colon
-unnamed text colon n = sym (ap (name_found colon) (no_row text names n))
+pub unnamed : (text : List ℕ) (colon : Bool) → NoneIs text tag_names → unknown_tag ≡ name_of text colon
+unnamed text colon n = sym (ap (name_found colon) (no_row text tag_names n))
 
 -- a flag with a colon is unknown
 pub flagged : (found : Tag) (colon : Bool) → tag_view (if colon then Unknown else found) ≡ name_found colon (Some ([], true, tag_view found))

@@ -1,16 +1,16 @@
 //! Date ranges (RFC 8216, section 4.3.2.7).
 ghost use Rattle.std.specs.Prelude.{◌≡◌, IfOk, option_map};
 ghost use Rattle.attr_list.specs.Attributes.{attribute};
-ghost use Rattle.playlist_model.specs.Refusals.{Gives};
+ghost use Rattle.playlist_model.specs.Refusals.{GivesOrPlaylistFault};
 ghost use Rattle.spec_words.specs.Outcomes.{optional};
-ghost use Rattle.playlist_model.specs.Said.{time_of, length_of, value_of, date_range_said, date_range};
+ghost use Rattle.playlist_model.specs.Said.{time_of, length_of, value_in_pair, date_range_said, date_range};
 ghost use Rattle.playlist_model.specs.Reading.{limited};
 ghost use Rattle.segment_state.specs.Attributes.{pairs_of};
 
 use attr_list::AttrList;
 use fixed_duration::Nanos;
 use playlist_model::{DateRange, FaultKind, Instant, Shared, Text, read_instant};
-use segment_state::attributes::{attributes_of, required};
+use segment_state::attributes::{attributes_of, required_value};
 use std::alloc::{AllocError, Global};
 
 /// The date range that `rest` states, which comes after `#EXT-X-DATERANGE:` (RFC 8216, section 4.3.2.7). The faults,
@@ -18,17 +18,17 @@ use std::alloc::{AllocError, Global};
 /// without quotes, `BadTime` for START-DATE and END-DATE, `BadDuration` for DURATION and PLANNED-DURATION;
 /// `OutOfMemory` only if an allocation fails.
 pub fn date_range_of(alloc: Global, rest: &str) -> Result<DateRange, FaultKind>
-    ensures { Gives date_range result (date_range_said limited rest.now) }
+    ensures { GivesOrPlaylistFault date_range result (date_range_said limited rest.now) }
 {
     let attributes = attributes_of(alloc, rest)?;
-    let id = required(&attributes, "ID", true)?;
+    let id = required_value(&attributes, "ID", true)?;
     let start = instant_of(&attributes, "START-DATE")?;
     let end = instant_of(&attributes, "END-DATE")?;
     let duration = duration_of(&attributes, "DURATION")?;
     let planned = duration_of(&attributes, "PLANNED-DURATION")?;
     let id = Shared::copy_of(alloc, id)?;
-    let out = copied(alloc, &attributes, "SCTE35-OUT")?;
-    let back = copied(alloc, &attributes, "SCTE35-IN")?;
+    let out = copy_value(alloc, &attributes, "SCTE35-OUT")?;
+    let back = copy_value(alloc, &attributes, "SCTE35-IN")?;
     let text = Text::copy_of(alloc, rest)?;
     Ok(DateRange {
         id,
@@ -67,9 +67,13 @@ fn duration_of(attributes: &AttrList<'_>, name: &str) -> Result<Option<Nanos>, F
 }
 
 // The value of an attribute.
-fn copied(alloc: Global, attributes: &AttrList<'_>, name: &str) -> Result<Option<Text>, AllocError>
+fn copy_value(
+    alloc: Global,
+    attributes: &AttrList<'_>,
+    name: &str,
+) -> Result<Option<Text>, AllocError>
     ensures { IfOk result
-        (λ text. text ≡ option_map value_of (attribute (pairs_of attributes.now) name.now)) }
+        (λ text. text ≡ option_map value_in_pair (attribute (pairs_of attributes.now) name.now)) }
 {
     let Some(attribute) = attributes.get(name) else {
         return Ok(None);

@@ -1,9 +1,9 @@
 //! The date ranges of a text, as far as it is read. One that stands word for word in the last text too isn't read again.
 ghost use Rattle.std.specs.Prelude.{◌≡◌, ◌++◌, ◌∷◌, [], true, false, length, take, List, MatchResult, IfOk, OnOk};
 ghost use Rattle.playlist_model.specs.Reading.{limited};
-ghost use Rattle.playlist_model.specs.Refusals.{Refuses};
+ghost use Rattle.playlist_model.specs.Refusals.{RefusesByPlaylistFault};
 ghost use Rattle.playlist_model.specs.Said.{date_range_said};
-ghost use Rattle.playlist_parse.specs.Inner.DateRanges.{Adds, AreSaid, StandsAt};
+ghost use Rattle.playlist_parse.specs.Inner.DateRanges.{Adds, AreSaidByAttributes, HasAttributesAt};
 
 use crate::date_range::date_range_of;
 use crate::source::up_to;
@@ -23,19 +23,19 @@ pub struct Known<'a> {
 impl<'a> Model for Known<'a> {
     ghost use Rattle.std.specs.Prelude.{List};
     ghost use Rattle.playlist_model.specs.declared.DateRange.{DateRange};
-    ghost use Rattle.playlist_parse.specs.Inner.DateRanges.{AreSaid};
+    ghost use Rattle.playlist_parse.specs.Inner.DateRanges.{AreSaidByAttributes};
 
     ghost Value = { List DateRange };
 
     ghost view = { λ a. a.list.now };
 
-    ghost invariant = { λ a. AreSaid a.list.now };
+    ghost invariant = { λ a. AreSaidByAttributes a.list.now };
 }
 
 impl<'a> Known<'a> {
     /// The date ranges of `list`.
     pub fn of(list: &'a [Shared<DateRange>]) -> Known<'a>
-        requires { AreSaid list.now }
+        requires { AreSaidByAttributes list.now }
     {
         Known { list }
     }
@@ -63,7 +63,7 @@ fn share_date_ranges(
 
 // Whether the date range at a place has these attributes, word for word.
 fn stands_at(known: &[Shared<DateRange>], place: usize, rest: &str) -> bool
-    ensures { result ≡ true → StandsAt known.now place rest.now }
+    ensures { result ≡ true → HasAttributesAt known.now place rest.now }
 {
     match known.get(place) {
         Some(one) => one.attributes.as_str() == rest,
@@ -74,8 +74,8 @@ fn stands_at(known: &[Shared<DateRange>], place: usize, rest: &str) -> bool
 #[tactic(auto, using(crate::proofs::DateRanges::said_later))]
 // The known date ranges from the first of the next few that has these attributes, or all of them.
 fn from_next<'a>(known: &'a [Shared<DateRange>], rest: &str) -> &'a [Shared<DateRange>]
-    requires { AreSaid known.now }
-    ensures { AreSaid result.now }
+    requires { AreSaidByAttributes known.now }
+    ensures { AreSaidByAttributes result.now }
 {
     let mut left = known;
     for _ in 0..FEW {
@@ -92,8 +92,8 @@ fn from_next<'a>(known: &'a [Shared<DateRange>], rest: &str) -> &'a [Shared<Date
 
 // The known date ranges, so many of which are met: before one is, some that don't stand again may be passed over.
 fn to_meet<'a>(known: &'a [Shared<DateRange>], met: usize, rest: &str) -> &'a [Shared<DateRange>]
-    requires { AreSaid known.now }
-    ensures said { AreSaid result.now }
+    requires { AreSaidByAttributes known.now }
+    ensures said { AreSaidByAttributes result.now }
     ensures met { take met result.now ≡ take met known.now }
 {
     if met > 0 {
@@ -118,11 +118,11 @@ impl<'a> Model for DateRanges<'a> {
 
     ghost Value = { List DateRange };
 
-    ghost use Rattle.playlist_parse.specs.Inner.DateRanges.{AreSaid};
+    ghost use Rattle.playlist_parse.specs.Inner.DateRanges.{AreSaidByAttributes};
 
     ghost view = { λ a. take a.met a.known.now ++ a.list.items };
 
-    ghost invariant = { λ a. AreSaid a.known.now };
+    ghost invariant = { λ a. AreSaidByAttributes a.known.now };
 }
 
 impl<'a> DateRanges<'a> {
@@ -166,7 +166,7 @@ impl<'a> DateRanges<'a> {
     /// faults are those of `date_range_of`.
     pub fn push(&mut self, alloc: Global, rest: &str) -> Result<(), FaultKind>
         ensures { MatchResult result (λ _. Adds rest.now self.old self.new)
-            (λ e. Refuses e (date_range_said limited rest.now)) }
+            (λ e. RefusesByPlaylistFault e (date_range_said limited rest.now)) }
     {
         if self.meets(rest) {
             return Ok(());

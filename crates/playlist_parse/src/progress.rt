@@ -5,11 +5,11 @@ ghost use Rattle.playlist_model.specs.Reading.{said_by, name_of, said_by_kind, s
 ghost use Rattle.playlist_model.specs.Lines as kinds;
 ghost use Rattle.playlist_model.specs.Lines.{has_control};
 ghost use Rattle.playlist_model.specs.Said as said;
-ghost use Rattle.playlist_model.specs.Said.{number, version_of, playlist_type_of};
+ghost use Rattle.playlist_model.specs.Said.{number_said, version_of, playlist_type_of};
 ghost use Rattle.playlist_model.specs.Reading.{limited};
 ghost use Rattle.segment_state.specs.Continued.{IsStop};
 ghost use Rattle.playlist_parse.specs.Light.{IsOfWhole, IsLight};
-ghost use Rattle.playlist_parse.specs.Inner.Progress.{progress_at, playlist_from, target_owed, IsLineAgain, TakesLine, TakesLineExactly, TakesTag, TakesTagExactly, Ends};
+ghost use Rattle.playlist_parse.specs.Inner.Progress.{progress_at, playlist_from, target_owed, IsLineAgain, TakesLine, TakesLineExactly, TakesTag, TakesTagExactly, EndsIn};
 ghost use Rattle.playlist_parse.specs.Inner.HeadingView.{heading_view};
 ghost use Rattle.playlist_parse.specs.Inner.Source.{gone_to};
 ghost use Rattle.playlist_kept.specs.Kept.{playlist_in};
@@ -51,7 +51,7 @@ impl<'a> Model for Progress<'a> {
 }
 
 // The values of the one after those of the other, which stay where they are if nothing is before them.
-fn joined(front: Vec<Segment>, back: Vec<Segment>) -> Result<Vec<Segment>, AllocError>
+fn join_lists(front: Vec<Segment>, back: Vec<Segment>) -> Result<Vec<Segment>, AllocError>
     ensures { IfOk result (λ all. all.items ≡ front.items ++ back.items) }
 {
     if front.is_empty() {
@@ -301,7 +301,7 @@ impl<'a> Progress<'a> {
         if self.heading.target_duration.is_some() {
             return Err(FaultKind::Repeated);
         }
-        self.heading.target_duration = Some(number(rest)?);
+        self.heading.target_duration = Some(number_said(rest)?);
         Ok(())
     }
 
@@ -315,7 +315,7 @@ impl<'a> Progress<'a> {
         if self.heading.has_media {
             return Err(FaultKind::Misplaced);
         }
-        self.state.sequence(number(rest)?);
+        self.state.sequence(number_said(rest)?);
         self.heading.has_sequence = true;
         Ok(())
     }
@@ -330,7 +330,7 @@ impl<'a> Progress<'a> {
         if self.heading.has_media || self.state.has_discontinuity() {
             return Err(FaultKind::Misplaced);
         }
-        self.state.discontinuity_sequence(number(rest)?);
+        self.state.discontinuity_sequence(number_said(rest)?);
         self.heading.has_discontinuity_sequence = true;
         Ok(())
     }
@@ -380,7 +380,7 @@ impl<'a> Progress<'a> {
         ensures front { IfOk result (λ read. read.front ≤ length read.playlist.segments) }
     {
         let front = self.front.len();
-        let segments = joined(self.front, self.back)?;
+        let segments = join_lists(self.front, self.back)?;
         Ok(Read {
             playlist: Playlist {
                 version: self.heading.version.unwrap_or(1),
@@ -496,7 +496,7 @@ impl<'a> Progress<'a> {
 
     /// The playlist, if the text as a whole has no fault: `NoTarget`, `NoSegments`, `MixedMaps`.
     pub fn read(self) -> Result<Read<'a>, FaultKind>
-        ensures ends { Ends self.entry result }
+        ensures ends { EndsIn self.entry result }
         ensures front { IfOk result (λ read. read.front ≤ length read.playlist.segments) }
     {
         match self.target_of_whole() {
@@ -515,8 +515,8 @@ fn has_control_in(line: &str, is_plain: bool) -> bool
     !is_plain && has_control(line)
 }
 
-fn number(rest: &str) -> Result<u64, FaultKind>
-    ensures { result ≡ number rest.now }
+fn number_said(rest: &str) -> Result<u64, FaultKind>
+    ensures { result ≡ number_said rest.now }
 {
     read_decimal(rest).map_err(|_| FaultKind::BadValue)
 }

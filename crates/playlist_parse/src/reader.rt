@@ -8,16 +8,16 @@ ghost use Rattle.playlist_model.specs.Said.{nothing};
 ghost use Rattle.playlist_model.specs.Reading.{reading, limited, said_by, said_from, and_whole, Fault};
 ghost use Rattle.playlist_parse.specs.Inner.LineViews.{is_free};
 ghost use Rattle.playlist_parse.specs.Light.{AreLight};
-ghost use Rattle.playlist_parse.specs.Inner.Reached.{Reached, Telling, Reads, Tells, left_in};
+ghost use Rattle.playlist_parse.specs.Inner.Reached.{Reached, Telling, Reads, TellsFault, left_in};
 ghost use Rattle.playlist_parse.specs.Answers.{HasNoHeader};
 ghost use Rattle.playlist_parse.specs.Inner.Source.{Grown};
 ghost use Rattle.playlist_kept.specs.Places.{StandInBoth};
-ghost use Rattle.playlist_kept.specs.Kept.{AnswersRead, AreKeptLines, IsKept, IsTakenFrom, kept_segments, playlist_in};
+ghost use Rattle.playlist_kept.specs.Kept.{AnswersRead, AreKeptLines, IsKeptUnderBase, IsTakenFrom, kept_segments, playlist_in};
 
 use crate::line::{Lines, cut_after_segments, has_plain_bytes};
 use crate::reading::{Reading, fault_at, read_all, read_some, reading_of, whole_reading};
 use crate::source::{known_of, lines_of, take_over};
-use playlist_kept::{Places, Read, Source, placed};
+use playlist_kept::{LastPlaylist, Places, Read, read_with_places};
 use playlist_model::{FaultKind, MAX_BYTES, PlaylistFault, text_of};
 use std::alloc::Global;
 use uri_resolver::Base;
@@ -29,15 +29,15 @@ fn read_front<'a>(
     reading: &mut Reading<'a>,
     is_plain: bool,
     base: &Base,
-    source: &'a Option<Source>,
+    source: &'a Option<LastPlaylist>,
 ) -> Result<Places, PlaylistFault>
     requires few { length (left_in reading.old) < 2 ^ 63 }
     requires plain { is_plain ≡ true → list_all is_free (left_in reading.old) ≡ true }
     requires begun { (all : List (List ℕ))
         → Reached base.now reading.old.progress reading.old.number all all }
-    requires kept { IsKept base.now source.now }
+    requires kept { IsKeptUnderBase base.now source.now }
     ensures reached { Reads base.now reading.old result reading.new }
-    ensures light { Tells base.now reading.old result reading.new }
+    ensures light { TellsFault base.now reading.old result reading.new }
     ensures none_left { OnOk result (reading.new.lines ≡ []) }
     ensures taken { IfOk result
         (StandInBoth (kept_segments source.now) reading.new.progress.segments) }
@@ -91,17 +91,17 @@ fn read_tail<'a>(
 #[tactic(none)]
 // Reads the lines after the header. `is_plain` says that none of them has a control character, and `keeps` that they
 // are kept for the next text.
-fn read_body<'a>(
+fn read_lines<'a>(
     alloc: Global,
     body: &'a str,
     is_plain: bool,
     base: &'a Base,
-    source: &'a Option<Source>,
+    source: &'a Option<LastPlaylist>,
     keeps: bool,
 ) -> Result<Read<'a>, PlaylistFault>
     requires few { length (lines body.now) < 2 ^ 63 }
     requires plain { is_plain ≡ true → list_all is_free (lines body.now) ≡ true }
-    requires kept { IsKept base.now source.now }
+    requires kept { IsKeptUnderBase base.now source.now }
     ensures answer { AnswersRead result (and_whole (said_from (said_by limited base.now) (nothing
         ∷ []) (lines body.entry.now))) }
     ensures light { (front later : List (List ℕ)) (e : Fault)
@@ -126,7 +126,7 @@ fn read_body<'a>(
         Ok(read) => read,
         Err(fault) => return Err(fault),
     };
-    match placed(alloc, read, places, lines) {
+    match read_with_places(alloc, read, places, lines) {
         Ok(read) => Ok(read),
         Err(_) => Err(fault_at(FaultKind::OutOfMemory, 0)),
     }
@@ -148,10 +148,10 @@ pub fn read<'a>(
     alloc: Global,
     bytes: &'a [u8],
     base: &'a Base,
-    source: &'a Option<Source>,
+    source: &'a Option<LastPlaylist>,
     keeps: bool,
 ) -> Result<Read<'a>, PlaylistFault>
-    requires { IsKept base.now source.now }
+    requires { IsKeptUnderBase base.now source.now }
     ensures answer { AnswersRead result (reading limited base.now bytes.now) }
 
     // These faults are answered whatever memory there is.
@@ -187,5 +187,5 @@ pub fn read<'a>(
         return Err(fault_at(FaultKind::NoHeader, 1));
     }
     let is_plain = has_plain_bytes(bytes);
-    read_body(alloc, lines.left(), is_plain, base, source, keeps)
+    read_lines(alloc, lines.left(), is_plain, base, source, keeps)
 }

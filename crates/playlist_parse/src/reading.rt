@@ -6,9 +6,9 @@ ghost use Rattle.playlist_model.specs.Said.{nothing};
 ghost use Rattle.playlist_model.specs.Reading.{said_by, said_from, and_whole, limited};
 ghost use Rattle.playlist_parse.specs.Inner.LineViews.{is_free, line_text};
 ghost use Rattle.playlist_parse.specs.Inner.Answers.{fault_at};
-ghost use Rattle.playlist_parse.specs.Inner.Progress.{Ends};
+ghost use Rattle.playlist_parse.specs.Inner.Progress.{EndsIn};
 ghost use Rattle.playlist_kept.specs.Kept.{AnswersRead};
-ghost use Rattle.playlist_parse.specs.Inner.Reached.{Reached, IsToBeTold, LeadsTo, IsStillTold, Reads, Tells, ReadsLine, TellsLine, left_in, reading_at};
+ghost use Rattle.playlist_parse.specs.Inner.Reached.{Reached, IsToBeTold, LeadsTo, IsStillTold, Reads, TellsFault, ReadsLine, TellsLine, left_in, reading_at};
 
 use crate::date_ranges::Known;
 use crate::line::Lines;
@@ -126,7 +126,7 @@ pub fn read_some<'a>(
     requires few { reading.old.number + length reading.old.lines < 2 ^ 64 }
     requires plain { is_plain ≡ true → list_all is_free (left_in reading.old) ≡ true }
     ensures reached { (base : Parts) → Reads base reading.old result reading.new }
-    ensures light { (base : Parts) → Tells base reading.old result reading.new }
+    ensures light { (base : Parts) → TellsFault base reading.old result reading.new }
     ensures plain { OnOk result (is_plain ≡ true → list_all is_free (left_in reading.new) ≡ true) }
     ensures none_left { OnOk result
         (length reading.new.progress.segments < most → reading.new.lines ≡ []) }
@@ -156,7 +156,7 @@ pub fn read_all<'a>(reading: &mut Reading<'a>, is_plain: bool) -> Result<(), Pla
     requires few { reading.old.number + length reading.old.lines < 2 ^ 64 }
     requires plain { is_plain ≡ true → list_all is_free (left_in reading.old) ≡ true }
     ensures reached { (base : Parts) → Reads base reading.old result reading.new }
-    ensures light { (base : Parts) → Tells base reading.old result reading.new }
+    ensures light { (base : Parts) → TellsFault base reading.old result reading.new }
     ensures none_left { OnOk result (reading.new.lines ≡ []) }
 {
     // (copies of their own, which the compiler keeps in registers)
@@ -186,7 +186,7 @@ pub fn whole_reading(reading: Reading<'_>) -> Result<Read<'_>, PlaylistFault>
     ensures answer { (base : Parts) (all : List (List ℕ))
         → Reached base reading.entry.progress reading.entry.number [] all
         → AnswersRead result (and_whole (said_from (said_by limited base) (nothing ∷ []) all)) }
-    ensures whole { IfOk result (λ read. Ends reading.entry.progress (Ok read)) }
+    ensures whole { IfOk result (λ read. EndsIn reading.entry.progress (Ok read)) }
     ensures front { IfOk result (λ read. read.front ≤ length read.playlist.segments) }
 {
     match reading.progress.read() {

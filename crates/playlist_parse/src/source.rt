@@ -4,23 +4,23 @@ ghost use Rattle.std.specs.List.{list_all};
 ghost use Rattle.std.specs.Str.Lines.{lines};
 ghost use Rattle.playlist_parse.specs.Inner.LineViews.{is_free};
 ghost use Rattle.playlist_parse.specs.Inner.Reached.{Reached, LeadsTo, left_in};
-ghost use Rattle.playlist_kept.specs.KeptLines.{WasRead};
-ghost use Rattle.playlist_parse.specs.Inner.Source.{Agree, TakesOver, AreLinesOf, gone_after};
+ghost use Rattle.playlist_kept.specs.KeptLines.{LinesWereRead};
+ghost use Rattle.playlist_parse.specs.Inner.Source.{GoOnAlike, TakesOver, AreLinesOf, gone_after};
 ghost use Rattle.playlist_kept.specs.Places.{StandInBoth};
-ghost use Rattle.playlist_kept.specs.Kept.{IsKept, kept_segments};
+ghost use Rattle.playlist_kept.specs.Kept.{IsKeptUnderBase, kept_segments};
 
 use crate::date_ranges::Known;
 use crate::line::Lines;
 use crate::progress::Progress;
 use crate::reading::{Reading, read_some, reading_of};
-use playlist_kept::{KeptLines, Places, Source};
+use playlist_kept::{KeptLines, LastPlaylist, Places};
 use playlist_model::Text;
 use std::alloc::{AllocError, Global};
 use uri_resolver::Base;
 
 #[tactic(auto, using(crate::proofs::GoingTo::dropped_all))]
 // The values from a place on.
-fn from_place<T>(list: &[T], place: usize) -> &[T]
+fn values_from<T>(list: &[T], place: usize) -> &[T]
     ensures { result.now ≡ drop place list.now }
 {
     match list.get(place..) {
@@ -41,15 +41,15 @@ pub(crate) fn up_to<T>(list: &[T], place: usize) -> &[T]
 }
 
 // The date ranges that a source has.
-fn known_in<'a>(base: &Base, source: &'a Source) -> Known<'a>
-    requires { WasRead base.now source.now.lines source.now.segments.items source.now.date_ranges }
+fn known_in<'a>(base: &Base, source: &'a LastPlaylist) -> Known<'a>
+    requires { LinesWereRead base.now source.now.lines source.now.segments.items source.now.date_ranges }
 {
     Known::of(up_to(source.date_ranges.as_slice(), source.lines.date_ranges))
 }
 
 /// The date ranges that are kept in `source` of what was read under `base`.
-pub fn known_of<'a>(base: &Base, source: &'a Option<Source>) -> Known<'a>
-    requires { IsKept base.now source.now }
+pub fn known_of<'a>(base: &Base, source: &'a Option<LastPlaylist>) -> Known<'a>
+    requires { IsKeptUnderBase base.now source.now }
 {
     match source {
         Some(source) => known_in(base, source),
@@ -63,7 +63,7 @@ const SMALL_PART: usize = 8;
 
 // How many segments of the last playlist stand up to the first one that is read here, by its number; none if little is left to
 // read. It has no contract: `agrees` decides, whatever it answers.
-fn place_in(source: &Source, reading: &Reading<'_>) -> Option<usize> {
+fn place_in(source: &LastPlaylist, reading: &Reading<'_>) -> Option<usize> {
     let (here, left) = reading.lines.stand();
     let kept = source.lines.text.as_str().len().saturating_sub(here);
     if left.len() < kept / SMALL_PART {
@@ -84,13 +84,13 @@ fn number_after(here: u64, there: u64, end: u64) -> Option<u64>
 }
 
 // The lines of a source, read up to the segment that `reading` read first; none if the source doesn't have it.
-fn front_of<'a>(
+fn read_source_front<'a>(
     alloc: Global,
     reading: &Reading<'_>,
     base: &'a Base,
-    source: &'a Source,
+    source: &'a LastPlaylist,
 ) -> Option<Reading<'a>>
-    requires { WasRead base.now source.now.lines source.now.segments.items source.now.date_ranges }
+    requires { LinesWereRead base.now source.now.lines source.now.segments.items source.now.date_ranges }
     ensures { MatchOption result (Unit {0}) (λ front.
         Reached base.now front.progress front.number (left_in front) (lines source.now.lines.text)) }
 {
@@ -107,7 +107,7 @@ fn front_of<'a>(
 // segments.
 #[tactic(none)]
 fn agrees(here: &Progress<'_>, there: &Progress<'_>) -> Result<bool, AllocError>
-    ensures { IfOk result (λ agrees. agrees ≡ true → Agree here.now there.now) }
+    ensures { IfOk result (λ agrees. agrees ≡ true → GoOnAlike here.now there.now) }
 {
     if !here.has_no_more_than(there) {
         return Ok(false);
@@ -130,7 +130,7 @@ fn agrees(here: &Progress<'_>, there: &Progress<'_>) -> Result<bool, AllocError>
 fn go_after<'a>(
     here: &mut Progress<'a>,
     there: &Progress<'_>,
-    source: &'a Source,
+    source: &'a LastPlaylist,
     from: usize,
 ) -> Result<bool, AllocError>
     requires { from ≡ length there.now.segments }
@@ -140,8 +140,8 @@ fn go_after<'a>(
 {
     let date_ranges = up_to(source.date_ranges.as_slice(), source.lines.date_ranges);
     let segments = up_to(source.segments.as_slice(), source.lines.segments);
-    let new_ranges = from_place(date_ranges, there.date_range_count());
-    let new_segments = from_place(segments, from);
+    let new_ranges = values_from(date_ranges, there.date_range_count());
+    let new_segments = values_from(segments, from);
     here.go_to(
         &source.lines.heading,
         &source.lines.stop,
@@ -156,7 +156,7 @@ fn go_after<'a>(
 fn take_over_after<'a>(
     reading: &mut Reading<'a>,
     front: &Reading<'_>,
-    source: &'a Source,
+    source: &'a LastPlaylist,
 ) -> Result<Places, AllocError>
     ensures reached { OnOk result
         (TakesOver front.now source.now reading.old reading.new) }
@@ -203,9 +203,9 @@ pub fn take_over<'a>(
     alloc: Global,
     reading: &mut Reading<'a>,
     base: &Base,
-    source: &'a Option<Source>,
+    source: &'a Option<LastPlaylist>,
 ) -> Result<Places, AllocError>
-    requires { IsKept base.now source.now }
+    requires { IsKeptUnderBase base.now source.now }
     ensures reached { OnOk result (LeadsTo base.now reading.old reading.new) }
     ensures plain { OnOk result (list_all is_free (left_in reading.old) ≡ true
         → list_all is_free (left_in reading.new) ≡ true) }
@@ -215,7 +215,7 @@ pub fn take_over<'a>(
     let Some(source) = source else {
         return Ok(Places::none());
     };
-    match front_of(alloc, reading, base, source) {
+    match read_source_front(alloc, reading, base, source) {
         Some(front) => take_over_after(reading, &front, source),
         None => Ok(Places::none()),
     }

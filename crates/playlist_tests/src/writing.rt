@@ -52,7 +52,7 @@ fn init_section(alloc: Global) -> Result<Shared<InitSection>, AllocError> {
 }
 
 // A part of a file, encrypted, with a section under another key.
-fn encrypted(alloc: Global) -> Result<Segment, AllocError> {
+fn encrypted_segment(alloc: Global) -> Result<Segment, AllocError> {
     let mut segment = segment(alloc, Nanos(9_500_000_000), "one")?;
     segment.init_section = Some(init_section(alloc)?);
     segment.keys = keys(alloc, "http://origin.example/ch/kb", 2)?;
@@ -67,7 +67,7 @@ fn encrypted(alloc: Global) -> Result<Segment, AllocError> {
 fn segments(alloc: Global, count: usize) -> Result<Shared<Items<Segment>>, AllocError> {
     let mut segments = Vec::new(alloc);
     for _ in 0..count {
-        segments.push(encrypted(alloc)?)?;
+        segments.push(encrypted_segment(alloc)?)?;
     }
     Shared::new(alloc, Items::from_vec(segments))
 }

@@ -14,7 +14,7 @@ use Rattle.spec_words.specs.Outcomes.{mended, or_fault, optional, some_value, �
 use Rattle.playlist_model.specs.Said.{required, value_if, time_of, length_of, Said, Reader, date_range, Outcome, date_range_of, date_range_said}
 use Rattle.playlist_model.specs.Reading.{limited, unlimited}
 use Rattle.writable.specs.Fitting.{if_some, says_date_range, date_range_fits}
-use Rattle.playlist_write.specs.Inner.DateRangeParts.{is_id, says_time, says_duration, is_date_range}
+use Rattle.playlist_write.specs.Inner.DateRangeParts.{is_quoted_id, says_time, says_duration, is_date_range}
 
 -- a reader of at most 64 attributes
 abbrev pub few : Reader
@@ -80,7 +80,7 @@ quoted_is : (quoted : Bool) (value : List ℕ) → is_ok (value_if true quoted v
 quoted_is true value = refl
 quoted_is false value = refl
 
-id_is : (o : Option Pair) → is_ok (required true o) ≡ is_id o
+id_is : (o : Option Pair) → is_ok (required true o) ≡ is_quoted_id o
 id_is None = refl
 id_is (Some pair) = quoted_is pair.quoted pair.value
 
@@ -104,7 +104,7 @@ pairs_are : (text : List ℕ) (pairs : List Pair) → says_date_range (date_rang
 pairs_are text pairs =
     let a = attribute pairs (codes "ID") in let b = attribute pairs (codes "START-DATE") in let c = attribute pairs (codes "END-DATE") in
     let d = attribute pairs (codes "DURATION") in let e = attribute pairs (codes "PLANNED-DURATION") in
-    binds {A = List ℕ} (required true a) _ (is_id a) _ (id_is a) (λ id.
+    binds {A = List ℕ} (required true a) _ (is_quoted_id a) _ (id_is a) (λ id.
     binds {A = Option ℤ} (optional time_of b) _ (if_some says_time b) _ (time_is b) (λ start.
     binds {A = Option ℤ} (optional time_of c) _ (if_some says_time c) _ (time_is c) (λ end.
     binds {A = Option ℕ} (optional length_of d) _ (if_some says_duration d) _ (duration_is d) (λ duration.

@@ -30,7 +30,7 @@ use Rattle.playlist_model.specs.Inner.Lines.{is_printable}
 use Rattle.playlist_model.specs.Uri.{has_scheme, is_scheme_byte}
 use Rattle.date_times.specs.Instant.{in_range, instant_of}
 use Rattle.spec_words.specs.Outcomes.{◌>>=◌, refuse_if, or_fault, some_value, optional}
-use Rattle.playlist_model.specs.Said.{Said, version, target, sequence, discontinuity_sequence, playlist_type, ended, independent, duration, byte_range, discontinuity, no_keys, key, init_section, time, date_range, media, Outcome, duration_said, byte_range_of, byte_range_end_fits, uri_of, iv_of, required, quoted_of, set_key, key_said, init_section_said, init_section_byte_range, number, version_of, date_range_said}
+use Rattle.playlist_model.specs.Said.{Said, version, target, sequence, discontinuity_sequence, playlist_type, ended, independent, duration, byte_range, discontinuity, no_keys, key, init_section, time, date_range, media, Outcome, duration_said, byte_range_of, byte_range_end_fits, uri_of, iv_of, required, quoted_of, set_key, key_said, init_section_said, init_section_byte_range, number_said, version_of, date_range_said}
 use Rattle.playlist_model.specs.Carried.{after_commas, carried}
 use Rattle.playlist_model.specs.Reading.{said_by, unlimited, passes, said_by_kind, within_formats, needs_iv, with_ivs, is_set, has}
 use Rattle.playlist_model.specs.LookBack.{discontinuity_at, own_duration, media_sequence_at, byte_range_at, keys_at, the_version, the_target, the_sequence, the_discontinuity_sequence, the_type, is_media, is_discontinuity, is_ended}
@@ -312,7 +312,7 @@ module _ (base : Parts) (before : List Said) where
   clean_decimal : (n : ℕ) → n < 2 ^ 64 → Clean (decimal n)
   clean_decimal n h = clean_number _ (decimal_bytes n h)
 
-  number_reads : (n : ℕ) (f : ℕ → Said) → n < 2 ^ 64 → (number (decimal n) >>= λ m. Ok (f m)) ≡ Ok (f n)
+  number_reads : (n : ℕ) (f : ℕ → Said) → n < 2 ^ 64 → (number_said (decimal n) >>= λ m. Ok (f m)) ≡ Ok (f n)
   number_reads n f h = ap (λ o. or_fault fault.BadValue o >>= λ m. Ok (f m)) (written_decimal n h)
 
   version_reads : (n : ℕ) → (n == 6 || n == 7) ≡ true → (version_of (decimal n) >>= λ m. Ok (version m)) ≡ Ok (version n)
@@ -337,17 +337,17 @@ module _ (base : Parts) (before : List Said) where
 
   pub target_line : (n : ℕ) → n < 2 ^ 64 → is_set the_target before ≡ false → IsRead (target n)
   target_line n h c =
-      as_written _ (refuse_if (is_set the_target before) _ (number (decimal n) >>= λ m. Ok (target m))) _ (clean_line (codes "#EXT-X-TARGETDURATION:") (decimal n) refl (clean_decimal n h))
+      as_written _ (refuse_if (is_set the_target before) _ (number_said (decimal n) >>= λ m. Ok (target m))) _ (clean_line (codes "#EXT-X-TARGETDURATION:") (decimal n) refl (clean_decimal n h))
       (unrefused _ _ _ _ c (number_reads n target h))
 
   pub sequence_line : (n : ℕ) → n < 2 ^ 64 → is_set the_sequence before ≡ false → has is_media before ≡ false → IsRead (sequence n)
   sequence_line n h c d =
-      as_written _ (refuse_if (is_set the_sequence before) _ (refuse_if (has is_media before) _ (number (decimal n) >>= λ m. Ok (sequence m)))) _ (clean_line (codes "#EXT-X-MEDIA-SEQUENCE:") (decimal n) refl (clean_decimal n h))
+      as_written _ (refuse_if (is_set the_sequence before) _ (refuse_if (has is_media before) _ (number_said (decimal n) >>= λ m. Ok (sequence m)))) _ (clean_line (codes "#EXT-X-MEDIA-SEQUENCE:") (decimal n) refl (clean_decimal n h))
       (unrefused _ _ _ _ c (unrefused _ _ _ _ d (number_reads n sequence h)))
 
   pub discontinuity_sequence_line : (n : ℕ) → n < 2 ^ 64 → is_set the_discontinuity_sequence before ≡ false → has is_media before ≡ false → has is_discontinuity before ≡ false → IsRead (discontinuity_sequence n)
   discontinuity_sequence_line n h c d e =
-      as_written _ (refuse_if (is_set the_discontinuity_sequence before) _ (refuse_if (has is_media before || has is_discontinuity before) _ (number (decimal n) >>= λ m. Ok (discontinuity_sequence m)))) _
+      as_written _ (refuse_if (is_set the_discontinuity_sequence before) _ (refuse_if (has is_media before || has is_discontinuity before) _ (number_said (decimal n) >>= λ m. Ok (discontinuity_sequence m)))) _
       (clean_line (codes "#EXT-X-DISCONTINUITY-SEQUENCE:") (decimal n) refl (clean_decimal n h))
       (unrefused _ _ _ _ c (unrefused _ _ _ _ (or_from _ _ d e) (number_reads n discontinuity_sequence h)))
 

@@ -13,7 +13,7 @@ use Rattle.playlist_model.specs.declared.Key.{Key}
 use Rattle.playlist_model.specs.declared.ByteRange.{ByteRange}
 use Rattle.playlist_model.specs.Carried.{is_key_attribute}
 use Rattle.date_times.specs.Digits.{fixed_digits}
-use Rattle.playlist_write.specs.Spelling.{plain, in_quotes, iv_text, iv_pairs, format_pairs, own_pairs, key_text, init_section_pairs, byte_range_text}
+use Rattle.playlist_write.specs.Spelling.{unquoted_pair, in_quotes, iv_text, iv_pairs, format_pairs, own_pairs, key_text, init_section_pairs, byte_range_text}
 use Rattle.writable.specs.Fitting.{if_some, is_clean, value_fits, quoted_uri_fits, byte_range_fits, iv_fits, key_fits}
 use Rattle.playlist_write.proofs.OtherFields.{IsOther, OtherPairs, other_pairs, is_other, others_after}
 use Rattle.playlist_write.proofs.WrittenNumbers.{is_number_byte, decimal_bytes, hex_bytes}
@@ -87,7 +87,7 @@ others_apart before others n h f = subst (λ ps. are_apart ps others ≡ true) (
 -- ---- a key's attributes
 
 abbrev method_pair : List ℕ → Pair
-method_pair method = plain (codes "METHOD") method
+method_pair method = unquoted_pair (codes "METHOD") method
 
 abbrev uri_pair : List ℕ → Pair
 uri_pair uri = in_quotes (codes "URI") uri

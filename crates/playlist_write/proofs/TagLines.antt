@@ -9,8 +9,8 @@ use Rattle.fixed_duration.specs.Duration.{duration_text}
 use Rattle.date_times.specs.Times.{time_text}
 use Rattle.playlist_model.specs.Carried.{after_commas}
 use Rattle.playlist_model.proofs.Carried.{attributes_are, commas_append}
-use Rattle.playlist_write.specs.Spelling.{plain, in_quotes, iv_pairs, format_pairs, part_pairs, byte_range_text}
-use Rattle.playlist_write.specs.Owed.{line_of, with_feed}
+use Rattle.playlist_write.specs.Spelling.{unquoted_pair, in_quotes, iv_pairs, format_pairs, part_pairs, byte_range_text}
+use Rattle.playlist_write.specs.Owed.{line_saying, with_feed}
 use Rattle.playlist_write.specs.Inner.Owed.{key_line, init_section_line}
 
 assoc6 : (a b c d e f g : List ℕ) → a ++ (b ++ (c ++ (d ++ (e ++ (f ++ g))))) ≡ (a ++ (b ++ (c ++ (d ++ (e ++ f))))) ++ g
@@ -19,11 +19,11 @@ assoc6 a b c d e f g = simp append_assoc
 assoc5 : (a b c d e : List ℕ) → a ++ (b ++ (c ++ (d ++ e))) ≡ (a ++ (b ++ (c ++ d))) ++ e
 assoc5 a b c d e = simp append_assoc
 
-pub key_parts : (k : Key) → codes "#EXT-X-KEY:" ++ (pair_spelling (plain (codes "METHOD") k.method) ++ (pair_spelling (in_quotes (codes ",URI") k.uri)
+pub key_parts : (k : Key) → codes "#EXT-X-KEY:" ++ (pair_spelling (unquoted_pair (codes "METHOD") k.method) ++ (pair_spelling (in_quotes (codes ",URI") k.uri)
     ++ (after_commas (iv_pairs k.iv) ++ (after_commas (format_pairs k.format) ++ (k.other_attributes ++ 10 ∷ []))))) ≡ key_line k
-unfolding line_of
+unfolding line_saying
 key_parts k =
-    let method = plain (codes "METHOD") k.method in let uri = in_quotes (codes "URI") k.uri in
+    let method = unquoted_pair (codes "METHOD") k.method in let uri = in_quotes (codes "URI") k.uri in
     assoc6 (codes "#EXT-X-KEY:") (pair_spelling method) (pair_spelling (in_quotes (codes ",URI") k.uri)) (after_commas (iv_pairs k.iv)) (after_commas (format_pairs k.format)) k.other_attributes (10 ∷ [])
     ∙ ap (λ t. with_feed (codes "#EXT-X-KEY:" ++ t)) (assoc5 (pair_spelling method) (pair_spelling (in_quotes (codes ",URI") k.uri)) (after_commas (iv_pairs k.iv)) (after_commas (format_pairs k.format)) k.other_attributes)
     ∙ ap (λ t. with_feed (codes "#EXT-X-KEY:" ++ ((pair_spelling method ++ (pair_spelling (in_quotes (codes ",URI") k.uri) ++ t)) ++ k.other_attributes))) (sym (commas_append (iv_pairs k.iv) (format_pairs k.format)))
@@ -33,7 +33,7 @@ assoc3 : (a b c d : List ℕ) → a ++ (b ++ (c ++ d)) ≡ (a ++ (b ++ c)) ++ d
 assoc3 a b c d = simp append_assoc
 
 pub init_section_parts : (s : InitSection) → codes "#EXT-X-MAP:" ++ (pair_spelling (in_quotes (codes "URI") s.uri) ++ (after_commas (part_pairs s.byte_range) ++ 10 ∷ [])) ≡ init_section_line s
-unfolding line_of
+unfolding line_saying
 init_section_parts s =
     assoc3 (codes "#EXT-X-MAP:") (pair_spelling (in_quotes (codes "URI") s.uri)) (after_commas (part_pairs s.byte_range)) (10 ∷ [])
     ∙ ap (λ t. with_feed (codes "#EXT-X-MAP:" ++ t)) (sym (attributes_are (in_quotes (codes "URI") s.uri) (part_pairs s.byte_range)))
@@ -44,14 +44,14 @@ format_part format h = grind (arith, append-nil)
 assoc2 : (a b c : List ℕ) → a ++ (b ++ c) ≡ (a ++ b) ++ c
 assoc2 a b c = simp append_assoc
 
-pub duration_parts : (n : ℕ) (title : List ℕ) → codes "#EXTINF:" ++ (duration_text n ++ (44 ∷ [] ++ with_feed title)) ≡ line_of (duration n title)
-unfolding line_of
+pub duration_parts : (n : ℕ) (title : List ℕ) → codes "#EXTINF:" ++ (duration_text n ++ (44 ∷ [] ++ with_feed title)) ≡ line_saying (duration n title)
+unfolding line_saying
 duration_parts n title = assoc3 (codes "#EXTINF:") (duration_text n) (44 ∷ title) (10 ∷ [])
 
-pub byte_range_parts : (n o : ℕ) → codes "#EXT-X-BYTERANGE:" ++ (byte_range_text n o ++ 10 ∷ []) ≡ line_of (byte_range n (Some o))
-unfolding line_of
+pub byte_range_parts : (n o : ℕ) → codes "#EXT-X-BYTERANGE:" ++ (byte_range_text n o ++ 10 ∷ []) ≡ line_saying (byte_range n (Some o))
+unfolding line_saying
 byte_range_parts n o = assoc2 (codes "#EXT-X-BYTERANGE:") (byte_range_text n o) (10 ∷ [])
 
-pub time_parts : (t : ℤ) → codes "#EXT-X-PROGRAM-DATE-TIME:" ++ (time_text t ++ 10 ∷ []) ≡ line_of (time t)
-unfolding line_of
+pub time_parts : (t : ℤ) → codes "#EXT-X-PROGRAM-DATE-TIME:" ++ (time_text t ++ 10 ∷ []) ≡ line_saying (time t)
+unfolding line_saying
 time_parts t = assoc2 (codes "#EXT-X-PROGRAM-DATE-TIME:") (time_text t) (10 ∷ [])

@@ -16,9 +16,9 @@ use Rattle.playlist_model.proofs.SaidCounts.{counted_some}
 use Rattle.stitcher.specs.declared.OutSegment.{OutSegment}
 use Rattle.playlist_write.specs.declared.OutPlaylist.{OutPlaylist}
 use Rattle.playlist_write.specs.Spelling.{spelled, date_range_line}
-use Rattle.playlist_write.specs.Owed.{none_yet, header_owed, ended_owed, segments_owed, first_media_sequence, stated_discontinuity_sequence, line_of, said_text, ended_date_range_line, date_ranges_text, playlist_text}
+use Rattle.playlist_write.specs.Owed.{none_yet, header_owed, ended_owed, segments_owed, first_media_sequence, stated_discontinuity_sequence, line_saying, said_text, ended_date_range_line, date_ranges_text, playlist_text}
 use Rattle.writable.specs.Fitting.{is_clean, says_date_range, date_range_fits}
-use Rattle.playlist_write.specs.WellFormed.{is_word, version_fits, segment_fits, out_numbers, numbers_fit, out_has_init_section, init_sections_agree, well_formed}
+use Rattle.playlist_write.specs.WellFormed.{is_word, version_fits, segment_fits, out_numbers, out_numbers_rise, out_has_init_section, init_sections_agree, well_formed}
 use Rattle.playlist_write.specs.Denoted.{denoted, denoted_segment, denoted_date_range, date_range_told}
 use Rattle.playlist_write.specs.Laws.{TextDenotes}
 use Rattle.playlist_write.proofs.CleanTexts.{text, AllClean, clean_printable, lines_of_text, utf8_text}
@@ -120,13 +120,13 @@ numbers_after previous (out ∷ outs) h =
     let m : out.media_sequence ≡ previous.media_sequence + 1 = eqb-true _ _ b.0 in
     and_from _ _ a.0 (subst (λ n. numbers_go_on (n + 1) out.discontinuity_sequence outs ≡ true) m (numbers_after out outs a.1))
 
-numbers_start : (outs : List OutSegment) → numbers_fit outs ≡ true → numbers_go_on (first_media_sequence outs) (stated_discontinuity_sequence outs) outs ≡ true
+numbers_start : (outs : List OutSegment) → out_numbers_rise outs ≡ true → numbers_go_on (first_media_sequence outs) (stated_discontinuity_sequence outs) outs ≡ true
 numbers_start outs h = grind (arith, and_parts, leb-true, eq-eqb, and_from, numbers_after)
 
 first_fits : (outs : List OutSegment) → list_all segment_fits outs ≡ true → (first_media_sequence outs < 2 ^ 64) × (stated_discontinuity_sequence outs < 2 ^ 64)
 first_fits outs h = grind arith
 
-some_segments : (outs : List OutSegment) → numbers_fit outs ≡ true → 0 < length outs
+some_segments : (outs : List OutSegment) → out_numbers_rise outs ≡ true → 0 < length outs
 some_segments [] h = cc
 some_segments (out ∷ outs) h = omega arith
 
@@ -153,7 +153,7 @@ alike (out ∷ outs) h =
 -- ---- the text in lines
 
 joined_text : (says : List Said) (rest : List (List ℕ)) → said_text says ++ text rest ≡ text (map spelled says ++ rest)
-unfolding line_of
+unfolding line_saying
 joined_text [] rest = refl
 joined_text (s ∷ says) rest = grind (arith, append_assoc, text, joined_text says rest)
 

@@ -101,11 +101,11 @@ abbrev pub with_feed : List ℕ → List ℕ
 with_feed line = line ++ line_feed ∷ []
 
 -- the line that says this, and those that say these
-unfoldable pub line_of : Said → List ℕ
-line_of said = with_feed (spelled said)
+unfoldable pub line_saying : Said → List ℕ
+line_saying said = with_feed (spelled said)
 
 abbrev pub said_text : List Said → List ℕ
-said_text says = flat_map line_of says
+said_text says = flat_map line_saying says
 
 -- date ranges stand as they are
 unfoldable pub ended_date_range_line : List ℕ → List ℕ

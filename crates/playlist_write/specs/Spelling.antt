@@ -17,8 +17,8 @@ byte_range_text length offset = decimal length ++ at_sign ∷ decimal offset
 
 -- ---- attributes (4.2)
 
-abbrev pub plain : List ℕ → List ℕ → Pair
-plain name value = record { name = name; value = value; quoted = false }
+abbrev pub unquoted_pair : List ℕ → List ℕ → Pair
+unquoted_pair name value = record { name = name; value = value; quoted = false }
 
 abbrev pub in_quotes : List ℕ → List ℕ → Pair
 in_quotes name value = record { name = name; value = value; quoted = true }
@@ -29,7 +29,7 @@ iv_text iv = digit_zero ∷ small_x ∷ fixed_digits 16 32 iv
 
 abbrev pub iv_pairs : Option ℕ → List Pair
 iv_pairs None = []
-iv_pairs (Some iv) = plain (codes "IV") (iv_text iv) ∷ []
+iv_pairs (Some iv) = unquoted_pair (codes "IV") (iv_text iv) ∷ []
 
 -- the format `identity` goes without saying
 abbrev pub format_pairs : List ℕ → List Pair
@@ -37,7 +37,7 @@ format_pairs format = if bytes_eq format (codes "identity") then [] else in_quot
 
 -- the attributes of a key tag that have a meaning here (4.3.2.4)
 abbrev pub own_pairs : Key → List Pair
-own_pairs k = plain (codes "METHOD") k.method ∷ in_quotes (codes "URI") k.uri ∷ (iv_pairs k.iv ++ format_pairs k.format)
+own_pairs k = unquoted_pair (codes "METHOD") k.method ∷ in_quotes (codes "URI") k.uri ∷ (iv_pairs k.iv ++ format_pairs k.format)
 
 abbrev pub part_pairs : Option ByteRange → List Pair
 part_pairs None = []

@@ -31,8 +31,8 @@ segment_fits out =
 abbrev pub out_numbers : OutSegment → Numbers
 out_numbers out = record { media_sequence = out.media_sequence; discontinuity_sequence = out.discontinuity_sequence; discontinuities = out.discontinuities }
 
-abbrev pub numbers_fit : List OutSegment → Bool
-numbers_fit = numbers_rise out_numbers
+abbrev pub out_numbers_rise : List OutSegment → Bool
+out_numbers_rise = numbers_rise out_numbers
 
 -- ---- the whole
 
@@ -48,7 +48,7 @@ version_fits version = version == 6 || version == 7
 
 abbrev pub fits_without_date_ranges : OutPlaylist → Bool
 fits_without_date_ranges p =
-    version_fits p.version && is_word p.target_duration && numbers_fit p.segments && list_all segment_fits p.segments
+    version_fits p.version && is_word p.target_duration && out_numbers_rise p.segments && list_all segment_fits p.segments
     && init_sections_agree p.segments
 
 abbrev pub well_formed : OutPlaylist → Bool

@@ -8,7 +8,7 @@ ghost use Rattle.std.specs.List.{list_all};
 ghost use Rattle.playlist_model.specs.Said.{date_range_said};
 ghost use Rattle.playlist_model.specs.Reading.{limited};
 ghost use Rattle.writable.specs.Fitting.{if_some, says_date_range, date_range_fits};
-ghost use Rattle.playlist_write.specs.Inner.DateRangeParts.{is_id, says_time, says_duration, is_date_range};
+ghost use Rattle.playlist_write.specs.Inner.DateRangeParts.{is_quoted_id, says_time, says_duration, is_date_range};
 
 use attr_list::{Attr, AttrFault, AttrList};
 use fixed_duration::Nanos;
@@ -30,7 +30,7 @@ fn is_duration(text: &str) -> bool
 }
 
 fn is_id(attr: Option<&Attr<'_>>) -> bool
-    ensures { result ≡ is_id (option_map attr_pair (option_copied attr.entry)) }
+    ensures { result ≡ is_quoted_id (option_map attr_pair (option_copied attr.entry)) }
 {
     match attr {
         Some(attr) => attr.quoted,

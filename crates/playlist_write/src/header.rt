@@ -2,7 +2,7 @@
 ghost use Rattle.std.specs.Prelude.{◌≡◌, ◌++◌, OnOk, string_bytes};
 ghost use Rattle.playlist_model.specs.Said as Said;
 ghost use Rattle.playlist_write.specs.Spelling.{type_text};
-ghost use Rattle.playlist_write.specs.Owed.{line_of, ended_date_range_line, said_text, numbers_owed, header_owed, type_owed, independent_owed, ended_owed, first_media_sequence, stated_discontinuity_sequence, date_ranges_text};
+ghost use Rattle.playlist_write.specs.Owed.{line_saying, ended_date_range_line, said_text, numbers_owed, header_owed, type_owed, independent_owed, ended_owed, first_media_sequence, stated_discontinuity_sequence, date_ranges_text};
 ghost use Rattle.fixed_duration.specs.Appended.{Appends};
 
 use crate::OutPlaylist;
@@ -43,7 +43,7 @@ fn type_text(kind: PlaylistKind) -> &'static str
 }
 
 fn push_type(out: &mut String, kind: PlaylistKind) -> Result<(), AllocError>
-    ensures { Appends result out.old out.new (line_of (Said.playlist_type kind)) }
+    ensures { Appends result out.old out.new (line_saying (Said.playlist_type kind)) }
 {
     push_line_of(out, "#EXT-X-PLAYLIST-TYPE:", type_text(kind))
 }
@@ -59,28 +59,28 @@ fn push_kind(out: &mut String, kind: Option<PlaylistKind>) -> Result<(), AllocEr
 
 #[tactic(auto, unfolding(crate::specs::Owed::line_of))]
 fn push_version(out: &mut String, version: u64) -> Result<(), AllocError>
-    ensures { Appends result out.old out.new (line_of (Said.version version)) }
+    ensures { Appends result out.old out.new (line_saying (Said.version version)) }
 {
     push_number_line(out, "#EXT-X-VERSION:", version)
 }
 
 #[tactic(auto, unfolding(crate::specs::Owed::line_of))]
 fn push_target(out: &mut String, target: u64) -> Result<(), AllocError>
-    ensures { Appends result out.old out.new (line_of (Said.target target)) }
+    ensures { Appends result out.old out.new (line_saying (Said.target target)) }
 {
     push_number_line(out, "#EXT-X-TARGETDURATION:", target)
 }
 
 #[tactic(auto, unfolding(crate::specs::Owed::line_of))]
 fn push_sequence(out: &mut String, sequence: u64) -> Result<(), AllocError>
-    ensures { Appends result out.old out.new (line_of (Said.sequence sequence)) }
+    ensures { Appends result out.old out.new (line_saying (Said.sequence sequence)) }
 {
     push_number_line(out, "#EXT-X-MEDIA-SEQUENCE:", sequence)
 }
 
 #[tactic(auto, unfolding(crate::specs::Owed::line_of))]
 fn push_discontinuity_sequence(out: &mut String, sequence: u64) -> Result<(), AllocError>
-    ensures { Appends result out.old out.new (line_of (Said.discontinuity_sequence sequence)) }
+    ensures { Appends result out.old out.new (line_saying (Said.discontinuity_sequence sequence)) }
 {
     push_number_line(out, "#EXT-X-DISCONTINUITY-SEQUENCE:", sequence)
 }

@@ -4,9 +4,9 @@ ghost use Rattle.spec_words.specs.Bytes.{line_feed, quote};
 ghost use Rattle.attr_list.specs.Attributes.{pair_spelling};
 ghost use Rattle.playlist_write.specs.Spelling.{in_quotes, iv_pairs, format_pairs, part_pairs};
 ghost use Rattle.playlist_model.specs.Carried.{after_commas};
-ghost use Rattle.playlist_write.specs.Inner.KeyParts.{rest_of, is_identity};
+ghost use Rattle.playlist_write.specs.Inner.KeyParts.{text_after_uri, is_identity};
 ghost use Rattle.playlist_model.specs.Said as Said;
-ghost use Rattle.playlist_write.specs.Owed.{line_of, said_text, keys_owed};
+ghost use Rattle.playlist_write.specs.Owed.{line_saying, said_text, keys_owed};
 ghost use Rattle.playlist_write.specs.Inner.Owed.{set_tags, key_line, init_section_line};
 ghost use Rattle.playlist_model.specs.Same.{same_key, same_option, same_number};
 ghost use Rattle.playlist_model.specs.declared.Key.{Key};
@@ -79,7 +79,7 @@ fn push_method(out: &mut String, method: &str) -> Result<(), AllocError>
 
 // Appends what stands after the URI of a key.
 fn push_rest(out: &mut String, key: &KeyRef<'_>) -> Result<(), AllocError>
-    ensures { Appends result out.old out.new (rest_of key.now) }
+    ensures { Appends result out.old out.new (text_after_uri key.now) }
 {
     push_iv(out, key.iv())?;
     push_format(out, key.format())?;
@@ -90,7 +90,7 @@ fn push_rest(out: &mut String, key: &KeyRef<'_>) -> Result<(), AllocError>
 
 // The same. Most keys have no other attributes.
 fn push_short_rest(out: &mut String, key: &KeyRef<'_>) -> Result<(), AllocError>
-    ensures { Appends result out.old out.new (rest_of key.now) }
+    ensures { Appends result out.old out.new (text_after_uri key.now) }
 {
     if key.other_attributes().as_str().is_empty() && key.format() == "identity" {
         push_iv_and_feed(out, key.iv())?;
@@ -144,7 +144,7 @@ fn push_new_keys(out: &mut String, old: &Keys, new: &Keys) -> Result<(), AllocEr
 
 #[tactic(auto, unfolding(crate::specs::Owed::line_of))]
 fn push_no_keys(out: &mut String) -> Result<(), AllocError>
-    ensures { Appends result out.old out.new (line_of Said.no_keys) }
+    ensures { Appends result out.old out.new (line_saying Said.no_keys) }
 {
     push_line(out, "#EXT-X-KEY:METHOD=NONE")
 }

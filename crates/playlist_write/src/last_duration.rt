@@ -1,7 +1,7 @@
 //! The line of EXTINF that was written last, since most segments of a playlist state the same one.
 ghost use Rattle.std.specs.Prelude.{◌≡◌, IfOk, IsTrue, ◌↔◌, string_bytes};
 ghost use Rattle.playlist_model.specs.Said as Said;
-ghost use Rattle.playlist_write.specs.Owed.{line_of};
+ghost use Rattle.playlist_write.specs.Owed.{line_saying};
 ghost use Rattle.fixed_duration.specs.Appended.{Appends};
 
 use crate::segments::push_duration;
@@ -21,18 +21,19 @@ pub struct LastDuration<'a> {
 impl<'a> Model for LastDuration<'a> {
     ghost use Rattle.std.specs.Prelude.{◌≡◌, ℕ, List, IfSome, string_bytes};
     ghost use Rattle.playlist_model.specs.Said as Said;
-    ghost use Rattle.playlist_write.specs.Owed.{line_of};
+    ghost use Rattle.playlist_write.specs.Owed.{line_saying};
 
     ghost Value = { ℕ × List ℕ };
 
     ghost view = { λ a. (a.duration, a.title.now) };
 
-    ghost invariant = { λ a. IfSome a.line (λ line. string_bytes line ≡ line_of (Said.duration a.duration a.title.now)) };
+    ghost invariant = { λ a. IfSome a.line (λ line. string_bytes line ≡ line_saying (Said.duration a.duration a.title.now)) };
 }
 
 // The line of a duration and a title.
 fn line_with(alloc: Global, duration: Nanos, title: &str) -> Result<String, AllocError>
-    ensures { IfOk result (λ line. string_bytes line ≡ line_of (Said.duration duration title.now)) }
+    ensures { IfOk result
+        (λ line. string_bytes line ≡ line_saying (Said.duration duration title.now)) }
 {
     let mut line = String::new(alloc);
     push_duration(&mut line, duration, title)?;
@@ -53,7 +54,8 @@ impl<'a> LastDuration<'a> {
     // Appends the line of the last duration and title.
     #[inline(always)]
     fn push_again(&mut self, out: &mut String) -> Result<(), AllocError>
-        ensures { Appends result out.old out.new (line_of (Said.duration self.old.0 self.old.1)) }
+        ensures { Appends result out.old out.new
+            (line_saying (Said.duration self.old.0 self.old.1)) }
     {
         if let Some(line) = &self.line {
             return out.push_str(line.as_str());
@@ -64,7 +66,8 @@ impl<'a> LastDuration<'a> {
     // The same, and keeps that line.
     #[inline(never)]
     fn push_second(&mut self, out: &mut String) -> Result<(), AllocError>
-        ensures { Appends result out.old out.new (line_of (Said.duration self.old.0 self.old.1)) }
+        ensures { Appends result out.old out.new
+            (line_saying (Said.duration self.old.0 self.old.1)) }
     {
         let line = line_with(self.alloc, self.duration, self.title)?;
         out.push_str(line.as_str())?;
@@ -80,7 +83,7 @@ impl<'a> LastDuration<'a> {
         duration: Nanos,
         title: &'a str,
     ) -> Result<(), AllocError>
-        ensures { Appends result out.old out.new (line_of (Said.duration duration title.now)) }
+        ensures { Appends result out.old out.new (line_saying (Said.duration duration title.now)) }
     {
         self.line = None;
         self.duration = duration;
@@ -97,7 +100,7 @@ impl<'a> LastDuration<'a> {
         duration: Nanos,
         title: &'a str,
     ) -> Result<(), AllocError>
-        ensures { Appends result out.old out.new (line_of (Said.duration duration title.now)) }
+        ensures { Appends result out.old out.new (line_saying (Said.duration duration title.now)) }
     {
         if duration == self.duration && title == self.title {
             return self.push_again(out);

@@ -82,7 +82,11 @@ impl From<SinkFailed> for WriteFault {
 }
 
 // The lines before the date ranges, in a text with so much room.
-fn front_of(alloc: Global, room: usize, playlist: &OutPlaylist<'_>) -> Result<String, AllocError>
+fn lines_before_date_ranges(
+    alloc: Global,
+    room: usize,
+    playlist: &OutPlaylist<'_>,
+) -> Result<String, AllocError>
     ensures { IfOk result
         (λ text. string_bytes text
         ≡ with_feed (codes "#EXTM3U") ++ said_text (header_owed playlist.now)) }
@@ -131,7 +135,7 @@ fn write_text<S: Sink>(
     ensures memory { IsErrOf result WriteFault.OutOfMemory
         → NoneFailed (S.stand sink.old).failed (S.stand sink.new).failed }
 {
-    let mut held = front_of(alloc, PIECE_ROOM, playlist)?;
+    let mut held = lines_before_date_ranges(alloc, PIECE_ROOM, playlist)?;
     write_date_ranges(&mut held, playlist.date_ranges.as_slice(), sink)?;
     write_segments(alloc, &mut held, playlist.segments.items(), sink)?;
     write_end(&mut held, playlist.end_list, sink)

@@ -12,7 +12,7 @@ use crate::header::{push_date_ranges, push_end};
 use crate::last_duration::LastDuration;
 use crate::room::room_for;
 use crate::segments::push_segment;
-use crate::{OutPlaylist, front_of};
+use crate::{OutPlaylist, lines_before_date_ranges};
 use date_times::TimeWriter;
 use playlist_model::{InitSection, Keys, Shared, Text};
 use std::alloc::{AllocError, Global};
@@ -193,7 +193,7 @@ fn length_of(text: &String) -> usize
 fn all_before(alloc: Global, room: usize, playlist: &OutPlaylist<'_>) -> Result<String, AllocError>
     ensures { IfOk result (λ text. string_bytes text ≡ front_text playlist.now) }
 {
-    let mut text = front_of(alloc, room, playlist)?;
+    let mut text = lines_before_date_ranges(alloc, room, playlist)?;
     push_date_ranges(&mut text, playlist.date_ranges.as_slice())?;
     Ok(text)
 }
@@ -266,7 +266,7 @@ fn lines_after(last: &WrittenText, length: usize) -> Option<&str>
 
 // The text of a playlist in three parts: its first segment is written, `lines` are copied, and `fresh` is written, with what
 // was in force at the end of the last text. It has `count` segments, and is given so much room.
-fn joined(
+fn join_parts(
     alloc: Global,
     room: usize,
     playlist: &OutPlaylist<'_>,
@@ -323,7 +323,7 @@ pub fn laid_after(
     };
     let fresh = playlist.segments.items_from(again);
     let (room, count) = (room_for(playlist), playlist.segments.count());
-    Ok(joined(alloc, room, playlist, last, lines, fresh, count)?)
+    Ok(join_parts(alloc, room, playlist, last, lines, fresh, count)?)
 }
 
 /// The text of a playlist of `count` segments, of which lines are copied from `last`, the text that was written last. It is
@@ -348,6 +348,6 @@ pub fn laid_on(
         return Ok(None);
     };
     let room = last.text.as_str().len().saturating_add(room_for(playlist));
-    let text = joined(alloc, room, playlist, last, lines, fresh.items(), count)?;
+    let text = join_parts(alloc, room, playlist, last, lines, fresh.items(), count)?;
     Ok(Some(text))
 }

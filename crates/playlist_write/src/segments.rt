@@ -5,7 +5,7 @@ ghost use Rattle.spec_words.specs.Bytes.{comma};
 ghost use Rattle.playlist_model.specs.Said as Said;
 ghost use Rattle.playlist_model.specs.Same.{same_option, same_init_section};
 ghost use Rattle.playlist_write.specs.Inner.Changes.{changes_nothing, changes_owed};
-ghost use Rattle.playlist_write.specs.Owed.{none_yet, line_of, with_feed, said_text, changed_init_section, init_section_owed, keys_then, time_owed, byte_range_owed, media_owed, segment_owed, segments_owed};
+ghost use Rattle.playlist_write.specs.Owed.{none_yet, line_saying, with_feed, said_text, changed_init_section, init_section_owed, keys_then, time_owed, byte_range_owed, media_owed, segment_owed, segments_owed};
 ghost use Rattle.fixed_duration.specs.Duration.{duration_text};
 ghost use Rattle.fixed_duration.specs.Appended.{Appends};
 
@@ -20,7 +20,7 @@ use stitcher::{OutSegment, SegmentRef, StitchedItems};
 
 #[tactic(auto, unfolding(crate::specs::Owed::line_of))]
 fn push_discontinuity(out: &mut String) -> Result<(), AllocError>
-    ensures { Appends result out.old out.new (line_of Said.discontinuity) }
+    ensures { Appends result out.old out.new (line_saying Said.discontinuity) }
 {
     push_line(out, "#EXT-X-DISCONTINUITY")
 }
@@ -105,7 +105,7 @@ fn push_changed_init_section(
 
 #[inline(never)]
 fn push_instant(out: &mut String, times: &mut TimeWriter, time: Instant) -> Result<(), AllocError>
-    ensures { Appends result out.old out.new (line_of (Said.time time)) }
+    ensures { Appends result out.old out.new (line_saying (Said.time time)) }
 {
     out.push_str("#EXT-X-PROGRAM-DATE-TIME:")?;
     times.write(time, out)?;
@@ -141,7 +141,7 @@ fn push_title(out: &mut String, title: &str) -> Result<(), AllocError>
 /// Appends to `out` the line of EXTINF with `duration` and `title` (RFC 8216, section 4.3.2.1). Fails only if an
 /// allocation fails.
 pub fn push_duration(out: &mut String, duration: Nanos, title: &str) -> Result<(), AllocError>
-    ensures { Appends result out.old out.new (line_of (Said.duration duration title.now)) }
+    ensures { Appends result out.old out.new (line_saying (Said.duration duration title.now)) }
 {
     out.push_str("#EXTINF:")?;
     duration.write_to(out)?;
@@ -152,7 +152,7 @@ pub fn push_duration(out: &mut String, duration: Nanos, title: &str) -> Result<(
 #[inline(never)]
 fn push_byte_range_line(out: &mut String, byte_range: ByteRange) -> Result<(), AllocError>
     ensures { Appends result out.old out.new
-        (line_of (Said.byte_range byte_range.length (Some byte_range.offset))) }
+        (line_saying (Said.byte_range byte_range.length (Some byte_range.offset))) }
 {
     out.push_str("#EXT-X-BYTERANGE:")?;
     push_byte_range(out, byte_range)?;
@@ -171,7 +171,7 @@ fn push_byte_range_tag(out: &mut String, byte_range: Option<ByteRange>) -> Resul
 
 #[tactic(auto, unfolding(crate::specs::Owed::line_of))]
 fn push_uri(out: &mut String, uri: &str) -> Result<(), AllocError>
-    ensures { Appends result out.old out.new (line_of (Said.media uri.now)) }
+    ensures { Appends result out.old out.new (line_saying (Said.media uri.now)) }
 {
     push_line(out, uri)
 }

@@ -5,7 +5,7 @@ ghost use Rattle.std.specs.Option.{option_copied};
 ghost use Rattle.date_times.specs.Instant.{in_range};
 ghost use Rattle.writable.specs.Fitting.{if_some, init_section_fits};
 ghost use Rattle.playlist_model.specs.Numbering.{follows, all_follow};
-ghost use Rattle.playlist_write.specs.WellFormed.{well_formed, fits_without_date_ranges, numbers_are_words, resource_fits, segment_fits, out_numbers, numbers_fit, out_has_init_section, init_sections_agree, version_fits, is_word};
+ghost use Rattle.playlist_write.specs.WellFormed.{well_formed, fits_without_date_ranges, numbers_are_words, resource_fits, segment_fits, out_numbers, out_numbers_rise, out_has_init_section, init_sections_agree, version_fits, is_word};
 
 use crate::OutPlaylist;
 use crate::date_ranges::date_ranges_fit;
@@ -115,7 +115,7 @@ fn all_follow<'a>(first: OutSegment<'a>, later: StitchedItems<'a>) -> bool
 }
 
 fn numbers_fit(segments: StitchedItems<'_>) -> bool
-    ensures { result ≡ numbers_fit segments.entry }
+    ensures { result ≡ out_numbers_rise segments.entry }
 {
     let mut later = segments;
     let Some(first) = later.next() else {

@@ -10,7 +10,7 @@ use Rattle.pod_store.specs.Pods.{Pod}
 use Rattle.pod_store.specs.Store.{Entry, Store, with_entries, has_id, pod_of, entry_for, has_own, own_pod, pod_for, is_one_of, copied_last, with_copy, with_copies}
 use Rattle.pod_store.specs.Inner.Store.{GrowsBy}
 use Rattle.pod_store.specs.Kept.{entry_of}
-use Rattle.pod_store.specs.Inner.Kept.{Pairs}
+use Rattle.pod_store.specs.Inner.Kept.{PodsById}
 use Rattle.pod_store.proofs.KeptLaws.{store_of}
 
 -- ---- one copy
@@ -112,7 +112,7 @@ other_stands store (x ∷ ids) id h = let p = or_parts _ _ h in other_stands (wi
 -- ---- what comes after what was there
 
 -- what is left of a store that has grown, up to what was there
-pub truncated : (es new : Pairs) (fallback now_fallback : Option Pod) (store now : Store) (n : ℕ) → store_of es fallback ≡ store → n ≡ length es → store_of new now_fallback ≡ now → GrowsBy store now
+pub truncated : (es new : PodsById) (fallback now_fallback : Option Pod) (store now : Store) (n : ℕ) → store_of es fallback ≡ store → n ≡ length es → store_of new now_fallback ≡ now → GrowsBy store now
     → store_of (take n new) now_fallback ≡ store
 truncated es new fallback now_fallback store now n view_is n_is now_is (more, grown) =
     let fallbacks : now_fallback ≡ store.fallback = ap (λ (s : Store). s.fallback) (now_is ∙ grown) in

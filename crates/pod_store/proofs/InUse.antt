@@ -6,7 +6,7 @@ use Rattle.std.specs.declared.alloc.Global.{Global}
 use Rattle.pod_store.specs.declared.kept.StoredPod.{StoredPod}
 use Rattle.pod_store.specs.Store.{Entry, is_one_of, is_held, held_in_use}
 use Rattle.pod_store.specs.Kept.{entry_of}
-use Rattle.pod_store.specs.Inner.Kept.{Pairs, is_pair_held, used_if, pairs_in_use}
+use Rattle.pod_store.specs.Inner.Kept.{PodsById, is_pair_held, used_if, pairs_in_use}
 
 pushed : {A B : Type 0} (G : A → B) (b : Bool) (x : A) (xs : List A) → cond b (G x ∷ map G xs) (map G xs) ≡ map G (cond b (x ∷ xs) xs)
 pushed G true x xs = refl
@@ -29,13 +29,13 @@ module _ (ids : List (List ℕ)) where
   abbrev entry_now : Entry → Entry
   entry_now e = record e { used = is_one_of ids e.id }
 
-  step : (pair : String Global × StoredPod) (pairs : Pairs) (entries : List Entry) (b : Bool) → map entry_of (map pair_now pairs) ≡ map entry_now entries
+  step : (pair : String Global × StoredPod) (pairs : PodsById) (entries : List Entry) (b : Bool) → map entry_of (map pair_now pairs) ≡ map entry_now entries
       → map entry_of (map pair_now (cond b (pair ∷ pairs) pairs)) ≡ map entry_now (cond b (entry_of pair ∷ entries) entries)
   step pair pairs entries true rec = ap (λ xs. entry_now (entry_of pair) ∷ xs) rec
   step pair pairs entries false rec = rec
 
   -- the store sees them as its entries
-  pub seen_in_use : (pairs : Pairs) → map entry_of (pairs_in_use ids pairs) ≡ held_in_use ids (map entry_of pairs)
+  pub seen_in_use : (pairs : PodsById) → map entry_of (pairs_in_use ids pairs) ≡ held_in_use ids (map entry_of pairs)
   seen_in_use [] = refl
   seen_in_use (pair ∷ later) = step pair (filter (is_pair_held ids) later) (filter (is_held ids) (map entry_of later)) (is_pair_held ids pair) (seen_in_use later)
 
@@ -54,5 +54,5 @@ module _ (set ids : List (List ℕ)) (same : (id : List ℕ) → is_one_of set i
       ∙ alike_by e later (not e.used || is_one_of ids e.id) (held_alike later)
 
   -- so they are what a store sees that keeps them by it
-  pub seen_alike : (pairs : Pairs) → map entry_of (pairs_in_use set pairs) ≡ held_in_use ids (map entry_of pairs)
+  pub seen_alike : (pairs : PodsById) → map entry_of (pairs_in_use set pairs) ≡ held_in_use ids (map entry_of pairs)
   seen_alike pairs = seen_in_use set pairs ∙ held_alike (map entry_of pairs)

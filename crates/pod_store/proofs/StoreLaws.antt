@@ -12,7 +12,7 @@ use Rattle.pod_store.specs.declared.Decisions.TheVariants.{Breaks, Withdraw, Fal
 use Rattle.pod_store.specs.declared.fault.DecisionKind.TheVariants.{Used, Unknown}
 use Rattle.spec_words.specs.Outcomes.{refuse_if}
 use Rattle.pod_store.specs.Outcome.{fault_at, nowhere}
-use Rattle.pod_store.specs.Store.{Entry, Store, with_entries, has_id, entry_for, own_pod, pod_for, is_used, is_used_entry, has_own, is_named, is_named_if_any, names_used, put, without, marked_used, with_used, with_all, withdrawn, copied_last, with_copy, with_copies, adopted, is_one_of, is_held, held_in_use, kept_in_use}
+use Rattle.pod_store.specs.Store.{Entry, Store, with_entries, has_id, entry_for, own_pod, pod_for, is_used, is_used_entry, has_own, is_named, is_named_if_any, names_used, put, without_pod, marked_used, with_used, with_all, withdrawn, copied_last, with_copy, with_copies, adopted, is_one_of, is_held, held_in_use, kept_in_use}
 use Rattle.pod_store.proofs.Copies.{none_there, entry_in, pod_if, pod_at, copies_pod, other_stands, entry_stays}
 use Rattle.pod_store.specs.Laws.{Call, decide, keep_in_use, accepted, after_call, after_calls, are_distinct, StaysSmall, UsedPodsStay, LastPodStands, KeepingIsAdopting, pod_in, pod_after}
 
@@ -57,11 +57,11 @@ distinct_all : (ds : List Decision) (store : List Entry) → are_distinct store 
 distinct_all [] store h = h
 distinct_all (d ∷ ds) store h = distinct_all ds (put store d) (distinct_put store d h)
 
-none_without : (p : Entry → Bool) (id : List ℕ) (store : List Entry) → list_any p store ≡ false → list_any p (without id store) ≡ false
+none_without : (p : Entry → Bool) (id : List ℕ) (store : List Entry) → list_any p store ≡ false → list_any p (without_pod id store) ≡ false
 none_without p id [] h = refl
 none_without p id (e ∷ store) h = grind (arith, none_without p id store)
 
-distinct_without : (id : List ℕ) (store : List Entry) → are_distinct store ≡ true → are_distinct (without id store) ≡ true
+distinct_without : (id : List ℕ) (store : List Entry) → are_distinct store ≡ true → are_distinct (without_pod id store) ≡ true
 distinct_without id [] h = refl
 distinct_without id (e ∷ store) h = grind (arith, distinct_without id store, none_without)
 
@@ -103,7 +103,7 @@ as_many : (b : Bool) (m n : ℕ) → m ≤ n → plus b m ≤ plus b n
 as_many true m n h = omega (arith, h)
 as_many false m n h = h
 
-count_without : (id : List ℕ) (store : List Entry) → count (without id store) ≤ count store
+count_without : (id : List ℕ) (store : List Entry) → count (without_pod id store) ≤ count store
 count_without id [] = omega arith
 count_without id (e ∷ store) = grind (arith, count_without id store)
 
@@ -155,14 +155,14 @@ IsSmall store = (are_distinct store ≡ true) × (count store ≤ most_breaks)
 small_all : (ds : List Decision) (store : Store) → IsSmall store.entries → IsSmall (accepted store (with_all store ds)).entries
 small_all ds store h = grind (arith, count_all, distinct_all)
 
-small_without : (id : List ℕ) (store : List Entry) → IsSmall store → IsSmall (without id store)
+small_without : (id : List ℕ) (store : List Entry) → IsSmall store → IsSmall (without_pod id store)
 small_without id store h = grind (arith, count_without, distinct_without)
 
 small_withdrawn : (id : List ℕ) (store : Store) → IsSmall store.entries → IsSmall (accepted store (withdrawn store id)).entries
 small_withdrawn id store h = by (not (has_own store id)) (is_used store id)
   where
     by : (unknown used : Bool)
-        → IsSmall (accepted store (refuse_if unknown (fault_at nowhere Unknown) (refuse_if used (fault_at nowhere Used) (Ok (with_entries store (without id store.entries)))))).entries
+        → IsSmall (accepted store (refuse_if unknown (fault_at nowhere Unknown) (refuse_if used (fault_at nowhere Used) (Ok (with_entries store (without_pod id store.entries)))))).entries
     by true used = h
     by false true = h
     by false false = small_without id store.entries h
@@ -226,7 +226,7 @@ put_other : (id : List ℕ) (d : Decision) (store : List Entry) → bytes_eq id 
 put_other id d [] other = grind arith
 put_other id d (e ∷ store) other = grind (arith, put_other id d store other, bytes_eq-Decides)
 
-drop_other : (id other : List ℕ) (store : List Entry) → bytes_eq id other ≡ false → entry_in (without other store) id ≡ entry_in store id
+drop_other : (id other : List ℕ) (store : List Entry) → bytes_eq id other ≡ false → entry_in (without_pod other store) id ≡ entry_in store id
 drop_other id other [] h = refl
 drop_other id other (e ∷ store) h = grind (arith, drop_other id other store h, bytes_eq-Decides)
 
@@ -257,15 +257,15 @@ put_pods id [] store = refl
 put_pods id (d ∷ ds) store = grind (arith, put_pods id ds (put store d), put_pod)
 
 -- if no break stands twice, one that is taken away stands no more
-own_dropped : (id : List ℕ) (store : List Entry) → are_distinct store ≡ true → entry_in (without id store) id ≡ None
+own_dropped : (id : List ℕ) (store : List Entry) → are_distinct store ≡ true → entry_in (without_pod id store) id ≡ None
 own_dropped id [] h = refl
 own_dropped id (e ∷ store) h = by (bytes_eq id e.id) refl (and_parts _ _ h) (own_dropped id store)
   where
-    by : (b : Bool) → bytes_eq id e.id ≡ b → (not (stands e.id store) ≡ true) × (are_distinct store ≡ true) → (are_distinct store ≡ true → entry_in (without id store) id ≡ None) → entry_in (cond b store (e ∷ without id store)) id ≡ None
+    by : (b : Bool) → bytes_eq id e.id ≡ b → (not (stands e.id store) ≡ true) × (are_distinct store ≡ true) → (are_distinct store ≡ true → entry_in (without_pod id store) id ≡ None) → entry_in (cond b store (e ∷ without_pod id store)) id ≡ None
     by true same p rec = none_there _ (found_stands id store ∙ (ap (λ i. stands i store) ((bytes_eq-Decides id e.id).0 same) ∙ not_true _ p.0))
-    by false same p rec = ap (λ b. cond b (Some e) (entry_in (without id store) id)) same ∙ rec p.1
+    by false same p rec = ap (λ b. cond b (Some e) (entry_in (without_pod id store) id)) same ∙ rec p.1
 
-dropped : (id other : List ℕ) (store : List Entry) → are_distinct store ≡ true → pod_at (without other store) id ≡ cond (bytes_eq id other) None (pod_at store id)
+dropped : (id other : List ℕ) (store : List Entry) → are_distinct store ≡ true → pod_at (without_pod other store) id ≡ cond (bytes_eq id other) None (pod_at store id)
 dropped id other store h = grind (arith, bytes_eq-Decides, drop_other, own_dropped)
 
 -- ---- which breaks are in use

@@ -14,7 +14,7 @@ use Rattle.playlist_model.specs.declared.ByteRange.{ByteRange}
 use Rattle.playlist_model.specs.declared.InitSection.{InitSection}
 use Rattle.playlist_model.specs.declared.Key.{Key}
 use Rattle.playlist_model.specs.Inner.Lines.{is_printable}
-use Rattle.pod_store.specs.Pods.{PodSegment, Ad, is_uri_byte, goes_on_from, is_web, is_uri, is_method}
+use Rattle.pod_store.specs.Pods.{PodSegment, Ad, is_uri_byte, goes_on_from, is_web, is_uri, is_key_method}
 use Rattle.playlist_model.specs.Reading.{needs_iv}
 use Rattle.playlist_model.specs.Uri.{has_scheme}
 use Rattle.playlist_model.proofs.Printable.{ascii, printable_has_no_control}
@@ -61,7 +61,7 @@ quoted_uri_is_fit uri h = grind (arith, and_parts, none_from, uri_is_clean, web_
 name_byte_printable : (b : ℕ) → is_name_byte b ≡ true → is_printable b ≡ true
 name_byte_printable b h = grind (arith, nat_tests)
 
-method_is_fit : (method : List ℕ) → is_method method ≡ true → fit.method_fits method ≡ true
+method_is_fit : (method : List ℕ) → is_key_method method ≡ true → fit.method_fits method ≡ true
 method_is_fit method h = grind (arith, all_from, and_parts, clean, name_byte_printable, none_from)
 
 byte_range_is_fit : (byte_range : Option ByteRange) → byte_range_fits byte_range ≡ true → fit.if_some fit.byte_range_fits byte_range ≡ true

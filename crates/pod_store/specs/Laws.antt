@@ -7,7 +7,7 @@ use Rattle.pod_store.specs.Pods.{PodSegment, Ad, Pod, Decision}
 use Rattle.writable.specs.Fitting.{if_some, uri_fits, byte_range_fits, duration_fits, effective_keys_fit, init_section_fits}
 use Rattle.pod_store.specs.declared.Decisions.{Decisions}
 use Rattle.pod_store.specs.declared.Decisions.TheVariants.{Breaks, Withdraw, Fallback, NoFallback}
-use Rattle.pod_store.specs.Outcome.{Outcome}
+use Rattle.pod_store.specs.Outcome.{DecisionOutcome}
 use Rattle.pod_store.specs.Rules.{ads_keep}
 use Rattle.pod_store.specs.Store.{Entry, Store, nothing_decided, has_id, is_named, entry_for, own_pod, is_used, with_all, withdrawn, decided, is_one_of, held_in_use, kept_in_use, adopted, with_entries}
 
@@ -20,7 +20,7 @@ pub data Call : Type 0 where
   keep_in_use : List (List ℕ) → Call
 
 -- a refused call leaves the store as it was
-abbrev pub accepted : Store → Outcome Store → Store
+abbrev pub accepted : Store → DecisionOutcome Store → Store
 accepted store (Ok new) = new
 accepted store (Err e) = store
 
@@ -61,12 +61,12 @@ pod_in id [] = None
 pod_in id (d ∷ later) = or_earlier (pod_in id later) (if bytes_eq id d.0 then Some d.1 else None)
 
 -- what a break has that has what stood before, if these decisions are taken
-abbrev pub pod_given : List ℕ → List Decision → Option Pod → Outcome Store → Option Pod
+abbrev pub pod_given : List ℕ → List Decision → Option Pod → DecisionOutcome Store → Option Pod
 pod_given id decisions before (Ok new) = or_earlier (pod_in id decisions) before
 pod_given id decisions before (Err e) = before
 
 -- the same if this break's pod is taken away
-abbrev pub pod_left : Bool → Option Pod → Outcome Store → Option Pod
+abbrev pub pod_left : Bool → Option Pod → DecisionOutcome Store → Option Pod
 pod_left is_this before (Ok new) = if is_this then None else before
 pod_left is_this before (Err e) = before
 

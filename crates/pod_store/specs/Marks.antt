@@ -3,11 +3,21 @@
 use Rattle.std.specs.Prelude.{ℕ, Bool, false, List, [], ◌∷◌, ℤ, Option, Some, None, bytes_eq}
 use Rattle.playlist_model.specs.declared.Segment.{Segment}
 use Rattle.pod_store.specs.Pods.{Pod}
+use Rattle.pod_store.specs.Store.{Store, pod_for}
 
 -- a break, with the pod that it had when its run was entered
 pub record Mark : Type 0 where
   pub id : List ℕ
   pub pod : Pod
+
+abbrev pub mark_with : List ℕ → Option Pod → Option Mark
+mark_with id None = None
+mark_with id (Some pod) = Some (record { id = id; pod = pod })
+
+-- the break of an ID, with the pod that it has in the store
+abbrev pub mark_in : Store → Option (List ℕ) → Option Mark
+mark_in store None = None
+mark_in store (Some id) = mark_with id (pod_for store id)
 
 -- a segment, the instant at which it begins if it has one, and the break that it is marked with
 pub record Marked : Type 0 where

@@ -5,7 +5,7 @@ use Rattle.playlist_model.specs.declared.ByteRange.{ByteRange}
 use Rattle.playlist_model.specs.declared.InitSection.{InitSection}
 use Rattle.playlist_model.specs.declared.Key.{Key}
 use Rattle.pod_store.specs.Limits.{most_pod_segments}
-use Rattle.pod_store.specs.Pods.{PodSegment, Ad, is_uri, is_method, is_format, segment_count}
+use Rattle.pod_store.specs.Pods.{PodSegment, Ad, is_uri, is_key_method, is_format, segment_count}
 use Rattle.writable.specs.Fitting.{iv_fits, duration_fits}
 
 abbrev pub byte_range_fits : Option ByteRange → Bool
@@ -22,7 +22,7 @@ iv_keeps None = false
 iv_keeps (Some iv) = iv_fits iv
 
 abbrev pub key_keeps : Key → Bool
-key_keeps k = is_method k.method && is_uri k.uri && iv_keeps k.iv && is_format k.format && length k.other_attributes == 0
+key_keeps k = is_key_method k.method && is_uri k.uri && iv_keeps k.iv && is_format k.format && length k.other_attributes == 0
 
 -- it has no other keys than an ad can have
 abbrev pub init_section_keeps : Option InitSection → Bool

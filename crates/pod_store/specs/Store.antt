@@ -9,7 +9,7 @@ use Rattle.pod_store.specs.declared.fault.DecisionKind.TheVariants.{Used, Full, 
 use Rattle.pod_store.specs.declared.Decisions.{Decisions}
 use Rattle.pod_store.specs.declared.Decisions.TheVariants.{Breaks, Withdraw, Fallback, NoFallback}
 use Rattle.spec_words.specs.Outcomes.{refuse_if}
-use Rattle.pod_store.specs.Outcome.{Outcome, nowhere, fault_at, Refuses}
+use Rattle.pod_store.specs.Outcome.{DecisionOutcome, nowhere, fault_at, RefusesByDecisionFault}
 
 -- a break with its pod: one that a decision gave it, or a copy of the fallback that it was entered with; and whether the
 -- break is used
@@ -49,16 +49,16 @@ abbrev pub pod_for : Store → List ℕ → Option Pod
 pod_for store id = or_earlier (own_pod store id) store.fallback
 
 -- no break has a pod that it can be filled with
-abbrev pub is_empty : Store → Bool
-is_empty store = length store.entries == 0 && is_none store.fallback
+abbrev pub has_no_pod : Store → Bool
+has_no_pod store = length store.entries == 0 && is_none store.fallback
 
 abbrev pub fits_of : ℕ → Bool → Option Pod → Bool
 fits_of target with_init_sections None = false
 fits_of target with_init_sections (Some pod) = pod_fits target with_init_sections pod
 
 -- the break has a pod that it can be filled with, and that fits
-abbrev pub fits : Store → List ℕ → ℕ → Bool → Bool
-fits store id target with_init_sections = fits_of target with_init_sections (pod_for store id)
+abbrev pub has_fitting_pod : Store → List ℕ → ℕ → Bool → Bool
+has_fitting_pod store id target with_init_sections = fits_of target with_init_sections (pod_for store id)
 
 abbrev pub is_used_entry : Option Entry → Bool
 is_used_entry None = false
@@ -74,9 +74,9 @@ abbrev pub put : List Entry → Decision → List Entry
 put [] d = record { id = d.0; pod = d.1; used = false; copied = false } ∷ []
 put (e ∷ later) d = if has_id d.0 e then record { id = e.id; pod = d.1; used = false; copied = false } ∷ later else e ∷ put later d
 
-abbrev pub without : List ℕ → List Entry → List Entry
-without id [] = []
-without id (e ∷ later) = if has_id id e then later else e ∷ without id later
+abbrev pub without_pod : List ℕ → List Entry → List Entry
+without_pod id [] = []
+without_pod id (e ∷ later) = if has_id id e then later else e ∷ without_pod id later
 
 abbrev pub marked_used : List ℕ → List Entry → List Entry
 marked_used id [] = []
@@ -107,19 +107,19 @@ count_with store decisions = length (filter (is_new_decision store) decisions) +
 abbrev pub names_used : Store → Decision → Bool
 names_used store d = is_used store d.0
 
-abbrev pub with_all : Store → List Decision → Outcome Store
+abbrev pub with_all : Store → List Decision → DecisionOutcome Store
 with_all store decisions =
     refuse_if (list_any (names_used store) decisions) (fault_at nowhere Used)
     (refuse_if (nat_lt most_breaks (count_with store decisions)) (fault_at nowhere Full)
     (Ok (with_entries store (fold put store.entries decisions))))
 
-abbrev pub withdrawn : Store → List ℕ → Outcome Store
+abbrev pub withdrawn : Store → List ℕ → DecisionOutcome Store
 withdrawn store id =
     refuse_if (not (has_own store id)) (fault_at nowhere Unknown)
-    (refuse_if (is_used store id) (fault_at nowhere Used) (Ok (with_entries store (without id store.entries))))
+    (refuse_if (is_used store id) (fault_at nowhere Used) (Ok (with_entries store (without_pod id store.entries))))
 
 -- the store after decisions, or why they are refused; a fallback takes the place of the one before
-abbrev pub decided : Store → Decisions → Outcome Store
+abbrev pub decided : Store → Decisions → DecisionOutcome Store
 decided store (Breaks decisions) = with_all store decisions
 decided store (Withdraw id) = withdrawn store id
 decided store (Fallback pod) = Ok (record { entries = store.entries; fallback = Some pod })
@@ -161,9 +161,9 @@ abbrev pub kept_in_use : List (List ℕ) → Store → Store
 kept_in_use ids store = with_entries store (held_in_use ids (with_copies store ids).entries)
 
 -- the store is the one owed; or the fault is, a failed allocation apart, and the store is as it was
-abbrev pub Changes : Store → Store → Result (Unit {0}) DecisionFault → Outcome Store → Type 0
-Changes old new result outcome = MatchResult result (λ _. outcome ≡ Ok new) (λ e. (new ≡ old) × Refuses e outcome)
+abbrev pub Changes : Store → Store → Result (Unit {0}) DecisionFault → DecisionOutcome Store → Type 0
+Changes old new result outcome = MatchResult result (λ _. outcome ≡ Ok new) (λ e. (new ≡ old) × RefusesByDecisionFault e outcome)
 
 -- the same of a call that takes no memory: the fault is the one owed
-abbrev pub ChangesExactly : Store → Store → Result (Unit {0}) DecisionFault → Outcome Store → Type 0
+abbrev pub ChangesExactly : Store → Store → Result (Unit {0}) DecisionFault → DecisionOutcome Store → Type 0
 ChangesExactly old new result outcome = MatchResult result (λ _. outcome ≡ Ok new) (λ e. (new ≡ old) × (outcome ≡ Err e))

@@ -3,7 +3,7 @@ ghost use Rattle.std.specs.Prelude.{◌≡◌, ◌+◌, ◌==◌, ◌≤◌, ◌
 ghost use Rattle.std.specs.List.{list_all, list_any};
 ghost use Rattle.std.specs.Option.{option_copied};
 ghost use Rattle.pod_store.specs.Pods.{init_section_fits, segment_fits, ad_fits, pod_fits};
-ghost use Rattle.pod_store.specs.Store.{nothing_decided, with_entries, names_used, put, entry_for, has_own, own_pod, pod_for, fits, is_empty, is_used, is_named_if_any, with_all, withdrawn, decided, with_copy, with_copies, adopted, kept_in_use, is_new_decision, Changes, ChangesExactly};
+ghost use Rattle.pod_store.specs.Store.{nothing_decided, with_entries, names_used, put, entry_for, has_own, own_pod, pod_for, has_fitting_pod, has_no_pod, is_used, is_named_if_any, with_all, withdrawn, decided, with_copy, with_copies, adopted, kept_in_use, is_new_decision, Changes, ChangesExactly};
 ghost use Rattle.pod_store.specs.Inner.Store.{GrowsBy};
 ghost use Rattle.pod_store.specs.Outcome.{no_memory};
 ghost use Rattle.spec_words.specs.Outcomes.{Tells};
@@ -118,7 +118,7 @@ impl PodStore {
 
     /// Whether no break has a pod, and there is no fallback.
     pub fn is_empty(&self) -> bool
-        ensures { result ≡ is_empty self.now }
+        ensures { result ≡ has_no_pod self.now }
     {
         self.kept.len() == 0 && self.fallback.is_none()
     }
@@ -157,7 +157,7 @@ impl PodStore {
     /// in seconds, and of `with_init_sections`. A pod of the break's own that doesn't fit isn't replaced by the fallback. Takes
     /// no memory.
     pub fn fits(&self, id: &str, target: u64, with_init_sections: bool) -> bool
-        ensures { result ≡ fits self.now id.now target with_init_sections }
+        ensures { result ≡ has_fitting_pod self.now id.now target with_init_sections }
     {
         match self.pod_for(id) {
             Some(pod) => pod.fits(target, with_init_sections),

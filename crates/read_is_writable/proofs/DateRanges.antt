@@ -12,14 +12,14 @@ use Rattle.spec_words.specs.Outcomes.{refuse_if, optional}
 use Rattle.playlist_model.specs.Said.{Name, date_range_tag, unknown_tag, Said, nothing, date_range, Outcome, Reader, attributes, required, time_of, length_of, date_range_said}
 use Rattle.playlist_model.specs.LookBack.{is_media, date_ranges_of}
 use Rattle.playlist_model.specs.Reading.{name_of, said_by_tag, said_by_kind, said_by, said_from}
-use Rattle.read_is_writable.specs.Read.{IsSaid}
+use Rattle.read_is_writable.specs.Read.{IsSaidBy}
 use Rattle.read_is_writable.proofs.Gives.{Gives, answers, after}
 use Rattle.read_is_writable.proofs.Lines.{line_was}
 use Rattle.read_is_writable.proofs.OwnKinds.{is_of, tag_kind, uri_kind}
 
 -- what is said is another thing, or a date range that its own text says
 pub Says : Reader → Said → Type 0
-Says reader (date_range r) = IsSaid reader r
+Says reader (date_range r) = IsSaidBy reader r
 Says reader _ = Unit {0}
 
 record SaysIt (reader : Reader) (o : Outcome Said) : Type 0 where
@@ -104,10 +104,10 @@ all_append P [] x h p = (p, tt)
 all_append P (y ∷ ys) x h p = (h.0, all_append P ys x h.1 p)
 
 -- the date ranges are those that their texts say
-pub date_ranges_said : (reader : Reader) (said : List Said) → AllByRecursion (Says reader) said → AllByRecursion (IsSaid reader) (date_ranges_of said)
+pub date_ranges_said : (reader : Reader) (said : List Said) → AllByRecursion (Says reader) said → AllByRecursion (IsSaidBy reader) (date_ranges_of said)
 unfolding Says
 date_ranges_said reader [] h = tt
-date_ranges_said reader (date_range r ∷ before) h = all_append (IsSaid reader) (date_ranges_of before) r (date_ranges_said reader before h.1) h.0
+date_ranges_said reader (date_range r ∷ before) h = all_append (IsSaidBy reader) (date_ranges_of before) r (date_ranges_said reader before h.1) h.0
 date_ranges_said reader (_ ∷ before) h = date_ranges_said reader before h.1
 
 pub first_says : (reader : Reader) → AllByRecursion (Says reader) (nothing ∷ [])

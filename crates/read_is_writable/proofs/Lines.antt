@@ -12,7 +12,7 @@ use Rattle.date_times.specs.Instant.{instant_of, in_range}
 use Rattle.playlist_model.specs.declared.FaultKind.TheVariants as fault
 use Rattle.playlist_model.specs.Lines.{Kind, ignored, uri, tag, kind_of, has_control}
 use Rattle.spec_words.specs.Outcomes.{or_fault, mended, optional}
-use Rattle.playlist_model.specs.Said.{Name, sequence_tag, version_tag, target_tag, discontinuity_sequence_tag, type_tag, ended_tag, independent_tag, frames_tag, master_tag, duration_tag, byte_range_tag, discontinuity_tag, key_tag, init_section_tag, time_tag, date_range_tag, unknown_tag, Said, nothing, version, target, sequence, discontinuity_sequence, playlist_type, ended, independent, duration, byte_range, discontinuity, no_keys, init_section, time, media, Outcome, number, version_of, playlist_type_of, byte_range_of, duration_said, key_said, init_section_said, date_range_said, attributes, required, iv_of, quoted_of, uri_of, init_section_byte_range, time_of, length_of, set_key, byte_range_end_fits, key, date_range}
+use Rattle.playlist_model.specs.Said.{Name, sequence_tag, version_tag, target_tag, discontinuity_sequence_tag, type_tag, ended_tag, independent_tag, frames_tag, master_tag, duration_tag, byte_range_tag, discontinuity_tag, key_tag, init_section_tag, time_tag, date_range_tag, unknown_tag, Said, nothing, version, target, sequence, discontinuity_sequence, playlist_type, ended, independent, duration, byte_range, discontinuity, no_keys, init_section, time, media, Outcome, number_said, version_of, playlist_type_of, byte_range_of, duration_said, key_said, init_section_said, date_range_said, attributes, required, iv_of, quoted_of, uri_of, init_section_byte_range, time_of, length_of, set_key, byte_range_end_fits, key, date_range}
 use Rattle.playlist_model.specs.LookBack.{the_version, the_target, the_sequence, the_discontinuity_sequence, the_type, is_media, is_discontinuity, is_ended, own_duration, byte_range_at, keys_at, discontinuity_at, media_sequence_at}
 use Rattle.playlist_model.specs.Reading.{name_of, has, is_set, passes, needs_iv, said_by_tag, said_by_kind, said_by, said_from, at_line, Fault, unlimited}
 use Rattle.playlist_write.specs.WellFormed.{is_word, duration_fits}
@@ -59,7 +59,7 @@ good_parts before said h = and_parts (is_fit said) (is_placed before said) h
 good : (before : List Said) (said : Said) → is_fit said ≡ true → is_placed before said ≡ true → Gives (is_good before) (Ok said)
 good before said h g = answers (is_good before) said (and_from _ _ h g)
 
-number_fits : (rest : List ℕ) → Gives is_word (number rest)
+number_fits : (rest : List ℕ) → Gives is_word (number_said rest)
 number_fits rest = found is_word fault.BadValue (decimal_of rest) (λ n e. decimal_is_word rest n e)
 
 version_of_fits : (rest : List ℕ) → Gives version_reads (version_of rest)
@@ -132,12 +132,12 @@ module _ (before : List Said) where
 
   by_tag : (base : Parts) (name : Name) (rest : List ℕ) → Clean rest → Gives (is_good before) (said_by_tag unlimited base before name rest)
   by_tag base version_tag rest c = refused _ (is_set the_version before) _ _ (bound version_reads _ (version_of rest) _ (version_of_fits rest) (λ n h. good before (version n) h refl))
-  by_tag base target_tag rest c = refused _ (is_set the_target before) _ _ (bound is_word _ (number rest) _ (number_fits rest) (λ n h. good before (target n) h refl))
+  by_tag base target_tag rest c = refused _ (is_set the_target before) _ _ (bound is_word _ (number_said rest) _ (number_fits rest) (λ n h. good before (target n) h refl))
   by_tag base sequence_tag rest c =
-      refused _ (is_set the_sequence before) _ _ (guarded _ (has is_media before) _ _ (λ none. bound is_word _ (number rest) _ (number_fits rest) (λ n h. good before (sequence n) h (not_from_false _ none))))
+      refused _ (is_set the_sequence before) _ _ (guarded _ (has is_media before) _ _ (λ none. bound is_word _ (number_said rest) _ (number_fits rest) (λ n h. good before (sequence n) h (not_from_false _ none))))
   by_tag base discontinuity_sequence_tag rest c =
       refused _ (is_set the_discontinuity_sequence before) _ _ (guarded _ (has is_media before || has is_discontinuity before) _ _ (λ none.
-      bound is_word _ (number rest) _ (number_fits rest) (λ n h. let a = or_parts (has is_media before) (has is_discontinuity before) none in good before (discontinuity_sequence n) h (and_from _ _ (not_from_false _ a.0) (not_from_false _ a.1)))))
+      bound is_word _ (number_said rest) _ (number_fits rest) (λ n h. let a = or_parts (has is_media before) (has is_discontinuity before) none in good before (discontinuity_sequence n) h (and_from _ _ (not_from_false _ a.0) (not_from_false _ a.1)))))
   by_tag base type_tag rest c = refused _ (is_set the_type before) _ _ (after _ (playlist_type_of rest) _ (λ kind. good before (playlist_type kind) refl refl))
   by_tag base ended_tag rest c = refused _ (has is_ended before) _ _ (good before ended refl refl)
   by_tag base independent_tag rest c = good before independent refl refl

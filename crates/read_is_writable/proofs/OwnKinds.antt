@@ -8,7 +8,7 @@ use Rattle.attr_list.specs.Attributes.{attribute}
 use Rattle.date_times.specs.Instant.{instant_of}
 use Rattle.playlist_model.specs.declared.FaultKind.TheVariants as fault
 use Rattle.spec_words.specs.Outcomes.{or_fault, mended, optional}
-use Rattle.playlist_model.specs.Said.{Name, sequence_tag, version_tag, target_tag, discontinuity_sequence_tag, type_tag, ended_tag, independent_tag, frames_tag, master_tag, duration_tag, byte_range_tag, discontinuity_tag, key_tag, init_section_tag, time_tag, date_range_tag, unknown_tag, Said, nothing, version, target, sequence, discontinuity_sequence, playlist_type, ended, independent, duration, byte_range, discontinuity, no_keys, key, init_section, time, date_range, media, Reader, over, number, version_of, playlist_type_of, byte_range_of, attributes, required, iv_of, quoted_of, uri_of, init_section_byte_range, time_of, length_of, key_said, init_section_said, date_range_said}
+use Rattle.playlist_model.specs.Said.{Name, sequence_tag, version_tag, target_tag, discontinuity_sequence_tag, type_tag, ended_tag, independent_tag, frames_tag, master_tag, duration_tag, byte_range_tag, discontinuity_tag, key_tag, init_section_tag, time_tag, date_range_tag, unknown_tag, Said, nothing, version, target, sequence, discontinuity_sequence, playlist_type, ended, independent, duration, byte_range, discontinuity, no_keys, key, init_section, time, date_range, media, Reader, over, number_said, version_of, playlist_type_of, byte_range_of, attributes, required, iv_of, quoted_of, uri_of, init_section_byte_range, time_of, length_of, key_said, init_section_said, date_range_said}
 use Rattle.playlist_model.specs.LookBack.{the_version, the_target, the_sequence, the_discontinuity_sequence, the_type, is_media, is_discontinuity, is_ended, count, own_duration, byte_range_at, keys_at, discontinuity_at, media_sequence_at}
 use Rattle.playlist_model.specs.Reading.{has, is_set, passes, needs_iv, said_by_tag, said_by_uri}
 use Rattle.read_is_writable.proofs.Gives.{Gives, answers, fails, refused, chosen, bound, after}
@@ -54,11 +54,11 @@ module _ (reader : Reader) (base : Parts) where
 
   pub tag_kind : (before : List Said) (name : Name) (rest : List ℕ) → Gives (is_of name) (said_by_tag reader base before name rest)
   tag_kind before version_tag rest = refused _ (is_set the_version before) _ _ (after _ (version_of rest) _ (λ n. answers (is_of version_tag) (version n) refl))
-  tag_kind before target_tag rest = refused _ (is_set the_target before) _ _ (after _ (number rest) _ (λ n. answers (is_of target_tag) (target n) refl))
-  tag_kind before sequence_tag rest = refused _ (is_set the_sequence before) _ _ (refused _ (has is_media before) _ _ (after _ (number rest) _ (λ n. answers (is_of sequence_tag) (sequence n) refl)))
+  tag_kind before target_tag rest = refused _ (is_set the_target before) _ _ (after _ (number_said rest) _ (λ n. answers (is_of target_tag) (target n) refl))
+  tag_kind before sequence_tag rest = refused _ (is_set the_sequence before) _ _ (refused _ (has is_media before) _ _ (after _ (number_said rest) _ (λ n. answers (is_of sequence_tag) (sequence n) refl)))
   tag_kind before discontinuity_sequence_tag rest =
       refused _ (is_set the_discontinuity_sequence before) _ _ (refused _ (has is_media before || has is_discontinuity before) _ _
-      (after _ (number rest) _ (λ n. answers (is_of discontinuity_sequence_tag) (discontinuity_sequence n) refl)))
+      (after _ (number_said rest) _ (λ n. answers (is_of discontinuity_sequence_tag) (discontinuity_sequence n) refl)))
   tag_kind before type_tag rest = refused _ (is_set the_type before) _ _ (after _ (playlist_type_of rest) _ (λ kind. answers (is_of type_tag) (playlist_type kind) refl))
   tag_kind before ended_tag rest = refused _ (has is_ended before) _ _ (answers (is_of ended_tag) ended refl)
   tag_kind before independent_tag rest = answers (is_of independent_tag) independent refl

@@ -7,7 +7,7 @@ use Rattle.url.specs.Parser.{Parsed, parse_url}
 use Rattle.attr_list.specs.Attributes.{Pair, is_value}
 use Rattle.attr_list.specs.Numbers.{hex_of}
 use Rattle.playlist_model.specs.declared.FaultKind.TheVariants as fault
-use Rattle.playlist_model.specs.Uri.{has_scheme, can_be_written, joined, resolved}
+use Rattle.playlist_model.specs.Uri.{has_scheme, can_be_written, text_of_join, resolved}
 use Rattle.playlist_model.specs.Said.{value_if, iv_of, uri_of, byte_range_of, init_section_byte_range, byte_range_end_fits}
 use Rattle.playlist_model.specs.Carried.{after_commas, carried}
 use Rattle.writable.specs.Fitting.{if_some, is_clean, value_fits, method_fits, iv_fits, byte_range_fits}
@@ -37,7 +37,7 @@ init_section_byte_range_fits pair = grind arith
 
 -- ---- URIs
 
-joined_fits : (p : List ℕ → Bool) (url : Parsed Parts) (text : List ℕ) → ((t : List ℕ) → can_be_written t ≡ true → p t ≡ true) → joined url ≡ Some text → p text ≡ true
+joined_fits : (p : List ℕ → Bool) (url : Parsed Parts) (text : List ℕ) → ((t : List ℕ) → can_be_written t ≡ true → p t ≡ true) → text_of_join url ≡ Some text → p text ≡ true
 joined_fits p (Ok url) text f h =
     let w = where_some (can_be_written (serialize url)) (serialize url) text h in ap p (sym w.1) ∙ f (serialize url) w.0
 joined_fits p (Err e) text f h = cc
@@ -46,7 +46,7 @@ resolved_fits : (p : List ℕ → Bool) (base : Parts) (reference text : List �
     → resolved base reference ≡ Some text → p text ≡ true
 resolved_fits p base reference text g f h = by (has_scheme reference) (parse_url (Some base) reference) g h
   where
-    by : (b : Bool) (url : Parsed Parts) → (b ≡ true → p reference ≡ true) → cond b (Some reference) (joined url) ≡ Some text → p text ≡ true
+    by : (b : Bool) (url : Parsed Parts) → (b ≡ true → p reference ≡ true) → cond b (Some reference) (text_of_join url) ≡ Some text → p text ≡ true
     by true url g h = let e : reference ≡ text = cc in ap p (sym e) ∙ g refl
     by false url g h = joined_fits p url text f h
 

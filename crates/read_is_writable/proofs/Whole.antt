@@ -13,7 +13,7 @@ use Rattle.playlist_model.specs.Reading.{has, has_init_section, are_mixed, is_se
 use Rattle.playlist_model.proofs.LimitLaws.{reads_what_is_denoted}
 use Rattle.playlist_write.specs.WellFormed.{is_word}
 use Rattle.writable.specs.Fitting.{if_some}
-use Rattle.read_is_writable.specs.Read.{version_reads, init_sections_agree, IsSaid, AreRead, numbers_read, segment_reads, text_is_clean}
+use Rattle.read_is_writable.specs.Read.{version_reads, init_sections_agree, IsSaidBy, AreRead, numbers_read, segment_reads, text_is_clean}
 use Rattle.read_is_writable.proofs.Lines.{is_fit, all_good, good_from, all_fit}
 use Rattle.read_is_writable.proofs.Numbers.{numbers_rise}
 use Rattle.read_is_writable.proofs.Segments.{latest_fits, or_default, segments_fit, texts_clean}
@@ -60,9 +60,9 @@ text_was : (reader : Reader) (base : Parts) (bytes : List ℕ) (p : Playlist) �
 text_was reader base bytes p h = grind arith
 
 -- what holds of the date ranges of a playlist
-date_ranges_are : (reader : Reader) (base : Parts) (texts : List (List ℕ)) (p : Playlist) → Lines reader base texts p → AllByRecursion (IsSaid reader) p.date_ranges
+date_ranges_are : (reader : Reader) (base : Parts) (texts : List (List ℕ)) (p : Playlist) → Lines reader base texts p → AllByRecursion (IsSaidBy reader) p.date_ranges
 date_ranges_are reader base texts p l =
-    subst (λ (q : Playlist). AllByRecursion (IsSaid reader) q.date_ranges) l.whole
+    subst (λ (q : Playlist). AllByRecursion (IsSaidBy reader) q.date_ranges) l.whole
     (date_ranges_said reader l.said (says_from reader base (nothing ∷ []) l.later l.said (first_says reader) l.from))
 
 pub can_be_written : (reader : Reader) (base : Parts) (bytes : List ℕ) (p : Playlist) → reading reader base bytes ≡ Ok p → AreRead reader p

@@ -94,8 +94,8 @@ abbrev pub init_sections_agree : List Segment → Bool
 init_sections_agree segments = list_all has_init_section segments || not (list_any has_init_section segments)
 
 -- a date range that its own text says
-abbrev pub IsSaid : Reader → DateRange → Type 0
-IsSaid reader r = date_range_said reader r.attributes ≡ Ok (date_range r)
+abbrev pub IsSaidBy : Reader → DateRange → Type 0
+IsSaidBy reader r = date_range_said reader r.attributes ≡ Ok (date_range r)
 
 abbrev pub text_is_clean : DateRange → Bool
 text_is_clean r = is_clean r.attributes
@@ -106,5 +106,5 @@ pub record AreRead (reader : Reader) (p : Playlist) : Type 0 where
   pub numbers : numbers_read p.segments ≡ true
   pub segments : list_all segment_reads p.segments ≡ true
   pub init_sections : init_sections_agree p.segments ≡ true
-  pub date_ranges : AllByRecursion (IsSaid reader) p.date_ranges
+  pub date_ranges : AllByRecursion (IsSaidBy reader) p.date_ranges
   pub date_range_texts : list_all text_is_clean p.date_ranges ≡ true

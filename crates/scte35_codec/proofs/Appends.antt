@@ -4,7 +4,7 @@ use Rattle.std.specs.Prelude.{OnOk, Bool, true, Option, is_none, is_some, not}
 use Rattle.std.specs.List.{flat_map}
 use Rattle.std.specs.Int.{byte_at, bytes_high_first}
 use Rattle.std.proofs.lemmas.List.{take_all}
-use Rattle.scte35_codec.specs.Layout.{Is, Reserved, Field, width, bytes_of, IsBytes, number, Splits, Holds, IsRead, IsWritten}
+use Rattle.scte35_codec.specs.Layout.{Is, Reserved, BitField, width, bytes_of, IsBytes, big_endian_number, Splits, HoldsFields, IsRead, IsWritten}
 use Rattle.scte35_codec.specs.declared.info.SpliceTime.{SpliceTime}
 use Rattle.scte35_codec.specs.declared.info.InsertBody.{InsertBody}
 use Rattle.scte35_codec.specs.Section.{bodies_of, cancel_fields, Command, Insert, Other, Section, command_fields, StatesLength, section, IsSection, Target, Components, component, target_fields}
@@ -52,7 +52,7 @@ on_ok (Err d) P Q h f = tt
 
 -- ---- One field group after another
 
-pub Appends-then : {fs gs : List Field} {a b c : List ℕ} → Appends fs a b → Appends gs b c → Appends (fs ++ gs) a c
+pub Appends-then : {fs gs : List BitField} {a b c : List ℕ} → Appends fs a b → Appends gs b c → Appends (fs ++ gs) a c
 Appends-then {fs} {gs} {a} {b} {c} p q = record {
   added = p.added ++ q.added;
   whole = q.whole ∙ ap (λ (x : List ℕ). x ++ q.added) p.whole ∙ append_assoc a p.added q.added;
@@ -60,8 +60,8 @@ Appends-then {fs} {gs} {a} {b} {c} p q = record {
   holds = Holds-join IsWritten fs gs p.added q.added p.bytes q.bytes p.holds q.holds;
 }
 
-pub Appends-is : {fs gs : List Field} {a b : List ℕ} → fs ≡ gs → Appends fs a b → Appends gs a b
-Appends-is {fs} {gs} {a} {b} e h = subst (λ (x : List Field). Appends x a b) e h
+pub Appends-is : {fs gs : List BitField} {a b : List ℕ} → fs ≡ gs → Appends fs a b → Appends gs a b
+Appends-is {fs} {gs} {a} {b} e h = subst (λ (x : List BitField). Appends x a b) e h
 
 pub bytes_append : (bs old new : List ℕ) → new ≡ old ++ bs → IsBytes bs → Appends (bytes_of bs) old new
 bytes_append bs old new whole fits = record { added = bs; whole = whole; bytes = fits; holds = bytes_hold IsWritten (λ v n e. e) bs fits }
@@ -80,18 +80,18 @@ cancelled b x old new e h = grind arith
 
 -- ---- What is written is read
 
-Splits-read : (fs : List Field) (n : ℕ) → Splits IsWritten fs n → Splits IsRead fs n
+Splits-read : (fs : List BitField) (n : ℕ) → Splits IsWritten fs n → Splits IsRead fs n
 Splits-read [] n split = split
 Splits-read ((w, Is v) ∷ fs) n split = (split.0, Splits-read fs (n % 2 ^ width fs) split.1)
 Splits-read ((w, Reserved v) ∷ fs) n split = (tt, Splits-read fs (n % 2 ^ width fs) split.1)
 
-pub Holds-read : (fs : List Field) (bytes : List ℕ) → Holds IsWritten fs bytes → Holds IsRead fs bytes
-Holds-read fs bytes h = record { count = h.count; split = Splits-read fs (number bytes) h.split }
+pub Holds-read : (fs : List BitField) (bytes : List ℕ) → HoldsFields IsWritten fs bytes → HoldsFields IsRead fs bytes
+Holds-read fs bytes h = record { count = h.count; split = Splits-read fs (big_endian_number bytes) h.split }
 
 -- what is written from nothing on
 pub record Made (s : Section) (bytes : List ℕ) : Type 0 where
   pub fits : IsBytes bytes
-  pub holds : Holds IsWritten (written_fields s) bytes
+  pub holds : HoldsFields IsWritten (written_fields s) bytes
 
 pub made : (s : Section) (old new : List ℕ) → old ≡ [] → Appends (written_fields s) old new → Made s new
 made s old new none h = grind arith

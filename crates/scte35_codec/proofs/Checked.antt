@@ -1,7 +1,7 @@
 -- A section that is written: its front, and then a CRC_32.
 use Rattle.std.proofs.Common.{◌≡◌, ℕ, ◌^◌, ◌<◌, true, List, [], ◌∷◌, ◌++◌, refl, append_assoc, arith}
 use Rattle.std.specs.Int.{bytes_high_first}
-use Rattle.scte35_codec.specs.Layout.{Field, Is}
+use Rattle.scte35_codec.specs.Layout.{BitField, Is}
 use Rattle.scte35_codec.specs.Section.{Section, start_fields, heading_fields, command_fields, after_length, section}
 use Rattle.scte35_codec.specs.Writing.{command_length, section_length, has_section, written_fields}
 use Rattle.scte35_codec.specs.Inner.Writing.{front_fields, Appends}
@@ -10,13 +10,13 @@ use Rattle.scte35_codec.proofs.Whole.{width-after}
 use Rattle.scte35_codec.proofs.Appends.{Appends-then, Appends-is, Made, made, made_is, made_again}
 use Rattle.scte35_codec.proofs.Registers.{crc_below}
 
-abbrev crc_fields : ℕ → List Field
+abbrev crc_fields : ℕ → List BitField
 crc_fields crc = (32, Is crc) ∷ []
 
-abbrev start : Section → List Field
+abbrev start : Section → List BitField
 start s = start_fields (section_length s)
 
-abbrev middle : Section → List Field
+abbrev middle : Section → List BitField
 middle s = heading_fields s (command_length s) ++ command_fields s.command
 
 front_then_crc : (s : Section) → front_fields s ++ crc_fields s.crc ≡ written_fields s

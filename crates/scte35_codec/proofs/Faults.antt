@@ -8,7 +8,7 @@ use Rattle.scte35_codec.proofs.Hexadecimals.{pairs_decode}
 use Rattle.scte35_codec.specs.declared.fault.SpliceFault.{SpliceFault}
 use Rattle.scte35_codec.specs.declared.fault.SpliceFault.TheVariants.{NotHex, CommandLength, OutOfMemory, TooLarge}
 use Rattle.spec_words.specs.Outcomes.{◌>>=◌, Refuses}
-use Rattle.scte35_codec.specs.Reading.{Gives, number_at, specified_time_at, time_at, optional_time_at, component_at, components_at, target_at, optional_duration_at, body_at, optional_body_at, insert_at, whole_insert_at, unmeasured_at, measured_of, command_at, ending_at, tail_at, contents_of, reading}
+use Rattle.scte35_codec.specs.Reading.{GivesOrSpliceFault, number_at, specified_time_at, time_at, optional_time_at, component_at, components_at, target_at, optional_duration_at, body_at, optional_body_at, insert_at, whole_insert_at, unmeasured_at, measured_of, command_at, ending_at, tail_at, contents_of, reading}
 
 -- a reading fails by the lengths alone
 abbrev pub ByLength : {A : Type 0} → Result A SpliceFault → Type 0
@@ -100,7 +100,7 @@ reading_faults bytes = grind (arith, by_contents)
 other_than : (e : SpliceFault) (r : Result Section SpliceFault) → OfBytes r → Refuses OutOfMemory e r → (e ≢ NotHex) × (e ≢ TooLarge)
 other_than e r h refused = grind arith
 
-pub read_faults : (bytes : List ℕ) (result : Result SpliceInfo SpliceFault) → Gives section_of result (reading bytes) → IfErr result (λ e. (e ≢ NotHex) × (e ≢ TooLarge))
+pub read_faults : (bytes : List ℕ) (result : Result SpliceInfo SpliceFault) → GivesOrSpliceFault section_of result (reading bytes) → IfErr result (λ e. (e ≢ NotHex) × (e ≢ TooLarge))
 read_faults bytes (Ok info) gives = tt
 read_faults bytes (Err e) gives = other_than e (reading bytes) (reading_faults bytes) gives
 
@@ -116,12 +116,12 @@ not_hex_is text is = rw is refl
 by_text : (is : Bool) (text : List ℕ) → is_hex_text text ≡ is → Refuses OutOfMemory NotHex (reading_hex text) → is_hex_text text ≡ false
 by_text k text is h = grind (arith, other_than, hex_is_read)
 
-pub hex_fault_is : (text : List ℕ) (result : Result SpliceInfo SpliceFault) → Gives section_of result (reading_hex text) → result ≡ Err NotHex → is_hex_text text ≡ false
+pub hex_fault_is : (text : List ℕ) (result : Result SpliceInfo SpliceFault) → GivesOrSpliceFault section_of result (reading_hex text) → result ≡ Err NotHex → is_hex_text text ≡ false
 hex_fault_is text result gives e = grind (arith, by_text, Result)
 
 by_kind : (is : Bool) (text : List ℕ) (e : SpliceFault) → is_hex_text text ≡ is → Refuses OutOfMemory e (reading_hex text) → e ≢ TooLarge
 by_kind k text e is h = grind (arith, other_than, hex_is_read, not_hex_is)
 
-pub hex_faults : (text : List ℕ) (result : Result SpliceInfo SpliceFault) → Gives section_of result (reading_hex text) → IfErr result (λ e. e ≢ TooLarge)
+pub hex_faults : (text : List ℕ) (result : Result SpliceInfo SpliceFault) → GivesOrSpliceFault section_of result (reading_hex text) → IfErr result (λ e. e ≢ TooLarge)
 hex_faults text (Ok info) gives = tt
 hex_faults text (Err e) gives = by_kind (is_hex_text text) text e refl gives

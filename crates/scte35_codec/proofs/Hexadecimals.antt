@@ -18,7 +18,7 @@ use Rattle.scte35_codec.specs.Section.{Section, section_of, IsSection}
 use Rattle.scte35_codec.proofs.Takes.{bind_ok}
 use Rattle.scte35_codec.proofs.Whole.{reading_is, is_read}
 use Rattle.scte35_codec.specs.Layout.{IsBytes}
-use Rattle.scte35_codec.specs.Reading.{Gives, number_in, reading}
+use Rattle.scte35_codec.specs.Reading.{GivesOrSpliceFault, number_in, reading}
 use Rattle.scte35_codec.specs.Hexadecimal.{are_pairs, hex_bytes, reading_hex}
 use Rattle.scte35_codec.specs.Inner.Hexadecimal.{reading_digits}
 
@@ -116,7 +116,7 @@ pub hex_is : (text : List ℕ) (s : Section) → reading_hex text ≡ Ok s → S
 unfolding reading_hex
 hex_is text s e = grind (arith, hex_bytes_fit, reading_is)
 
-pub hex_found : (text : List ℕ) (result : Result SpliceInfo SpliceFault) → Gives section_of result (reading_hex text) → IfOk result (λ info. Says text (section_of info))
+pub hex_found : (text : List ℕ) (result : Result SpliceInfo SpliceFault) → GivesOrSpliceFault section_of result (reading_hex text) → IfOk result (λ info. Says text (section_of info))
 hex_found text (Ok info) gives = hex_is text (section_of info) gives
 hex_found text (Err fault) gives = tt
 

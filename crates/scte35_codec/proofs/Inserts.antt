@@ -4,8 +4,8 @@ use Rattle.std.specs.Prelude.{is_some, is_none}
 use Rattle.std.specs.List.{flat_map}
 use Rattle.scte35_codec.specs.declared.info.SpliceTime.{SpliceTime}
 use Rattle.scte35_codec.specs.declared.info.BreakDuration.{BreakDuration}
-use Rattle.scte35_codec.specs.Layout.{Field, Is, Reserved, Splits, IsRead}
-use Rattle.scte35_codec.specs.Section.{Target, Program, Components, Body, SpliceEvent, flag, optional, component, break_duration, target_fields, is_program, target_is_timed, body_flags, body_ids, body_fields, splice_insert, BodyIsTimed}
+use Rattle.scte35_codec.specs.Layout.{BitField, Is, Reserved, Splits, IsRead}
+use Rattle.scte35_codec.specs.Section.{Target, Program, Components, Body, SpliceEvent, flag, optional_fields, component, break_duration, target_fields, is_program, target_is_timed, body_flags, body_ids, body_fields, splice_insert, BodyIsTimed}
 use Rattle.std.specs.List.{list_all}
 use Rattle.std.proofs.Common.{leb}
 use Rattle.std.proofs.lemmas.Bool.{and_from, le-leb}
@@ -40,18 +40,18 @@ target_takes false immediate bytes t rest fits e =
     let components = components_takes immediate a.0.0 a.0.1 cs b.0.1 read.rest_fits b.1 in
     let below : a.0.0 < 2 ^ 8 = read.below in
     let few : length cs ≤ 255 = omega (arith, components.2) in
-    let count_fields : List Field = (8, Is (length cs)) ∷ [] in
+    let count_fields : List BitField = (8, Is (length cs)) ∷ [] in
     let count : Takes count_fields bytes a.0.1 = group_takes 1 count_fields bytes a.0.0 a.0.1 read refl (omega (arith, components.2), omega arith) in
     subst (λ (x : Target × List ℕ). TakesTarget false immediate x.0 bytes x.1) {x = (Components cs, b.0.1)} (ok_is (Components cs, b.0.1) (t, rest) b.2)
     (record { takes = Takes-then count_fields (flat_map component cs) bytes a.0.1 b.0.1 count components.0; kind = refl; small = and_from (leb (length cs) 255) (list_all (λ c. place_fits immediate c.1) cs) (le-leb (length cs) 255 few) components.1 })
 
-target_again : (immediate : Bool) (t : Target) (after : List Field) (bytes : List ℕ) → target_is_timed immediate t ≡ true → Lies (target_fields t ++ after) bytes → Again (target_at (is_program t) immediate bytes) t after
+target_again : (immediate : Bool) (t : Target) (after : List BitField) (bytes : List ℕ) → target_is_timed immediate t ≡ true → Lies (target_fields t ++ after) bytes → Again (target_at (is_program t) immediate bytes) t after
 unfolding target_at
 target_again immediate (Program time) after bytes timed lies =
     let a = optional_time_again immediate time after bytes timed lies in
     record { rest = a.rest; is = rw a.is refl; lies = a.lies }
 target_again immediate (Components cs) after bytes timed lies =
-    let count_fields : List Field = (8, Is (length cs)) ∷ [] in
+    let count_fields : List BitField = (8, Is (length cs)) ∷ [] in
     let g = group_again 1 count_fields (flat_map component cs ++ after) bytes refl lies in
     let count : g.value ≡ length cs = omega (arith, g.split.0) in
     let a = components_again immediate cs after g.again.rest timed g.again.lies in
@@ -96,19 +96,19 @@ body_takes bytes b rest fits e =
     let ids_split : Splits IsRead (body_ids made) i.0.0 = (omega arith, (omega arith, (omega arith, omega arith))) in
     let four = group_takes 4 (body_ids made) d.0.1 i.0.0 i.0.1 last refl ids_split in
     let two = Takes-then (body_flags made) (target_fields t.0.0) bytes f.0.1 t.0.1 one target.takes in
-    let three = Takes-then (body_flags made ++ target_fields t.0.0) (optional break_duration d.0.0) bytes t.0.1 d.0.1 two duration.0 in
-    let all = Takes-then (body_flags made ++ target_fields t.0.0 ++ optional break_duration d.0.0) (body_ids made) bytes d.0.1 i.0.1 three four in
+    let three = Takes-then (body_flags made ++ target_fields t.0.0) (optional_fields break_duration d.0.0) bytes t.0.1 d.0.1 two duration.0 in
+    let all = Takes-then (body_flags made ++ target_fields t.0.0 ++ optional_fields break_duration d.0.0) (body_ids made) bytes d.0.1 i.0.1 three four in
     subst (λ (x : Body × List ℕ). TakesBody x.0 bytes x.1) {x = (made, i.0.1)} (ok_is (made, i.0.1) (b, rest) i.2) (record { takes = all; small = and_from (target_fits made.immediate made.target) (duration_fits made.duration) target.small duration.2 })
 
-body_again : (b : Body) (after : List Field) (bytes : List ℕ) → target_is_timed b.immediate b.target ≡ true → Lies (body_fields b ++ after) bytes → Again (body_at bytes) b after
+body_again : (b : Body) (after : List BitField) (bytes : List ℕ) → target_is_timed b.immediate b.target ≡ true → Lies (body_fields b ++ after) bytes → Again (body_at bytes) b after
 unfolding body_at body_fields
 body_again b after bytes timed lies =
     let flags_fields = body_flags b in
     let t = target_fields b.target in
-    let d = optional break_duration b.duration in
+    let d = optional_fields break_duration b.duration in
     let ids_fields = body_ids b in
     let regrouped : flags_fields ++ t ++ d ++ ids_fields ++ after ≡ flags_fields ++ (t ++ (d ++ (ids_fields ++ after))) = simp append_assoc in
-    let f = group_again 1 flags_fields (t ++ (d ++ (ids_fields ++ after))) bytes refl (subst (λ (fs : List Field). Lies fs bytes) regrouped lies) in
+    let f = group_again 1 flags_fields (t ++ (d ++ (ids_fields ++ after))) bytes refl (subst (λ (fs : List BitField). Lies fs bytes) regrouped lies) in
     let n = f.value in
     let below : n < 2 ^ 8 = f.below in
     let out : bit 7 n ≡ b.out_of_network = test-flag (n / 2 ^ 7) b.out_of_network (omega (arith, f.split.0)) in
@@ -132,7 +132,7 @@ pub record TakesEvent (i : SpliceEvent) (bytes rest : List ℕ) : Type 0 where
   pub small : body_fits i.body ≡ true
 
 record TakesBodies (cancelled : Bool) (b : Option Body) (bytes rest : List ℕ) : Type 0 where
-  pub takes : Takes (optional body_fields b) bytes rest
+  pub takes : Takes (optional_fields body_fields b) bytes rest
   pub kind : is_none b ≡ cancelled
   pub small : body_fits b ≡ true
 
@@ -144,7 +144,7 @@ optional_body_takes false bytes b rest fits e =
     let body = body_takes bytes a.0.0 a.0.1 fits a.1 in
     subst (λ (x : Option Body × List ℕ). TakesBodies false x.0 bytes x.1) {x = (Some a.0.0, a.0.1)} (ok_is (Some a.0.0, a.0.1) (b, rest) a.2) (record { takes = body.takes; kind = refl; small = body.small })
 
-optional_body_again : (b : Option Body) (after : List Field) (bytes : List ℕ) → BodyIsTimed b → Lies (optional body_fields b ++ after) bytes → Again (optional_body_at (is_none b) bytes) b after
+optional_body_again : (b : Option Body) (after : List BitField) (bytes : List ℕ) → BodyIsTimed b → Lies (optional_fields body_fields b ++ after) bytes → Again (optional_body_at (is_none b) bytes) b after
 unfolding optional_body_at
 optional_body_again None after bytes timed lies = record { rest = bytes; is = refl; lies = lies }
 optional_body_again (Some b) after bytes timed lies =
@@ -164,21 +164,21 @@ insert_takes bytes i rest fits e =
     let below4 : v.0.0 < 2 ^ 32 = event.below in
     let body = optional_body_takes (bit 7 flags) f.0.1 o.0.0 o.0.1 read.rest_fits o.1 in
     let made : SpliceEvent = record { event_id = v.0.0; body = o.0.0 } in
-    let id_fields : List Field = (32, Is v.0.0) ∷ [] in
-    let flag_fields : List Field = (1, Is (flag (is_none o.0.0))) ∷ (7, Reserved 127) ∷ [] in
+    let id_fields : List BitField = (32, Is v.0.0) ∷ [] in
+    let flag_fields : List BitField = (1, Is (flag (is_none o.0.0))) ∷ (7, Reserved 127) ∷ [] in
     let one = group_takes 4 id_fields bytes v.0.0 v.0.1 event refl (omega arith, omega arith) in
     let cancel : flags / 2 ^ 7 ≡ flag (is_none o.0.0) = rw body.kind (flag-test (flags / 2 ^ 7) (flags / 2 ^ 7) (omega arith) (omega arith)) in
     let two = group_takes 1 flag_fields v.0.1 flags f.0.1 read refl (cancel, (tt, omega arith)) in
     let both = Takes-then id_fields flag_fields bytes v.0.1 f.0.1 one two in
-    let all = Takes-then (id_fields ++ flag_fields) (optional body_fields o.0.0) bytes f.0.1 o.0.1 both body.takes in
+    let all = Takes-then (id_fields ++ flag_fields) (optional_fields body_fields o.0.0) bytes f.0.1 o.0.1 both body.takes in
     subst (λ (x : SpliceEvent × List ℕ). TakesEvent x.0 bytes x.1) {x = (made, o.0.1)} (ok_is (made, o.0.1) (i, rest) o.2) (record { takes = all; small = body.small })
 
-pub insert_again : (i : SpliceEvent) (after : List Field) (bytes : List ℕ) → BodyIsTimed i.body → Lies (splice_insert i ++ after) bytes → Again (insert_at bytes) i after
+pub insert_again : (i : SpliceEvent) (after : List BitField) (bytes : List ℕ) → BodyIsTimed i.body → Lies (splice_insert i ++ after) bytes → Again (insert_at bytes) i after
 unfolding insert_at splice_insert
 insert_again i after bytes timed lies =
-    let id_fields : List Field = (32, Is i.event_id) ∷ [] in
-    let flag_fields : List Field = (1, Is (flag (is_none i.body))) ∷ (7, Reserved 127) ∷ [] in
-    let o = optional body_fields i.body in
+    let id_fields : List BitField = (32, Is i.event_id) ∷ [] in
+    let flag_fields : List BitField = (1, Is (flag (is_none i.body))) ∷ (7, Reserved 127) ∷ [] in
+    let o = optional_fields body_fields i.body in
     let v = group_again 4 id_fields (flag_fields ++ (o ++ after)) bytes refl lies in
     let f = group_again 1 flag_fields (o ++ after) v.again.rest refl v.again.lies in
     let n = f.value in

@@ -4,11 +4,11 @@ use Rattle.std.specs.List.{flat_map}
 use Rattle.std.proofs.lemmas.List.{take_more, flat_map_more}
 use Rattle.scte35_codec.specs.declared.info.SpliceTime.{SpliceTime}
 use Rattle.scte35_codec.specs.Layout.{width}
-use Rattle.scte35_codec.specs.Section.{Body, Section, optional, component, target_fields, break_duration, body_fields, command_fields, after_length}
+use Rattle.scte35_codec.specs.Section.{Body, Section, optional_fields, component, target_fields, break_duration, body_fields, command_fields, after_length}
 use Rattle.scte35_codec.proofs.Fields.{width-append}
 use Rattle.scte35_codec.proofs.Whole.{width-after}
 
-pub width_of_body : (b : Body) → width (body_fields b) ≡ 40 + width (target_fields b.target) + width (optional break_duration b.duration)
+pub width_of_body : (b : Body) → width (body_fields b) ≡ 40 + width (target_fields b.target) + width (optional_fields break_duration b.duration)
 unfolding body_fields
 width_of_body b = grind (arith, width-append)
 

@@ -4,7 +4,7 @@ use Rattle.std.proofs.lemmas.Bool.{ltb-false, le-ltb, eqb-true, eq-eqb, ne_eqb, 
 use Rattle.std.proofs.lemmas.List.{length-append, length-take, take-append-drop, append-nil, nil_from_length}
 use Rattle.scte35_codec.specs.declared.fault.SpliceFault.{SpliceFault}
 use Rattle.scte35_codec.specs.declared.fault.SpliceFault.TheVariants.{CommandLength}
-use Rattle.scte35_codec.specs.Layout.{Content, Field, Is, width, bytes_of, Holds, IsRead}
+use Rattle.scte35_codec.specs.Layout.{Content, BitField, Is, width, bytes_of, HoldsFields, IsRead}
 use Rattle.scte35_codec.specs.Section.{SpliceEvent, Command, Insert, Other, splice_insert, command_fields, command_type, IsProper, StatesLength}
 use Rattle.scte35_codec.specs.Writing.{command_fits}
 use Rattle.spec_words.specs.Outcomes.{◌>>=◌}
@@ -21,10 +21,10 @@ pub width_of_bytes : (xs : List ℕ) → width (bytes_of xs) ≡ 8 * length xs
 width_of_bytes [] = refl
 width_of_bytes (x ∷ xs) = omega (arith, width_of_bytes xs)
 
-pub bytes_hold : (Has : Content → ℕ → Type 0) (is : (v n : ℕ) → n ≡ v → Has (Is v) n) (xs : List ℕ) → IsBytes xs → Holds Has (bytes_of xs) xs
+pub bytes_hold : (Has : Content → ℕ → Type 0) (is : (v n : ℕ) → n ≡ v → Has (Is v) n) (xs : List ℕ) → IsBytes xs → HoldsFields Has (bytes_of xs) xs
 bytes_hold Has is [] fits = record { count = refl; split = refl }
 bytes_hold Has is (x ∷ xs) fits =
-    let first : Holds Has ((8, Is x) ∷ []) (x ∷ []) = record { count = refl; split = (is x _ (omega arith), omega arith) } in
+    let first : HoldsFields Has ((8, Is x) ∷ []) (x ∷ []) = record { count = refl; split = (is x _ (omega arith), omega arith) } in
     Holds-join Has ((8, Is x) ∷ []) (bytes_of xs) (x ∷ []) xs (IsBytes-take 1 (x ∷ xs) fits) (IsBytes-rest x xs fits) first (bytes_hold Has is xs (IsBytes-rest x xs fits))
 
 pub bytes_are : (ds xs : List ℕ) → Lies (bytes_of ds) xs → xs ≡ ds
@@ -83,11 +83,11 @@ whole_takes bytes i fits e =
     let here : TakesEvent i bytes [] = subst (λ (x : SpliceEvent). TakesEvent x bytes []) g.1 (subst (λ (r : List ℕ). TakesEvent b.0.0 bytes r) none taken) in
     (here.takes, here)
 
-pub whole_width : (fields : List Field) (bytes : List ℕ) → Takes fields bytes [] → 8 * length bytes ≡ width fields
+pub whole_width : (fields : List BitField) (bytes : List ℕ) → Takes fields bytes [] → 8 * length bytes ≡ width fields
 whole_width fields bytes t = grind (arith, length-append)
 
 -- what takes a front of some bytes whole
-front_takes : (fields : List Field) (count : ℕ) (bytes : List ℕ) → IsBytes bytes → Takes fields (take count bytes) [] → Takes fields bytes (drop count bytes)
+front_takes : (fields : List BitField) (count : ℕ) (bytes : List ℕ) → IsBytes bytes → Takes fields (take count bytes) [] → Takes fields bytes (drop count bytes)
 front_takes fields count bytes fits t = grind (arith, IsBytes-drop, append-nil, take-append-drop)
 
 measured_by : (is_insert : Bool) (command_length kind : ℕ) (bytes : List ℕ) (c : Command) → eqb kind 5 ≡ is_insert → command_length ≤ length bytes → IsBytes bytes
@@ -122,7 +122,7 @@ pub command_takes : (command_length kind : ℕ) (bytes : List ℕ) (c : Command)
 unfolding command_at
 command_takes command_length kind bytes c rest fits e = command_by (eqb command_length 0xFFF) command_length kind bytes c rest refl fits e
 
-unmeasured_again : (i : SpliceEvent) (after : List Field) (bytes : List ℕ) → IsProper (Insert i) → Lies (splice_insert i ++ after) bytes → Again (unmeasured_at 5 bytes) (Insert i) after
+unmeasured_again : (i : SpliceEvent) (after : List BitField) (bytes : List ℕ) → IsProper (Insert i) → Lies (splice_insert i ++ after) bytes → Again (unmeasured_at 5 bytes) (Insert i) after
 unfolding unmeasured_at
 unmeasured_again i after bytes proper lies =
     let a = insert_again i after bytes proper lies in
@@ -131,11 +131,11 @@ unmeasured_again i after bytes proper lies =
 whole_again : (i : SpliceEvent) (bytes : List ℕ) → IsProper (Insert i) → Lies (splice_insert i) bytes → whole_insert_at bytes ≡ Ok i
 unfolding whole_insert_at
 whole_again i bytes proper lies =
-    let a = insert_again i [] bytes proper (subst (λ (fs : List Field). Lies fs bytes) (sym (append-nil (splice_insert i))) lies) in
+    let a = insert_again i [] bytes proper (subst (λ (fs : List BitField). Lies fs bytes) (sym (append-nil (splice_insert i))) lies) in
     let none : eqb (length a.rest) 0 ≡ true = eq-eqb _ _ (omega (arith, a.lies.holds.count)) in
     rw (a.is, none) refl
 
-measured_insert_again : (unsaid : Bool) (i : SpliceEvent) (command_length : ℕ) (after : List Field) (bytes : List ℕ) → eqb command_length 0xFFF ≡ unsaid → IsProper (Insert i) → 8 * command_length ≡ width (splice_insert i) → Lies (splice_insert i ++ after) bytes
+measured_insert_again : (unsaid : Bool) (i : SpliceEvent) (command_length : ℕ) (after : List BitField) (bytes : List ℕ) → eqb command_length 0xFFF ≡ unsaid → IsProper (Insert i) → 8 * command_length ≡ width (splice_insert i) → Lies (splice_insert i ++ after) bytes
     → Again (command_at command_length 5 bytes) (Insert i) after
 unfolding command_at measured_of
 measured_insert_again true i command_length after bytes is proper size lies = grind (arith, unmeasured_again)
@@ -145,7 +145,7 @@ measured_insert_again false i command_length after bytes is proper size lies =
     let w = whole_again i (take command_length bytes) proper p.1.0 in
     record { rest = drop command_length bytes; is = rw (is, short, w) refl; lies = p.1.1 }
 
-pub command_again : (c : Command) (command_length : ℕ) (after : List Field) (bytes : List ℕ) → StatesLength c command_length → IsProper c → width (command_fields c) < 32760 → Lies (command_fields c ++ after) bytes
+pub command_again : (c : Command) (command_length : ℕ) (after : List BitField) (bytes : List ℕ) → StatesLength c command_length → IsProper c → width (command_fields c) < 32760 → Lies (command_fields c ++ after) bytes
     → Again (command_at command_length (command_type c) bytes) c after
 unfolding command_at measured_of
 command_again (Insert i) command_length after bytes (inl size) proper small lies = measured_insert_again (eqb command_length 0xFFF) i command_length after bytes refl proper size lies

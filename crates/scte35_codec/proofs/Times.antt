@@ -5,8 +5,8 @@ use Rattle.std.specs.List.{flat_map, list_all}
 use Rattle.std.proofs.lemmas.Bool.{and_parts, and_from}
 use Rattle.scte35_codec.specs.declared.info.SpliceTime.{SpliceTime}
 use Rattle.scte35_codec.specs.declared.info.BreakDuration.{BreakDuration}
-use Rattle.scte35_codec.specs.Layout.{Field, Is, Splits, IsRead}
-use Rattle.scte35_codec.specs.Section.{optional, time_fields, splice_time, component, break_duration, is_timed}
+use Rattle.scte35_codec.specs.Layout.{BitField, Is, Splits, IsRead}
+use Rattle.scte35_codec.specs.Section.{optional_fields, time_fields, splice_time, component, break_duration, is_timed}
 use Rattle.scte35_codec.specs.Writing.{pts_fits, place_fits, duration_fits}
 use Rattle.spec_words.specs.Outcomes.{◌>>=◌}
 use Rattle.scte35_codec.specs.Reading.{number_at, bit, time_at, specified_time_at, optional_time_at, component_at, components_at, optional_duration_at}
@@ -64,7 +64,7 @@ time_takes bytes t rest fits e =
     let b = bind_ok (number_at 1 bytes) (λ flags. cond (bit 7 flags.0) (specified_time_at bytes) (Ok (record { pts = None }, flags.1))) (t, rest) e in
     time_takes_by (bit 7 b.0.0) bytes b.0.0 b.0.1 t rest fits b.1 refl b.2
 
-time_again_by : (pts : Option ℕ) (after : List Field) (bytes : List ℕ) → Lies (time_fields pts ++ after) bytes → Again (time_at bytes) (record { pts = pts }) after
+time_again_by : (pts : Option ℕ) (after : List BitField) (bytes : List ℕ) → Lies (time_fields pts ++ after) bytes → Again (time_at bytes) (record { pts = pts }) after
 unfolding time_at specified_time_at
 time_again_by None after bytes lies =
     let g = group_again 1 (time_fields None) after bytes refl lies in
@@ -79,18 +79,18 @@ time_again_by (Some pts) after bytes lies =
     let low : n % 2 ^ 33 ≡ pts = omega (arith, g.split.1.1.0) in
     record { rest = g.again.rest; is = rw (first.1, set, g.again.is, low) refl; lies = g.again.lies }
 
-pub time_again : (t : SpliceTime) (after : List Field) (bytes : List ℕ) → Lies (splice_time t ++ after) bytes → Again (time_at bytes) t after
+pub time_again : (t : SpliceTime) (after : List BitField) (bytes : List ℕ) → Lies (splice_time t ++ after) bytes → Again (time_at bytes) t after
 time_again t after bytes lies = time_again_by t.pts after bytes lies
 
-pub optional_time_takes : (immediate : Bool) (bytes : List ℕ) (t : Option SpliceTime) (rest : List ℕ) → IsBytes bytes → optional_time_at immediate bytes ≡ Ok (t, rest) → Takes (optional splice_time t) bytes rest × (place_fits immediate t ≡ true)
+pub optional_time_takes : (immediate : Bool) (bytes : List ℕ) (t : Option SpliceTime) (rest : List ℕ) → IsBytes bytes → optional_time_at immediate bytes ≡ Ok (t, rest) → Takes (optional_fields splice_time t) bytes rest × (place_fits immediate t ≡ true)
 unfolding optional_time_at
 optional_time_takes true bytes t rest fits e = grind arith
 optional_time_takes false bytes t rest fits e =
     let b = bind_ok (time_at bytes) (λ time. Ok (Some time.0, time.1)) (t, rest) e in
     let time = time_takes bytes b.0.0 b.0.1 fits b.1 in
-    subst (λ (x : Option SpliceTime × List ℕ). Takes (optional splice_time x.0) bytes x.1 × (place_fits false x.0 ≡ true)) {x = (Some b.0.0, b.0.1)} (ok_is (Some b.0.0, b.0.1) (t, rest) b.2) (time.takes, time.small)
+    subst (λ (x : Option SpliceTime × List ℕ). Takes (optional_fields splice_time x.0) bytes x.1 × (place_fits false x.0 ≡ true)) {x = (Some b.0.0, b.0.1)} (ok_is (Some b.0.0, b.0.1) (t, rest) b.2) (time.takes, time.small)
 
-pub optional_time_again : (immediate : Bool) (t : Option SpliceTime) (after : List Field) (bytes : List ℕ) → is_timed immediate t ≡ true → Lies (optional splice_time t ++ after) bytes → Again (optional_time_at immediate bytes) t after
+pub optional_time_again : (immediate : Bool) (t : Option SpliceTime) (after : List BitField) (bytes : List ℕ) → is_timed immediate t ≡ true → Lies (optional_fields splice_time t ++ after) bytes → Again (optional_time_at immediate bytes) t after
 unfolding optional_time_at
 optional_time_again true None after bytes timed lies = record { rest = bytes; is = refl; lies = lies }
 optional_time_again true (Some t) after bytes timed lies = absurd cc
@@ -110,18 +110,18 @@ component_takes immediate bytes c rest fits e =
     let a = bind_ok (number_at 1 bytes) (λ tag. optional_time_at immediate tag.1 >>= λ time. Ok ((tag.0, time.0), time.1)) (c, rest) e in
     let b = bind_ok (optional_time_at immediate a.0.1) (λ time. Ok ((a.0.0, time.0), time.1)) (c, rest) a.2 in
     let read = number_takes 1 bytes a.0.0 a.0.1 fits a.1 in
-    let tag_fields : List Field = (8, Is a.0.0) ∷ [] in
+    let tag_fields : List BitField = (8, Is a.0.0) ∷ [] in
     let tag : Takes tag_fields bytes a.0.1 = group_takes 1 tag_fields bytes a.0.0 a.0.1 read refl (omega arith, omega arith) in
     let time = optional_time_takes immediate a.0.1 b.0.0 b.0.1 read.rest_fits b.1 in
     let made : Component × List ℕ = ((a.0.0, b.0.0), b.0.1) in
     subst (λ (x : Component × List ℕ). Takes (component x.0) bytes x.1 × (place_fits immediate x.0.1 ≡ true)) {x = made} (ok_is made (c, rest) b.2)
-    (Takes-then tag_fields (optional splice_time b.0.0) bytes a.0.1 b.0.1 tag time.0, time.1)
+    (Takes-then tag_fields (optional_fields splice_time b.0.0) bytes a.0.1 b.0.1 tag time.0, time.1)
 
-component_again : (immediate : Bool) (c : Component) (after : List Field) (bytes : List ℕ) → is_timed immediate c.1 ≡ true → Lies (component c ++ after) bytes → Again (component_at immediate bytes) c after
+component_again : (immediate : Bool) (c : Component) (after : List BitField) (bytes : List ℕ) → is_timed immediate c.1 ≡ true → Lies (component c ++ after) bytes → Again (component_at immediate bytes) c after
 unfolding component_at
 component_again immediate c after bytes timed lies =
-    let tag_fields : List Field = (8, Is c.0) ∷ [] in
-    let g = group_again 1 tag_fields (optional splice_time c.1 ++ after) bytes refl lies in
+    let tag_fields : List BitField = (8, Is c.0) ∷ [] in
+    let g = group_again 1 tag_fields (optional_fields splice_time c.1 ++ after) bytes refl lies in
     let t = optional_time_again immediate c.1 after g.again.rest timed g.again.lies in
     let tag : g.value ≡ c.0 = omega (arith, g.split.0) in
     record { rest = t.rest; is = rw (g.again.is, t.is, tag) refl; lies = t.lies }
@@ -139,7 +139,7 @@ components_takes immediate (suc n) bytes cs rest fits e =
     subst (λ (x : List Component × List ℕ). Takes (flat_map component x.0) bytes x.1 × (list_all (λ c. place_fits immediate c.1) x.0 ≡ true) × (length x.0 ≡ suc n)) {x = made} (ok_is made (cs, rest) b.2)
     (Takes-then (component a.0.0) (flat_map component b.0.0) bytes a.0.1 b.0.1 first.0 others.0, and_from (place_fits immediate a.0.0.1) (list_all (λ c. place_fits immediate c.1) b.0.0) first.1 others.1, ap suc others.2)
 
-pub components_again : (immediate : Bool) (cs : List Component) (after : List Field) (bytes : List ℕ) → list_all (λ c. is_timed immediate c.1) cs ≡ true → Lies (flat_map component cs ++ after) bytes → Again (components_at immediate (length cs) bytes) cs after
+pub components_again : (immediate : Bool) (cs : List Component) (after : List BitField) (bytes : List ℕ) → list_all (λ c. is_timed immediate c.1) cs ≡ true → Lies (flat_map component cs ++ after) bytes → Again (components_at immediate (length cs) bytes) cs after
 unfolding components_at
 components_again immediate [] after bytes timed lies = record { rest = bytes; is = refl; lies = lies }
 components_again immediate (c ∷ cs) after bytes timed lies =
@@ -151,7 +151,7 @@ components_again immediate (c ∷ cs) after bytes timed lies =
 
 -- ---- break_duration
 
-pub optional_duration_takes : (stated : Bool) (bytes : List ℕ) (d : Option BreakDuration) (rest : List ℕ) → IsBytes bytes → optional_duration_at stated bytes ≡ Ok (d, rest) → Takes (optional break_duration d) bytes rest × (is_some d ≡ stated) × (duration_fits d ≡ true)
+pub optional_duration_takes : (stated : Bool) (bytes : List ℕ) (d : Option BreakDuration) (rest : List ℕ) → IsBytes bytes → optional_duration_at stated bytes ≡ Ok (d, rest) → Takes (optional_fields break_duration d) bytes rest × (is_some d ≡ stated) × (duration_fits d ≡ true)
 unfolding optional_duration_at
 optional_duration_takes false bytes d rest fits e = grind arith
 optional_duration_takes true bytes d rest fits e =
@@ -161,10 +161,10 @@ optional_duration_takes true bytes d rest fits e =
     let below : n < 2 ^ 40 = read.below in
     let made : BreakDuration = record { auto_return = bit 39 n; ticks = n % 2 ^ 33 } in
     let split : Splits IsRead (break_duration made) n = (flag-test (n / 2 ^ 39) (n / 2 ^ 39) (omega arith) (omega arith), (tt, (omega arith, omega arith))) in
-    subst (λ (x : Option BreakDuration × List ℕ). Takes (optional break_duration x.0) bytes x.1 × (is_some x.0 ≡ true) × (duration_fits x.0 ≡ true)) {x = (Some made, b.0.1)} (ok_is (Some made, b.0.1) (d, rest) b.2)
+    subst (λ (x : Option BreakDuration × List ℕ). Takes (optional_fields break_duration x.0) bytes x.1 × (is_some x.0 ≡ true) × (duration_fits x.0 ≡ true)) {x = (Some made, b.0.1)} (ok_is (Some made, b.0.1) (d, rest) b.2)
     (group_takes 5 (break_duration made) bytes n b.0.1 read refl split, refl, lt-ltb (n % 2 ^ 33) (2 ^ 33) (mod_below n (2 ^ 33) (pow_pos 33)))
 
-pub optional_duration_again : (d : Option BreakDuration) (after : List Field) (bytes : List ℕ) → Lies (optional break_duration d ++ after) bytes → Again (optional_duration_at (is_some d) bytes) d after
+pub optional_duration_again : (d : Option BreakDuration) (after : List BitField) (bytes : List ℕ) → Lies (optional_fields break_duration d ++ after) bytes → Again (optional_duration_at (is_some d) bytes) d after
 unfolding optional_duration_at
 optional_duration_again None after bytes lies = record { rest = bytes; is = refl; lies = lies }
 optional_duration_again (Some d) after bytes lies =

@@ -4,17 +4,17 @@ use Rattle.std.proofs.lemmas.Bool.{ltb-false, le-ltb, eqb-true, eqb-false, not-f
 use Rattle.std.proofs.lemmas.List.{length-take, length-drop, take-append-drop, drop-drop, append-nil}
 use Rattle.scte35_codec.specs.declared.fault.SpliceFault.{SpliceFault}
 use Rattle.scte35_codec.specs.declared.fault.SpliceFault.TheVariants.{CommandLength}
-use Rattle.scte35_codec.specs.Layout.{Field, Is, Reserved, width, bytes_of, number, Splits, Holds, IsRead}
+use Rattle.scte35_codec.specs.Layout.{BitField, Is, Reserved, width, bytes_of, big_endian_number, Splits, HoldsFields, IsRead}
 use Rattle.scte35_codec.specs.Section.{Command, Section, command_fields, command_type, after_length, section, IsProper, StatesLength, IsSection}
 use Rattle.std.specs.Prelude.{IfOk, ◌&&◌, nat_le}
 use Rattle.std.proofs.lemmas.Grind.{common_steps}
 use Rattle.std.proofs.lemmas.Bool.Decides.{nat_tests}
 use Rattle.scte35_codec.specs.declared.info.SpliceInfo.{SpliceInfo}
 use Rattle.scte35_codec.specs.Section.{section_of}
-use Rattle.scte35_codec.specs.Writing.{fits, command_fits, command_length, section_length, has_section}
+use Rattle.scte35_codec.specs.Writing.{fits_bits, command_fits, command_length, section_length, has_section}
 use Rattle.scte35_codec.proofs.Fits.{is_proper}
 use Rattle.spec_words.specs.Outcomes.{◌>>=◌}
-use Rattle.scte35_codec.specs.Reading.{Gives, number_in, bit, bytes_at, number_at, command_at, ending_at, tail_at, contents_of, reading}
+use Rattle.scte35_codec.specs.Reading.{GivesOrSpliceFault, number_in, bit, bytes_at, number_at, command_at, ending_at, tail_at, contents_of, reading}
 use Rattle.scte35_codec.specs.Layout.{IsBytes}
 use Rattle.scte35_codec.proofs.Numbers.{IsBytes-drop, IsBytes-take}
 use Rattle.scte35_codec.proofs.Fields.{width-append, number_fits}
@@ -23,26 +23,26 @@ use Rattle.scte35_codec.proofs.Sections.{width_of_bytes, bytes_are, bytes_taken,
 
 -- ---- What stands after the command
 
-abbrev count_fields : List ℕ → List Field
+abbrev count_fields : List ℕ → List BitField
 count_fields ds = (16, Is (length ds)) ∷ []
 
-abbrev crc_fields : ℕ → List Field
+abbrev crc_fields : ℕ → List BitField
 crc_fields crc = (32, Is crc) ∷ []
 
-abbrev tail_fields : List ℕ → List ℕ → ℕ → List Field
+abbrev tail_fields : List ℕ → List ℕ → ℕ → List BitField
 tail_fields ds st crc = count_fields ds ++ bytes_of ds ++ bytes_of st ++ crc_fields crc
 
 ending_takes : (bytes st : List ℕ) (crc : ℕ) → IsBytes bytes → ending_at bytes ≡ Ok (st, crc) → Takes (bytes_of st ++ crc_fields crc) bytes []
 unfolding ending_at
 ending_takes bytes st crc fits e =
     let n = length bytes - 4 in
-    let g = guard_ok (ltb (length bytes) 4) CommandLength (take n bytes, number (drop n bytes)) (st, crc) e in
+    let g = guard_ok (ltb (length bytes) 4) CommandLength (take n bytes, big_endian_number (drop n bytes)) (st, crc) e in
     let long : 4 ≤ length bytes = ltb-false _ _ g.0 in
     let rest = drop n bytes in
     let rest_fits = IsBytes-drop n bytes fits in
     let len : 8 * length rest ≡ 32 = omega (arith, length-drop n bytes) in
-    let below : number rest < 2 ^ 32 = number_fits rest 32 rest_fits len in
-    let last : Takes (crc_fields (number rest)) rest [] = record {
+    let below : big_endian_number rest < 2 ^ 32 = number_fits rest 32 rest_fits len in
+    let last : Takes (crc_fields (big_endian_number rest)) rest [] = record {
       front = rest;
       whole = sym (append-nil rest);
       front_fits = rest_fits;
@@ -50,7 +50,7 @@ ending_takes bytes st crc fits e =
       holds = record { count = len; split = (omega arith, omega arith) };
     } in
     subst (λ (p : List ℕ × ℕ). Takes (bytes_of p.0 ++ crc_fields p.1) bytes []) g.1
-    (Takes-then (bytes_of (take n bytes)) (crc_fields (number rest)) bytes rest [] (bytes_taken n bytes fits) last)
+    (Takes-then (bytes_of (take n bytes)) (crc_fields (big_endian_number rest)) bytes rest [] (bytes_taken n bytes fits) last)
 
 abbrev Tail : Type 0
 Tail = List ℕ × List ℕ × ℕ
@@ -78,7 +78,7 @@ tail_takes bytes t fits e =
     let regrouped : count_fields b.0.0 ++ bytes_of b.0.0 ++ (bytes_of d.0.0 ++ crc_fields d.0.1) ≡ tail_fields b.0.0 d.0.0 d.0.1 = sym (append_assoc (count_fields b.0.0 ++ bytes_of b.0.0) (bytes_of d.0.0) (crc_fields d.0.1)) in
     let made : Tail = (b.0.0, d.0.0, d.0.1) in
     subst (λ (x : Tail). Takes (tail_fields x.0 x.1 x.2) bytes []) {x = made} (ok_is made t d.2)
-    (subst (λ (fs : List Field). Takes fs bytes []) regrouped all)
+    (subst (λ (fs : List BitField). Takes fs bytes []) regrouped all)
 
 ending_again : (st : List ℕ) (crc : ℕ) (bytes : List ℕ) → Lies (bytes_of st ++ crc_fields crc) bytes → ending_at bytes ≡ Ok (st, crc)
 unfolding ending_at
@@ -88,14 +88,14 @@ ending_again st crc bytes lies =
     let n : length bytes - 4 ≡ length st = omega arith in
     let p = parts (length st) (bytes_of st) (crc_fields crc) bytes (sym (width_of_bytes st)) lies in
     let front : take (length st) bytes ≡ st = bytes_are st (take (length st) bytes) p.1.0 in
-    let last : number (drop (length st) bytes) ≡ crc = omega (arith, p.1.1.holds.split.0) in
+    let last : big_endian_number (drop (length st) bytes) ≡ crc = omega (arith, p.1.1.holds.split.0) in
     rw (short, n, front, last) refl
 
 tail_again : (ds st : List ℕ) (crc : ℕ) (bytes : List ℕ) → Lies (tail_fields ds st crc) bytes → tail_at bytes ≡ Ok (ds, st, crc)
 unfolding tail_at
 tail_again ds st crc bytes lies =
     let regrouped : tail_fields ds st crc ≡ count_fields ds ++ (bytes_of ds ++ (bytes_of st ++ crc_fields crc)) = simp append_assoc in
-    let g = group_again 2 (count_fields ds) (bytes_of ds ++ (bytes_of st ++ crc_fields crc)) bytes refl (subst (λ (fs : List Field). Lies fs bytes) regrouped lies) in
+    let g = group_again 2 (count_fields ds) (bytes_of ds ++ (bytes_of st ++ crc_fields crc)) bytes refl (subst (λ (fs : List BitField). Lies fs bytes) regrouped lies) in
     let count : g.value ≡ length ds = omega (arith, g.split.0) in
     let p = parts (length ds) (bytes_of ds) (bytes_of st ++ crc_fields crc) g.again.rest (sym (width_of_bytes ds)) g.again.lies in
     let short : ltb (length g.again.rest) (length ds) ≡ false = le-ltb _ _ p.0 in
@@ -105,7 +105,7 @@ tail_again ds st crc bytes lies =
 
 -- ---- Fields at a place
 
-at_takes : (start count : ℕ) (fields : List Field) (bytes : List ℕ) → IsBytes bytes → start + count ≤ length bytes → 8 * count ≡ width fields → Splits IsRead fields (number_in start count bytes) → Takes fields (drop start bytes) (drop (start + count) bytes)
+at_takes : (start count : ℕ) (fields : List BitField) (bytes : List ℕ) → IsBytes bytes → start + count ≤ length bytes → 8 * count ≡ width fields → Splits IsRead fields (number_in start count bytes) → Takes fields (drop start bytes) (drop (start + count) bytes)
 at_takes start count fields bytes fits long size split =
     let here = drop start bytes in
     let here_fits = IsBytes-drop start bytes fits in
@@ -118,12 +118,12 @@ at_takes start count fields bytes fits long size split =
       holds = record { count = ap (λ (k : ℕ). 8 * k) len ∙ size; split = split };
     }
 
-record At (start count : ℕ) (fields after : List Field) (bytes : List ℕ) : Type 0 where
+record At (start count : ℕ) (fields after : List BitField) (bytes : List ℕ) : Type 0 where
   pub split : Splits IsRead fields (number_in start count bytes)
   pub below : number_in start count bytes < 2 ^ (8 * count)
   pub lies : Lies after (drop (start + count) bytes)
 
-at_again : (start count : ℕ) (fields after : List Field) (bytes : List ℕ) → 8 * count ≡ width fields → Lies (fields ++ after) (drop start bytes) → At start count fields after bytes
+at_again : (start count : ℕ) (fields after : List BitField) (bytes : List ℕ) → 8 * count ≡ width fields → Lies (fields ++ after) (drop start bytes) → At start count fields after bytes
 at_again start count fields after bytes size lies =
     let p = parts count fields after (drop start bytes) size lies in
     record {
@@ -134,25 +134,25 @@ at_again start count fields after bytes size lies =
 
 -- ---- The section
 
-abbrev table_fields : List Field
+abbrev table_fields : List BitField
 table_fields = (8, Is 0xFC) ∷ []
 
-abbrev length_fields : ℕ → List Field
+abbrev length_fields : ℕ → List BitField
 length_fields n = (1, Reserved 0) ∷ (1, Reserved 0) ∷ (2, Reserved 3) ∷ (12, Is n) ∷ []
 
-abbrev protocol_fields : List Field
+abbrev protocol_fields : List BitField
 protocol_fields = (8, Is 0) ∷ []
 
-abbrev adjustment_fields : ℕ → List Field
+abbrev adjustment_fields : ℕ → List BitField
 adjustment_fields n = (1, Is 0) ∷ (6, Reserved 0) ∷ (33, Is n) ∷ []
 
-abbrev byte_fields : ℕ → List Field
+abbrev byte_fields : ℕ → List BitField
 byte_fields n = (8, Is n) ∷ []
 
-abbrev tier_fields : ℕ → ℕ → List Field
+abbrev tier_fields : ℕ → ℕ → List BitField
 tier_fields tier n = (12, Is tier) ∷ (12, Is n) ∷ []
 
-abbrev begins : Section → ℕ → List Field
+abbrev begins : Section → ℕ → List BitField
 begins s n = protocol_fields ++ adjustment_fields s.pts_adjustment ++ byte_fields s.cw_index ++ tier_fields s.tier n ++ byte_fields (command_type s.command)
 
 after-regrouped : (s : Section) (n : ℕ) → begins s n ++ command_fields s.command ++ tail_fields s.descriptors s.stuffing s.crc ≡ after_length s n
@@ -200,7 +200,7 @@ head_takes bytes s fits long protocol clear pts cw tier kind =
 
 -- the whole, if all after section_length is there
 whole_is : (s : Section) (n : ℕ) (bytes : List ℕ) → IsBytes bytes → 20 ≤ length bytes → number_in 0 1 bytes ≡ 0xFC → number_in 1 2 bytes % 2 ^ 12 + 3 ≡ length bytes
-    → Takes (after_length s n) (drop 3 bytes) [] → Holds IsRead (section s n) bytes
+    → Takes (after_length s n) (drop 3 bytes) [] → HoldsFields IsRead (section s n) bytes
 unfolding section
 whole_is s n bytes fits long table said after =
     let size : 8 * length (drop 3 bytes) ≡ width (after_length s n) = whole_width (after_length s n) (drop 3 bytes) after in
@@ -210,7 +210,7 @@ whole_is s n bytes fits long table said after =
     let a2 = at_takes 1 2 (length_fields counted) bytes fits (omega arith) refl (tt, (tt, (tt, (omega arith, omega arith)))) in
     let b2 = Takes-then table_fields (length_fields counted) bytes (drop 1 bytes) (drop 3 bytes) a1 a2 in
     let all = Takes-then (table_fields ++ length_fields counted) (after_length s n) bytes (drop 3 bytes) [] b2 after in
-    subst (λ (x : List ℕ). Holds IsRead (section s n) x) (sym (all.whole ∙ append-nil all.front)) all.holds
+    subst (λ (x : List ℕ). HoldsFields IsRead (section s n) x) (sym (all.whole ∙ append-nil all.front)) all.holds
 
 contents_are : (bytes : List ℕ) (s : Section) → IsBytes bytes → 20 ≤ length bytes → number_in 0 1 bytes ≡ 0xFC → number_in 1 2 bytes % 2 ^ 12 + 3 ≡ length bytes
     → number_in 3 1 bytes ≡ 0 → bit 39 (number_in 4 5 bytes) ≡ false → contents_of bytes ≡ Ok s → IsSection s bytes × (command_fits s.command ≡ true)
@@ -226,7 +226,7 @@ contents_are bytes s fits long table said protocol clear e =
     let head = head_takes bytes made fits long protocol clear refl refl refl command.type_is in
     let two = Takes-then (begins made n) (command_fields c.0.0) (drop 3 bytes) (drop 14 bytes) c.0.1 head command.takes in
     let all = Takes-then (begins made n ++ command_fields c.0.0) (tail_fields t.0.0 t.0.1 t.0.2) (drop 3 bytes) c.0.1 [] two tail in
-    let after : Takes (after_length made n) (drop 3 bytes) [] = subst (λ (fs : List Field). Takes fs (drop 3 bytes) []) (after-regrouped made n) all in
+    let after : Takes (after_length made n) (drop 3 bytes) [] = subst (λ (fs : List BitField). Takes fs (drop 3 bytes) []) (after-regrouped made n) all in
     subst (λ (x : Section). IsSection x bytes × (command_fits x.command ≡ true)) {x = made} (ok_is made s t.2)
     (record { command_length = n; stated = command.stated; proper = is_proper c.0.0 command.small; fields = whole_is made n bytes fits long table said after }, command.small)
 
@@ -246,7 +246,7 @@ reading_is bytes s fits e = (reading_says bytes s fits e).0
 -- ---- And again
 
 -- what follows section_length, a field group at a time
-abbrev what_follows : Section → ℕ → List Field
+abbrev what_follows : Section → ℕ → List BitField
 what_follows s n = begins s n ++ (command_fields s.command ++ tail_fields s.descriptors s.stuffing s.crc)
 
 section-regrouped : (s : Section) (n : ℕ) → section s n ≡ table_fields ++ (length_fields (width (after_length s n) / 8) ++ what_follows s n)
@@ -276,7 +276,7 @@ heads_are : (s : Section) (n : ℕ) (bytes : List ℕ) → Lies (section s n) by
 heads_are s n bytes lies =
     let contents = command_fields s.command ++ tail_fields s.descriptors s.stuffing s.crc in
     let counted = width (after_length s n) / 8 in
-    let whole : Lies (table_fields ++ (length_fields counted ++ what_follows s n)) bytes = subst (λ (fs : List Field). Lies fs bytes) (section-regrouped s n) lies in
+    let whole : Lies (table_fields ++ (length_fields counted ++ what_follows s n)) bytes = subst (λ (fs : List BitField). Lies fs bytes) (section-regrouped s n) lies in
     let a1 = at_again 0 1 table_fields (length_fields counted ++ what_follows s n) bytes refl whole in
     let a2 = at_again 1 2 (length_fields counted) (what_follows s n) bytes refl a1.lies in
     let pts = adjustment_fields s.pts_adjustment in
@@ -323,7 +323,7 @@ is_read bytes s fits is = grind (arith, contents_again, heads_are)
 pub one_value : (bytes : List ℕ) (s t : Section) → IsBytes bytes → IsSection s bytes → IsSection t bytes → s ≡ t
 one_value bytes s t fits p q = ok_is s t (sym (is_read bytes s fits p) ∙ is_read bytes t fits q)
 
-pub is_found : (bytes : List ℕ) (result : Result SpliceInfo SpliceFault) → IsBytes bytes → Gives section_of result (reading bytes) → IfOk result (λ info. IsSection (section_of info) bytes)
+pub is_found : (bytes : List ℕ) (result : Result SpliceInfo SpliceFault) → IsBytes bytes → GivesOrSpliceFault section_of result (reading bytes) → IfOk result (λ info. IsSection (section_of info) bytes)
 is_found bytes (Ok info) fits gives = reading_is bytes (section_of info) fits gives
 is_found bytes (Err fault) fits gives = tt
 
@@ -336,11 +336,11 @@ has_one s bytes small_bytes short is =
     let lies : Lies (section s n) bytes = record { fits = small_bytes; holds = is.fields } in
     let h = heads_are s n bytes lies in
     let below : number_in 10 3 bytes < 2 ^ 24 = below_at 10 3 bytes small_bytes (omega (arith, h.long)) in
-    let adjustment : fits 33 s.pts_adjustment ≡ true = lt-ltb s.pts_adjustment (2 ^ 33) (omega (arith, h.adjustment)) in
-    let tier : fits 12 s.tier ≡ true = lt-ltb s.tier (2 ^ 12) (omega (arith, h.tier)) in
+    let adjustment : fits_bits 33 s.pts_adjustment ≡ true = lt-ltb s.pts_adjustment (2 ^ 33) (omega (arith, h.adjustment)) in
+    let tier : fits_bits 12 s.tier ≡ true = lt-ltb s.tier (2 ^ 12) (omega (arith, h.tier)) in
     let command = (reading_says bytes s small_bytes (is_read bytes s small_bytes is)).1 in
     let total : 8 * length bytes ≡ 24 + width (after_length s n) = is.fields.count ∙ width-section s n in
     let counted : section_length s ≤ 4093 = omega (arith, width-after s n, width-after s (command_length s)) in
-    and_from (fits 33 s.pts_adjustment && fits 12 s.tier && command_fits s.command) (nat_le (section_length s) 4093)
-    (and_from (fits 33 s.pts_adjustment && fits 12 s.tier) (command_fits s.command) (and_from (fits 33 s.pts_adjustment) (fits 12 s.tier) adjustment tier) command)
+    and_from (fits_bits 33 s.pts_adjustment && fits_bits 12 s.tier && command_fits s.command) (nat_le (section_length s) 4093)
+    (and_from (fits_bits 33 s.pts_adjustment && fits_bits 12 s.tier) (command_fits s.command) (and_from (fits_bits 33 s.pts_adjustment) (fits_bits 12 s.tier) adjustment tier) command)
     (le-leb (section_length s) 4093 counted)

@@ -3,7 +3,7 @@ use Rattle.std.specs.Prelude.{◌≡◌, ℕ, zero, suc, ◌*◌, ◌%◌, ◌^�
 use Rattle.std.specs.List.{flat_map}
 use Rattle.std.specs.Int.{bytes_high_first}
 use Rattle.scte35_codec.specs.Reading.{bit, reading}
-use Rattle.scte35_codec.specs.Layout.{Holds, IsWritten}
+use Rattle.scte35_codec.specs.Layout.{HoldsFields, IsWritten}
 use Rattle.scte35_codec.specs.Section.{Section, IsSection}
 use Rattle.scte35_codec.specs.Writing.{written_fields}
 
@@ -47,6 +47,6 @@ with_crc s crc = record s { crc = crc }
 pub record IsChecked (s : Section) (bytes : List ℕ) : Type 0 where
   pub front : List ℕ
   pub whole : bytes ≡ front ++ bytes_high_first 4 (crc_of front)
-  pub written : Holds IsWritten (written_fields (with_crc s (crc_of front))) bytes
+  pub written : HoldsFields IsWritten (written_fields (with_crc s (crc_of front))) bytes
   pub section : IsSection (with_crc s (crc_of front)) bytes
   pub again : reading bytes ≡ Ok (with_crc s (crc_of front))

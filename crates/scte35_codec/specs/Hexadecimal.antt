@@ -13,8 +13,8 @@ use Rattle.spec_words.specs.Outcomes.{◌>>=◌}
 use Rattle.scte35_codec.specs.Reading.{reading}
 
 -- whether a text begins with `0x` or `0X`
-abbrev pub is_marked : List ℕ → Bool
-is_marked text = slice_index text 0 == digit_zero && (slice_index text 1 == small_x || slice_index text 1 == capital_x)
+abbrev pub begins_with_0x : List ℕ → Bool
+begins_with_0x text = slice_index text 0 == digit_zero && (slice_index text 1 == small_x || slice_index text 1 == capital_x)
 
 -- an even number of digits, in either case
 abbrev pub are_pairs : List ℕ → Bool
@@ -22,7 +22,7 @@ are_pairs digits = length digits % 2 == 0 && list_all is_ascii_hexdigit digits
 
 -- whether a text is hexadecimal: `0x` or `0X`, and an even number of digits
 abbrev pub is_hex_text : List ℕ → Bool
-is_hex_text text = is_marked text && are_pairs (drop 2 text)
+is_hex_text text = begins_with_0x text && are_pairs (drop 2 text)
 
 -- the digits after `0x` or `0X`
 abbrev pub digits_of : List ℕ → Result (List ℕ) SpliceFault

@@ -8,16 +8,16 @@ pub data Content : Type 0 where
   Reserved : ℕ → Content
 
 -- a width in bits, and what stands there
-abbrev pub Field : Type 0
-Field = ℕ × Content
+abbrev pub BitField : Type 0
+BitField = ℕ × Content
 
 -- the bits of some fields
-abbrev pub width : List Field → ℕ
+abbrev pub width : List BitField → ℕ
 width [] = 0
 width (f ∷ fs) = f.0 + width fs
 
 -- each byte as a field of eight bits
-abbrev pub bytes_of : List ℕ → List Field
+abbrev pub bytes_of : List ℕ → List BitField
 bytes_of bytes = map (λ b. (8, Is b)) bytes
 
 -- every element is a byte
@@ -25,19 +25,19 @@ abbrev pub IsBytes : List ℕ → Type 0
 IsBytes bytes = (i : ℕ) → slice_index bytes i < 256
 
 -- the number of some bytes, the first byte the highest
-abbrev pub number : List ℕ → ℕ
-number [] = 0
-number (b ∷ bs) = b * 256 ^ length bs + number bs
+abbrev pub big_endian_number : List ℕ → ℕ
+big_endian_number [] = 0
+big_endian_number (b ∷ bs) = b * 256 ^ length bs + big_endian_number bs
 
 -- The fields take a number's bits apart, from the highest on. Has says which numbers a content allows.
-abbrev pub Splits : (Content → ℕ → Type 0) → List Field → ℕ → Type 0
+abbrev pub Splits : (Content → ℕ → Type 0) → List BitField → ℕ → Type 0
 Splits Has [] n = n ≡ 0
 Splits Has (f ∷ fs) n = Has f.1 (n / 2 ^ width fs) × Splits Has fs (n % 2 ^ width fs)
 
 -- The fields take some bytes apart, each bit of them.
-pub record Holds (Has : Content → ℕ → Type 0) (fields : List Field) (bytes : List ℕ) : Type 0 where
+pub record HoldsFields (Has : Content → ℕ → Type 0) (fields : List BitField) (bytes : List ℕ) : Type 0 where
   pub count : 8 * length bytes ≡ width fields
-  pub split : Splits Has fields (number bytes)
+  pub split : Splits Has fields (big_endian_number bytes)
 
 -- what a reader accepts: any bits where they are reserved
 abbrev pub IsRead : Content → ℕ → Type 0

@@ -6,18 +6,18 @@ use Rattle.scte35_codec.specs.declared.fault.SpliceFault.{SpliceFault}
 use Rattle.scte35_codec.specs.declared.fault.SpliceFault.TheVariants.{TooShort, TableId, Length, Protocol, Encrypted, CommandLength, OutOfMemory}
 use Rattle.scte35_codec.specs.declared.info.SpliceTime.{SpliceTime}
 use Rattle.scte35_codec.specs.declared.info.BreakDuration.{BreakDuration}
-use Rattle.scte35_codec.specs.Layout.{number}
+use Rattle.scte35_codec.specs.Layout.{big_endian_number}
 use Rattle.scte35_codec.specs.Section.{Target, Program, Components, Body, SpliceEvent, Command, Insert, Other, Section}
 
 -- what a function answered, seen by view, is what reading gives, a failed allocation apart
-abbrev pub Gives : {X Y : Type 0} → (X → Y) → Result X SpliceFault → Result Y SpliceFault → Type 0
-Gives view result read = outcomes.Gives OutOfMemory view result read
+abbrev pub GivesOrSpliceFault : {X Y : Type 0} → (X → Y) → Result X SpliceFault → Result Y SpliceFault → Type 0
+GivesOrSpliceFault view result read = outcomes.Gives OutOfMemory view result read
 
 -- ---- Numbers of some bytes
 
 -- the number in `count` bytes from `start` on
 abbrev pub number_in : ℕ → ℕ → List ℕ → ℕ
-number_in start count bytes = number (take count (drop start bytes))
+number_in start count bytes = big_endian_number (take count (drop start bytes))
 
 -- whether the bit at a place is set, where the lowest is at place 0
 abbrev pub bit : ℕ → ℕ → Bool
@@ -29,7 +29,7 @@ bytes_at count bytes = if nat_lt (length bytes) count then Err CommandLength els
 
 -- the number in the first bytes, and the bytes after them
 abbrev pub number_at : ℕ → List ℕ → Result (ℕ × List ℕ) SpliceFault
-number_at count bytes = if nat_lt (length bytes) count then Err CommandLength else Ok (number (take count bytes), drop count bytes)
+number_at count bytes = if nat_lt (length bytes) count then Err CommandLength else Ok (big_endian_number (take count bytes), drop count bytes)
 
 -- ---- The parts of splice_insert
 
@@ -139,7 +139,7 @@ command_at command_length kind bytes =
 unfoldable pub ending_at : List ℕ → Result (List ℕ × ℕ) SpliceFault
 ending_at bytes =
     if nat_lt (length bytes) 4 then Err CommandLength
-    else Ok (take (length bytes - 4) bytes, number (drop (length bytes - 4) bytes))
+    else Ok (take (length bytes - 4) bytes, big_endian_number (drop (length bytes - 4) bytes))
 
 -- the descriptors, the stuffing and the CRC, which stand after the command
 unfoldable pub tail_at : List ℕ → Result (List ℕ × List ℕ × ℕ) SpliceFault

@@ -10,7 +10,7 @@ use Rattle.scte35_codec.specs.declared.info.SpliceInsert.{SpliceInsert}
 use Rattle.scte35_codec.specs.declared.info.SpliceCommand.{SpliceCommand}
 use Rattle.scte35_codec.specs.declared.info.SpliceCommand.TheVariants as commands
 use Rattle.scte35_codec.specs.declared.info.SpliceInfo.{SpliceInfo}
-use Rattle.scte35_codec.specs.Layout.{Field, Is, Reserved, width, bytes_of, IsRead, Holds}
+use Rattle.scte35_codec.specs.Layout.{BitField, Is, Reserved, width, bytes_of, IsRead, HoldsFields}
 
 -- ---- What a section says, without where it lies in memory
 
@@ -49,8 +49,8 @@ abbrev pub target_of : SpliceTarget → Target
 target_of (targets.Program time) = Program time
 target_of (targets.Components components) = Components components.items
 
-abbrev pub body_of : InsertBody → Body
-body_of b = record {
+abbrev pub body_of_insert : InsertBody → Body
+body_of_insert b = record {
   out_of_network = b.out_of_network;
   immediate = b.immediate;
   target = target_of b.target;
@@ -62,7 +62,7 @@ body_of b = record {
 
 abbrev pub bodies_of : Option InsertBody → Option Body
 bodies_of None = None
-bodies_of (Some b) = Some (body_of b)
+bodies_of (Some b) = Some (body_of_insert b)
 
 abbrev pub event_of : SpliceInsert → SpliceEvent
 event_of i = record { event_id = i.event_id; body = bodies_of i.body }
@@ -88,25 +88,25 @@ abbrev pub flag : Bool → ℕ
 flag true = 1
 flag false = 0
 
-abbrev pub optional : {A : Type 0} → (A → List Field) → Option A → List Field
-optional fields None = []
-optional fields (Some x) = fields x
+abbrev pub optional_fields : {A : Type 0} → (A → List BitField) → Option A → List BitField
+optional_fields fields None = []
+optional_fields fields (Some x) = fields x
 
 -- time_specified_flag, reserved bits, and pts_time if it is specified
-abbrev pub time_fields : Option ℕ → List Field
+abbrev pub time_fields : Option ℕ → List BitField
 time_fields None = (1, Is 0) ∷ (7, Reserved 127) ∷ []
 time_fields (Some pts) = (1, Is 1) ∷ (6, Reserved 63) ∷ (33, Is pts) ∷ []
 
-abbrev pub splice_time : SpliceTime → List Field
+abbrev pub splice_time : SpliceTime → List BitField
 splice_time time = time_fields time.pts
 
 -- component_tag, and its time unless the splice is immediate
-abbrev pub component : ℕ × Option SpliceTime → List Field
-component c = (8, Is c.0) ∷ optional splice_time c.1
+abbrev pub component : ℕ × Option SpliceTime → List BitField
+component c = (8, Is c.0) ∷ optional_fields splice_time c.1
 
 -- for a program its time unless the splice is immediate, else component_count and the components
-abbrev pub target_fields : Target → List Field
-target_fields (Program time) = optional splice_time time
+abbrev pub target_fields : Target → List BitField
+target_fields (Program time) = optional_fields splice_time time
 target_fields (Components components) = (8, Is (length components)) ∷ flat_map component components
 
 abbrev pub is_program : Target → Bool
@@ -114,10 +114,10 @@ is_program (Program time) = true
 is_program (Components components) = false
 
 -- auto_return, reserved bits, duration
-abbrev pub break_duration : BreakDuration → List Field
+abbrev pub break_duration : BreakDuration → List BitField
 break_duration d = (1, Is (flag d.auto_return)) ∷ (6, Reserved 63) ∷ (33, Is d.ticks) ∷ []
 
-abbrev pub body_flags : Body → List Field
+abbrev pub body_flags : Body → List BitField
 body_flags b =
     (1, Is (flag b.out_of_network))
     ∷ (1, Is (flag (is_program b.target)))
@@ -126,21 +126,21 @@ body_flags b =
     ∷ (4, Reserved 15)
     ∷ []
 
-abbrev pub body_ids : Body → List Field
+abbrev pub body_ids : Body → List BitField
 body_ids b = (16, Is b.unique_program_id) ∷ (8, Is b.avail_num) ∷ (8, Is b.avails_expected) ∷ []
 
-unfoldable pub body_fields : Body → List Field
-body_fields b = body_flags b ++ target_fields b.target ++ optional break_duration b.duration ++ body_ids b
+unfoldable pub body_fields : Body → List BitField
+body_fields b = body_flags b ++ target_fields b.target ++ optional_fields break_duration b.duration ++ body_ids b
 
 -- splice_event_cancel_indicator, reserved bits
-abbrev pub cancel_fields : Bool → List Field
+abbrev pub cancel_fields : Bool → List BitField
 cancel_fields is_cancelled = (1, Is (flag is_cancelled)) ∷ (7, Reserved 127) ∷ []
 
 -- splice_event_id, splice_event_cancel_indicator, and what follows unless the event is cancelled
-unfoldable pub splice_insert : SpliceEvent → List Field
-splice_insert i = (32, Is i.event_id) ∷ cancel_fields (is_none i.body) ++ optional body_fields i.body
+unfoldable pub splice_insert : SpliceEvent → List BitField
+splice_insert i = (32, Is i.event_id) ∷ cancel_fields (is_none i.body) ++ optional_fields body_fields i.body
 
-abbrev pub command_fields : Command → List Field
+abbrev pub command_fields : Command → List BitField
 command_fields (Insert i) = splice_insert i
 command_fields (Other kind bytes) = bytes_of bytes
 
@@ -150,7 +150,7 @@ command_type (Insert i) = 5
 command_type (Other kind bytes) = kind
 
 -- the fields up to section_length, which is this
-abbrev pub start_fields : ℕ → List Field
+abbrev pub start_fields : ℕ → List BitField
 start_fields section_length =
     (8, Is 0xFC)  -- table_id
     ∷ (1, Reserved 0)  -- section_syntax_indicator
@@ -160,7 +160,7 @@ start_fields section_length =
     ∷ []
 
 -- the fields from there to the command, if splice_command_length is this
-abbrev pub heading_fields : Section → ℕ → List Field
+abbrev pub heading_fields : Section → ℕ → List BitField
 heading_fields s command_length =
     (8, Is 0)  -- protocol_version
     ∷ (1, Is 0)  -- encrypted_packet
@@ -173,15 +173,15 @@ heading_fields s command_length =
     ∷ []
 
 -- descriptor_loop_length, the descriptors, the stuffing, CRC_32
-abbrev pub ending_fields : Section → List Field
+abbrev pub ending_fields : Section → List BitField
 ending_fields s = (16, Is (length s.descriptors)) ∷ bytes_of s.descriptors ++ bytes_of s.stuffing ++ (32, Is s.crc) ∷ []
 
 -- what follows section_length
-unfoldable pub after_length : Section → ℕ → List Field
+unfoldable pub after_length : Section → ℕ → List BitField
 after_length s command_length = heading_fields s command_length ++ command_fields s.command ++ ending_fields s
 
 -- the section, if splice_command_length is this: section_length counts the bytes that follow it
-unfoldable pub section : Section → ℕ → List Field
+unfoldable pub section : Section → ℕ → List BitField
 section s command_length = start_fields (width (after_length s command_length) / 8) ++ after_length s command_length
 
 -- ---- What a value of these fields keeps
@@ -213,4 +213,4 @@ pub record IsSection (s : Section) (bytes : List ℕ) : Type 0 where
   pub command_length : ℕ
   pub stated : StatesLength s.command command_length
   pub proper : IsProper s.command
-  pub fields : Holds IsRead (section s command_length) bytes
+  pub fields : HoldsFields IsRead (section s command_length) bytes

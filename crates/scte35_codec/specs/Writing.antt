@@ -3,16 +3,16 @@ use Rattle.std.specs.Prelude.{ℕ, ◌/◌, ◌^◌, Bool, true, not, ◌&&◌, 
 use Rattle.std.specs.List.{list_all}
 use Rattle.scte35_codec.specs.declared.info.SpliceTime.{SpliceTime}
 use Rattle.scte35_codec.specs.declared.info.BreakDuration.{BreakDuration}
-use Rattle.scte35_codec.specs.Layout.{Field, width}
+use Rattle.scte35_codec.specs.Layout.{BitField, width}
 use Rattle.scte35_codec.specs.Section.{Target, Program, Components, Body, Command, Insert, Other, Section, command_fields, after_length, section, is_timed}
 
 -- whether a number fits a field of so many bits
-abbrev pub fits : ℕ → ℕ → Bool
-fits bits n = nat_lt n (2 ^ bits)
+abbrev pub fits_bits : ℕ → ℕ → Bool
+fits_bits bits n = nat_lt n (2 ^ bits)
 
 abbrev pub pts_fits : Option ℕ → Bool
 pts_fits None = true
-pts_fits (Some pts) = fits 33 pts
+pts_fits (Some pts) = fits_bits 33 pts
 
 abbrev pub time_fits : Option SpliceTime → Bool
 time_fits None = true
@@ -28,7 +28,7 @@ target_fits immediate (Components components) = nat_le (length components) 255 &
 
 abbrev pub duration_fits : Option BreakDuration → Bool
 duration_fits None = true
-duration_fits (Some duration) = fits 33 duration.ticks
+duration_fits (Some duration) = fits_bits 33 duration.ticks
 
 abbrev pub body_fits : Option Body → Bool
 body_fits None = true
@@ -49,8 +49,8 @@ section_length s = width (after_length s (command_length s)) / 8
 
 -- whether a value has a section that may be written: section_length is at most 4093
 unfoldable pub has_section : Section → Bool
-has_section s = fits 33 s.pts_adjustment && fits 12 s.tier && command_fits s.command && nat_le (section_length s) 4093
+has_section s = fits_bits 33 s.pts_adjustment && fits_bits 12 s.tier && command_fits s.command && nat_le (section_length s) 4093
 
 -- the fields of a section that is written, with all its lengths counted
-abbrev pub written_fields : Section → List Field
+abbrev pub written_fields : Section → List BitField
 written_fields s = section s (command_length s)

@@ -1,15 +1,15 @@
 //! Numbers of some bytes, the first byte the highest, and their bits.
 
 ghost use Rattle.std.specs.Prelude.{◌≡◌, ◌+◌, ◌^◌, ◌<◌, ◌≤◌, length, IfOk};
-ghost use Rattle.scte35_codec.specs.Layout.{number};
-ghost use Rattle.scte35_codec.specs.Reading.{Gives, number_at, bytes_at, number_in, bit};
+ghost use Rattle.scte35_codec.specs.Layout.{big_endian_number};
+ghost use Rattle.scte35_codec.specs.Reading.{GivesOrSpliceFault, number_at, bytes_at, number_in, bit};
 
 use crate::fault::SpliceFault;
 
 /// The number that `bytes` hold, at most eight of them, the highest byte first.
-pub fn number(bytes: &[u8]) -> u64
+pub fn big_endian_number(bytes: &[u8]) -> u64
     requires { length bytes.now ≤ 8 }
-    ensures value { result ≡ number bytes.now }
+    ensures value { result ≡ big_endian_number bytes.now }
     ensures below { result < 256 ^ length bytes.now }
 {
     let mut number = 0;
@@ -26,7 +26,7 @@ pub fn number_in(bytes: &[u8], start: usize, count: usize) -> u64
     ensures value { result ≡ number_in start count bytes.now }
     ensures below { result < 256 ^ count }
 {
-    number(&bytes[start..start + count])
+    big_endian_number(&bytes[start..start + count])
 }
 
 /// The bit of `number` at `place`: the lowest is at place 0.
@@ -41,16 +41,16 @@ pub fn bit(number: u64, place: u32) -> bool
 /// fewer.
 pub fn take_number(bytes: &[u8], count: usize) -> Result<(u64, &[u8]), SpliceFault>
     requires { count ≤ 8 }
-    ensures value { Gives (λ x. (x.0, x.1.now)) result (number_at count bytes.now) }
+    ensures value { GivesOrSpliceFault (λ x. (x.0, x.1.now)) result (number_at count bytes.now) }
     ensures below { IfOk result (λ x. x.0 < 256 ^ count) }
 {
     let (front, rest) = take_bytes(bytes, count)?;
-    Ok((number(front), rest))
+    Ok((big_endian_number(front), rest))
 }
 
 /// The first `count` of `bytes`, and those after them. `CommandLength` if there are fewer.
 pub fn take_bytes(bytes: &[u8], count: usize) -> Result<(&[u8], &[u8]), SpliceFault>
-    ensures value { Gives (λ x. (x.0.now, x.1.now)) result (bytes_at count bytes.now) }
+    ensures value { GivesOrSpliceFault (λ x. (x.0.now, x.1.now)) result (bytes_at count bytes.now) }
     ensures len { IfOk result (λ x. length x.0.now ≡ count) }
 {
     if bytes.len() < count {

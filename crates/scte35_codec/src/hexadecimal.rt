@@ -5,7 +5,7 @@ ghost use Rattle.std.specs.List.{list_all};
 ghost use Rattle.std.specs.Char.{is_ascii_hexdigit};
 ghost use Rattle.hex.specs.Hex.{decode_of};
 ghost use Rattle.scte35_codec.specs.Section.{Section, section_of, IsSection};
-ghost use Rattle.scte35_codec.specs.Reading.{Gives};
+ghost use Rattle.scte35_codec.specs.Reading.{GivesOrSpliceFault};
 ghost use Rattle.scte35_codec.specs.declared.fault.SpliceFault.{SpliceFault};
 ghost use Rattle.scte35_codec.specs.declared.fault.SpliceFault.TheVariants.{NotHex, CommandLength, TooLarge};
 ghost use Rattle.scte35_codec.specs.Hexadecimal.{are_pairs, is_hex_text, digits_of, hex_bytes, reading_hex};
@@ -55,7 +55,7 @@ const FEW: usize = 256;
 fn read_few(alloc: Global, digits: &[u8]) -> Result<SpliceInfo, SpliceFault>
     requires pairs { IsTrue (are_pairs digits.now) }
     requires few { length digits.now ≤ 512 }
-    ensures exact { Gives section_of result (reading_digits digits.now) }
+    ensures exact { GivesOrSpliceFault section_of result (reading_digits digits.now) }
     ensures told { (e : SpliceFault) → reading_digits digits.now ≡ Err e → e ≢ CommandLength
         → result ≡ Err e }
 {
@@ -68,7 +68,7 @@ fn read_few(alloc: Global, digits: &[u8]) -> Result<SpliceInfo, SpliceFault>
 // The same of any number of digits. No more bytes are decoded than show that there are too many.
 fn read_many(alloc: Global, digits: &[u8]) -> Result<SpliceInfo, SpliceFault>
     requires { IsTrue (are_pairs digits.now) }
-    ensures exact { Gives section_of result (reading_digits digits.now) }
+    ensures exact { GivesOrSpliceFault section_of result (reading_digits digits.now) }
     ensures told { (e : SpliceFault) → reading_digits digits.now ≡ Err e → e ≢ CommandLength
         → result ≡ Err e }
 {
@@ -82,7 +82,7 @@ fn read_many(alloc: Global, digits: &[u8]) -> Result<SpliceInfo, SpliceFault>
 // The section of pairs of digits.
 fn read_digits(alloc: Global, digits: &[u8]) -> Result<SpliceInfo, SpliceFault>
     requires { IsTrue (are_pairs digits.now) }
-    ensures exact { Gives section_of result (reading_digits digits.now) }
+    ensures exact { GivesOrSpliceFault section_of result (reading_digits digits.now) }
     ensures told { (e : SpliceFault) → reading_digits digits.now ≡ Err e → e ≢ CommandLength
         → result ≡ Err e }
 {
@@ -94,7 +94,7 @@ fn read_digits(alloc: Global, digits: &[u8]) -> Result<SpliceInfo, SpliceFault>
 
 #[tactic(auto, unfolding(crate::specs::Hexadecimal::reading_hex, crate::specs::Hexadecimal::hex_bytes))]
 fn section_of_text(alloc: Global, text: &str) -> Result<SpliceInfo, SpliceFault>
-    ensures exact { Gives section_of result (reading_hex text.now) }
+    ensures exact { GivesOrSpliceFault section_of result (reading_hex text.now) }
     ensures told { (e : SpliceFault) → reading_hex text.now ≡ Err e → e ≢ CommandLength
         → result ≡ Err e }
 {
@@ -115,10 +115,10 @@ pub fn read_hex(alloc: Global, text: &str) -> Result<SpliceInfo, SpliceFault>
 
     // What the text's bytes say is read, unless memory runs out.
     ensures only { (bytes : List ℕ) (s : Section) → hex_bytes text.now ≡ Ok bytes
-        → IsSection s bytes → Gives section_of result (Ok s) }
+        → IsSection s bytes → GivesOrSpliceFault section_of result (Ok s) }
 
     // Which fault it is. All but CommandLength are told whatever memory there is.
-    ensures exact { Gives section_of result (reading_hex text.now) }
+    ensures exact { GivesOrSpliceFault section_of result (reading_hex text.now) }
     ensures told { (e : SpliceFault) → reading_hex text.now ≡ Err e → e ≢ CommandLength
         → result ≡ Err e }
     ensures not_hex { (result ≡ Err NotHex) ↔ (is_hex_text text.now ≡ false) }

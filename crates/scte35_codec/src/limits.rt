@@ -3,7 +3,7 @@
 ghost use Rattle.std.specs.Prelude.{◌≡◌, ◌+◌, ◌*◌, ◌-◌, ◌^◌, ◌≤◌, IsTrue, Some, length, min};
 ghost use Rattle.std.specs.List.{flat_map, list_all};
 ghost use Rattle.scte35_codec.specs.Layout.{width};
-ghost use Rattle.scte35_codec.specs.Section.{optional, splice_time, component, target_of, target_fields, bodies_of, body_fields, splice_insert, command_of, command_fields, break_duration, section_of};
+ghost use Rattle.scte35_codec.specs.Section.{optional_fields, splice_time, component, target_of, target_fields, bodies_of, body_fields, splice_insert, command_of, command_fields, break_duration, section_of};
 ghost use Rattle.scte35_codec.specs.Writing.{place_fits, target_fits, duration_fits, body_fits, command_fits, section_length, has_section};
 ghost use Rattle.scte35_codec.specs.Inner.Writing.{IsCounted};
 
@@ -77,7 +77,7 @@ fn command_fits(command: &SpliceCommand) -> bool
 
 // How many bytes a time takes.
 fn time_len(time: Option<SpliceTime>) -> usize
-    ensures value { 8 * result ≡ width (optional splice_time time) }
+    ensures value { 8 * result ≡ width (optional_fields splice_time time) }
     ensures most { result ≤ 5 }
 {
     match time {
@@ -111,7 +111,7 @@ fn target_len(target: &SpliceTarget) -> usize
 }
 
 fn duration_len(duration: Option<BreakDuration>) -> usize
-    ensures value { 8 * result ≡ width (optional break_duration duration) }
+    ensures value { 8 * result ≡ width (optional_fields break_duration duration) }
     ensures most { result ≤ 5 }
 {
     match duration {
@@ -123,7 +123,7 @@ fn duration_len(duration: Option<BreakDuration>) -> usize
 #[tactic(auto, using(crate::proofs::Lengths::width_of_body))]
 fn body_len(body: &Option<InsertBody>) -> usize
     requires { IsTrue (body_fits (bodies_of body.now)) }
-    ensures value { 8 * result ≡ width (optional body_fields (bodies_of body.now)) }
+    ensures value { 8 * result ≡ width (optional_fields body_fields (bodies_of body.now)) }
     ensures most { result ≤ 1541 }
 {
     match body {

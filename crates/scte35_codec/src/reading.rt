@@ -3,10 +3,10 @@
 ghost use Rattle.std.specs.Prelude.{◌≡◌, ◌≢◌, ◌≤◌, length, IfOk, IfErr, Ok, Err};
 ghost use Rattle.scte35_codec.specs.declared.fault.SpliceFault.{SpliceFault};
 ghost use Rattle.scte35_codec.specs.declared.fault.SpliceFault.TheVariants.{NotHex, CommandLength, TooLarge};
-ghost use Rattle.scte35_codec.specs.Section.{Section, target_of, body_of, bodies_of, event_of, command_of, section_of, IsSection};
-ghost use Rattle.scte35_codec.specs.Reading.{Gives, time_at, optional_time_at, component_at, components_at, target_at, optional_duration_at, body_at, optional_body_at, insert_at, whole_insert_at, unmeasured_at, measured_of, command_at, ending_at, tail_at, contents_of, reading};
+ghost use Rattle.scte35_codec.specs.Section.{Section, target_of, body_of_insert, bodies_of, event_of, command_of, section_of, IsSection};
+ghost use Rattle.scte35_codec.specs.Reading.{GivesOrSpliceFault, time_at, optional_time_at, component_at, components_at, target_at, optional_duration_at, body_at, optional_body_at, insert_at, whole_insert_at, unmeasured_at, measured_of, command_at, ending_at, tail_at, contents_of, reading};
 
-use crate::bits::{bit, number, number_in, take_bytes, take_number};
+use crate::bits::{big_endian_number, bit, number_in, take_bytes, take_number};
 use crate::fault::SpliceFault;
 use crate::info::{
     BreakDuration, InsertBody, SPLICE_INSERT, SpliceCommand, SpliceInfo, SpliceInsert,
@@ -25,7 +25,7 @@ const UNSTATED: u64 = 0xFFF;
 // The splice_time() at the front of `bytes`, and the bytes after it (SCTE 35, section 9.8.1).
 #[tactic(auto, unfolding(crate::specs::Reading::time_at, crate::specs::Reading::specified_time_at))]
 fn take_time(bytes: &[u8]) -> Result<(SpliceTime, &[u8]), SpliceFault>
-    ensures { Gives (λ x. (x.0, x.1.now)) result (time_at bytes.now) }
+    ensures { GivesOrSpliceFault (λ x. (x.0, x.1.now)) result (time_at bytes.now) }
 {
     let (flags, rest) = take_number(bytes, 1)?;
     if !bit(flags, 7) {
@@ -42,7 +42,8 @@ fn take_optional_time(
     immediate: bool,
     bytes: &[u8],
 ) -> Result<(Option<SpliceTime>, &[u8]), SpliceFault>
-    ensures { Gives (λ x. (x.0, x.1.now)) result (optional_time_at immediate bytes.now) }
+    ensures { GivesOrSpliceFault (λ x. (x.0, x.1.now)) result
+        (optional_time_at immediate bytes.now) }
 {
     if immediate {
         return Ok((None, bytes));
@@ -56,7 +57,7 @@ fn take_component(
     immediate: bool,
     bytes: &[u8],
 ) -> Result<((u8, Option<SpliceTime>), &[u8]), SpliceFault>
-    ensures { Gives (λ x. (x.0, x.1.now)) result (component_at immediate bytes.now) }
+    ensures { GivesOrSpliceFault (λ x. (x.0, x.1.now)) result (component_at immediate bytes.now) }
 {
     let (tag, rest) = take_number(bytes, 1)?;
     let (time, rest) = take_optional_time(immediate, rest)?;
@@ -69,7 +70,8 @@ fn take_optional_duration(
     stated: bool,
     bytes: &[u8],
 ) -> Result<(Option<BreakDuration>, &[u8]), SpliceFault>
-    ensures { Gives (λ x. (x.0, x.1.now)) result (optional_duration_at stated bytes.now) }
+    ensures { GivesOrSpliceFault (λ x. (x.0, x.1.now)) result
+        (optional_duration_at stated bytes.now) }
 {
     if !stated {
         return Ok((None, bytes));
@@ -86,7 +88,8 @@ fn take_components(
     count: u64,
     bytes: &[u8],
 ) -> Result<(Vec<(u8, Option<SpliceTime>)>, &[u8]), SpliceFault>
-    ensures { Gives (λ x. (x.0.items, x.1.now)) result (components_at immediate count bytes.now) }
+    ensures { GivesOrSpliceFault (λ x. (x.0.items, x.1.now)) result
+        (components_at immediate count bytes.now) }
 {
     let mut components = Vec::with_capacity(alloc, count as usize)?;
     let mut rest = bytes;
@@ -105,7 +108,7 @@ fn take_target(
     immediate: bool,
     bytes: &[u8],
 ) -> Result<(SpliceTarget, &[u8]), SpliceFault>
-    ensures { Gives (λ x. (target_of x.0, x.1.now)) result
+    ensures { GivesOrSpliceFault (λ x. (target_of x.0, x.1.now)) result
         (target_at is_program immediate bytes.now) }
 {
     if is_program {
@@ -119,7 +122,7 @@ fn take_target(
 
 #[tactic(auto, unfolding(crate::specs::Reading::body_at))]
 fn take_body(alloc: Global, bytes: &[u8]) -> Result<(InsertBody, &[u8]), SpliceFault>
-    ensures { Gives (λ x. (body_of x.0, x.1.now)) result (body_at bytes.now) }
+    ensures { GivesOrSpliceFault (λ x. (body_of_insert x.0, x.1.now)) result (body_at bytes.now) }
 {
     let (flags, rest) = take_number(bytes, 1)?;
     let immediate = bit(flags, 4);
@@ -144,7 +147,7 @@ fn take_optional_body(
     is_cancelled: bool,
     bytes: &[u8],
 ) -> Result<(Option<InsertBody>, &[u8]), SpliceFault>
-    ensures { Gives (λ x. (bodies_of x.0, x.1.now)) result
+    ensures { GivesOrSpliceFault (λ x. (bodies_of x.0, x.1.now)) result
         (optional_body_at is_cancelled bytes.now) }
 {
     if is_cancelled {
@@ -157,7 +160,7 @@ fn take_optional_body(
 // The splice_insert() at the front of `bytes`, and the bytes after it (SCTE 35, section 9.7.3).
 #[tactic(auto, unfolding(crate::specs::Reading::insert_at))]
 fn take_insert(alloc: Global, bytes: &[u8]) -> Result<(SpliceInsert, &[u8]), SpliceFault>
-    ensures { Gives (λ x. (event_of x.0, x.1.now)) result (insert_at bytes.now) }
+    ensures { GivesOrSpliceFault (λ x. (event_of x.0, x.1.now)) result (insert_at bytes.now) }
 {
     let (event_id, rest) = take_number(bytes, 4)?;
     let (flags, rest) = take_number(rest, 1)?;
@@ -169,7 +172,7 @@ fn take_insert(alloc: Global, bytes: &[u8]) -> Result<(SpliceInsert, &[u8]), Spl
 // The splice_insert that takes all of the bytes.
 #[tactic(auto, unfolding(crate::specs::Reading::whole_insert_at))]
 fn whole_insert(alloc: Global, bytes: &[u8]) -> Result<SpliceInsert, SpliceFault>
-    ensures { Gives event_of result (whole_insert_at bytes.now) }
+    ensures { GivesOrSpliceFault event_of result (whole_insert_at bytes.now) }
 {
     let (insert, rest) = take_insert(alloc, bytes)?;
     if !rest.is_empty() {
@@ -185,7 +188,8 @@ fn take_unmeasured(
     kind: u8,
     bytes: &[u8],
 ) -> Result<(SpliceCommand, &[u8]), SpliceFault>
-    ensures { Gives (λ x. (command_of x.0, x.1.now)) result (unmeasured_at kind bytes.now) }
+    ensures { GivesOrSpliceFault (λ x. (command_of x.0, x.1.now)) result
+        (unmeasured_at kind bytes.now) }
 {
     if kind != SPLICE_INSERT {
         return Err(SpliceFault::CommandLength);
@@ -197,7 +201,7 @@ fn take_unmeasured(
 // The command of these bytes.
 #[tactic(auto, unfolding(crate::specs::Reading::measured_of))]
 fn whole_command(alloc: Global, kind: u8, bytes: &[u8]) -> Result<SpliceCommand, SpliceFault>
-    ensures { Gives command_of result (measured_of kind bytes.now) }
+    ensures { GivesOrSpliceFault command_of result (measured_of kind bytes.now) }
 {
     if kind == SPLICE_INSERT {
         let insert = whole_insert(alloc, bytes)?;
@@ -217,7 +221,8 @@ fn take_command(
     kind: u8,
     bytes: &[u8],
 ) -> Result<(SpliceCommand, &[u8]), SpliceFault>
-    ensures { Gives (λ x. (command_of x.0, x.1.now)) result (command_at length kind bytes.now) }
+    ensures { GivesOrSpliceFault (λ x. (command_of x.0, x.1.now)) result
+        (command_at length kind bytes.now) }
 {
     if length == UNSTATED {
         return take_unmeasured(alloc, kind, bytes);
@@ -230,19 +235,19 @@ fn take_command(
 // The stuffing, and the CRC in the last four bytes.
 #[tactic(auto, unfolding(crate::specs::Reading::ending_at))]
 fn stuffing_and_crc(bytes: &[u8]) -> Result<(&[u8], u32), SpliceFault>
-    ensures { Gives (λ x. (x.0.now, x.1)) result (ending_at bytes.now) }
+    ensures { GivesOrSpliceFault (λ x. (x.0.now, x.1)) result (ending_at bytes.now) }
 {
     if bytes.len() < 4 {
         return Err(SpliceFault::CommandLength);
     }
     let (stuffing, crc) = bytes.split_at(bytes.len() - 4);
-    Ok((stuffing, number(crc) as u32))
+    Ok((stuffing, big_endian_number(crc) as u32))
 }
 
 // The descriptors, the stuffing and the CRC.
 #[tactic(auto, unfolding(crate::specs::Reading::tail_at))]
 fn tail(alloc: Global, bytes: &[u8]) -> Result<(Vec<u8>, Vec<u8>, u32), SpliceFault>
-    ensures { Gives (λ x. (x.0.items, x.1.items, x.2)) result (tail_at bytes.now) }
+    ensures { GivesOrSpliceFault (λ x. (x.0.items, x.1.items, x.2)) result (tail_at bytes.now) }
 {
     let (count, rest) = take_number(bytes, 2)?;
     let (descriptors, rest) = take_bytes(rest, count as usize)?;
@@ -256,7 +261,7 @@ fn tail(alloc: Global, bytes: &[u8]) -> Result<(Vec<u8>, Vec<u8>, u32), SpliceFa
 #[tactic(auto, unfolding(crate::specs::Reading::contents_of))]
 fn contents(alloc: Global, bytes: &[u8]) -> Result<SpliceInfo, SpliceFault>
     requires { 20 ≤ length bytes.now }
-    ensures { Gives section_of result (contents_of bytes.now) }
+    ensures { GivesOrSpliceFault section_of result (contents_of bytes.now) }
 {
     let tier = number_in(bytes, 10, 3);
     let kind = number_in(bytes, 13, 1) as u8;
@@ -276,7 +281,7 @@ fn contents(alloc: Global, bytes: &[u8]) -> Result<SpliceInfo, SpliceFault>
 // The section that all of `bytes` are, or its first fault (SCTE 35, section 9.6).
 #[tactic(auto, unfolding(crate::specs::Reading::reading))]
 fn section(alloc: Global, bytes: &[u8]) -> Result<SpliceInfo, SpliceFault>
-    ensures exact { Gives section_of result (reading bytes.now) }
+    ensures exact { GivesOrSpliceFault section_of result (reading bytes.now) }
     ensures told { (e : SpliceFault) → reading bytes.now ≡ Err e → e ≢ CommandLength
         → result ≡ Err e }
 {
@@ -317,10 +322,11 @@ pub fn read(alloc: Global, bytes: &[u8]) -> Result<SpliceInfo, SpliceFault>
     ensures found { IfOk result (λ info. IsSection (section_of info) bytes.now) }
 
     // What is laid out so is read, unless memory runs out.
-    ensures only { (s : Section) → IsSection s bytes.now → Gives section_of result (Ok s) }
+    ensures only { (s : Section) → IsSection s bytes.now
+        → GivesOrSpliceFault section_of result (Ok s) }
 
     // Which fault it is. All but CommandLength are told whatever memory there is.
-    ensures exact { Gives section_of result (reading bytes.now) }
+    ensures exact { GivesOrSpliceFault section_of result (reading bytes.now) }
     ensures told { (e : SpliceFault) → reading bytes.now ≡ Err e → e ≢ CommandLength
         → result ≡ Err e }
     ensures fault { IfErr result (λ e. (e ≢ NotHex) × (e ≢ TooLarge)) }

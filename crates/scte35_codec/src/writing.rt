@@ -3,8 +3,8 @@
 ghost use Rattle.std.specs.Prelude.{◌≡◌, ℕ, List, ◌+◌, ◌*◌, ◌^◌, ◌<◌, ◌≤◌, ◌++◌, ◌↔◌, ◌⊎◌, [], ◌∷◌, false, IsTrue, OnOk, IfOk, IfErr, Some, Ok, Err, length};
 ghost use Rattle.std.specs.List.{flat_map, list_all};
 ghost use Rattle.std.specs.Int.{bytes_high_first};
-ghost use Rattle.scte35_codec.specs.Layout.{Is, IsBytes, Reserved, bytes_of, Holds, IsWritten};
-ghost use Rattle.scte35_codec.specs.Section.{flag, optional, splice_time, component, target_of, target_fields, is_program, body_of, bodies_of, body_flags, body_fields, cancel_fields, event_of, splice_insert, command_of, command_fields, command_type, break_duration, start_fields, heading_fields, ending_fields, section_of, IsSection, Section};
+ghost use Rattle.scte35_codec.specs.Layout.{Is, IsBytes, Reserved, bytes_of, HoldsFields, IsWritten};
+ghost use Rattle.scte35_codec.specs.Section.{flag, optional_fields, splice_time, component, target_of, target_fields, is_program, body_of_insert, bodies_of, body_flags, body_fields, cancel_fields, event_of, splice_insert, command_of, command_fields, command_type, break_duration, start_fields, heading_fields, ending_fields, section_of, IsSection, Section};
 ghost use Rattle.scte35_codec.specs.Writing.{time_fits, duration_fits, body_fits, command_fits, has_section, written_fields, section_length as counted_length};
 ghost use Rattle.scte35_codec.specs.Inner.Writing.{TargetFits, Appends, front_fields, tail_fields};
 ghost use Rattle.scte35_codec.specs.Crc.{crc_of, IsChecked};
@@ -79,7 +79,7 @@ fn put_time(out: &mut Vec<u8>, time: SpliceTime) -> Result<(), AllocError>
 
 fn put_optional_time(out: &mut Vec<u8>, time: Option<SpliceTime>) -> Result<(), AllocError>
     requires { IsTrue (time_fits time) }
-    ensures { OnOk result (Appends (optional splice_time time) out.old.items out.new.items) }
+    ensures { OnOk result (Appends (optional_fields splice_time time) out.old.items out.new.items) }
 {
     match time {
         None => Ok(()),
@@ -89,7 +89,8 @@ fn put_optional_time(out: &mut Vec<u8>, time: Option<SpliceTime>) -> Result<(), 
 
 fn put_duration(out: &mut Vec<u8>, duration: Option<BreakDuration>) -> Result<(), AllocError>
     requires { IsTrue (duration_fits duration) }
-    ensures { OnOk result (Appends (optional break_duration duration) out.old.items out.new.items) }
+    ensures { OnOk result
+        (Appends (optional_fields break_duration duration) out.old.items out.new.items) }
 {
     match duration {
         None => Ok(()),
@@ -150,7 +151,8 @@ fn is_program(target: &SpliceTarget) -> bool
 }
 
 fn put_flags(out: &mut Vec<u8>, body: &InsertBody) -> Result<(), AllocError>
-    ensures { OnOk result (Appends (body_flags (body_of body.now)) out.old.items out.new.items) }
+    ensures { OnOk result
+        (Appends (body_flags (body_of_insert body.now)) out.old.items out.new.items) }
 {
     let flags = flag(body.out_of_network, 7)
         + flag(is_program(&body.target), 6)
@@ -161,8 +163,9 @@ fn put_flags(out: &mut Vec<u8>, body: &InsertBody) -> Result<(), AllocError>
 
 #[tactic(auto, using(crate::proofs::Fits::target_needs), unfolding(crate::specs::Section::body_fields))]
 fn put_body(out: &mut Vec<u8>, body: &InsertBody) -> Result<(), AllocError>
-    requires { IsTrue (body_fits (Some (body_of body.now))) }
-    ensures { OnOk result (Appends (body_fields (body_of body.now)) out.old.items out.new.items) }
+    requires { IsTrue (body_fits (Some (body_of_insert body.now))) }
+    ensures { OnOk result
+        (Appends (body_fields (body_of_insert body.now)) out.old.items out.new.items) }
 {
     put_flags(out, body)?;
     put_target(out, &body.target)?;
@@ -176,7 +179,7 @@ fn put_body(out: &mut Vec<u8>, body: &InsertBody) -> Result<(), AllocError>
 fn put_optional_body(out: &mut Vec<u8>, body: &Option<InsertBody>) -> Result<(), AllocError>
     requires { IsTrue (body_fits (bodies_of body.now)) }
     ensures { OnOk result
-        (Appends (optional body_fields (bodies_of body.now)) out.old.items out.new.items) }
+        (Appends (optional_fields body_fields (bodies_of body.now)) out.old.items out.new.items) }
 {
     match body {
         None => Ok(()),
@@ -290,7 +293,7 @@ fn put_front(out: &mut Vec<u8>, info: &SpliceInfo, section_length: usize) -> Res
 }
 
 // The section up to CRC_32.
-fn front_of(alloc: Global, info: &SpliceInfo) -> Result<Vec<u8>, SpliceFault>
+fn section_front(alloc: Global, info: &SpliceInfo) -> Result<Vec<u8>, SpliceFault>
     ensures refused { (result ≡ Err TooLarge) ↔ (has_section (section_of info.now) ≡ false) }
     ensures fault { IfErr result (λ e. (e ≡ OutOfMemory) ⊎ (e ≡ TooLarge)) }
     ensures fits { IfOk result (λ _. IsTrue (has_section (section_of info.now))) }
@@ -319,13 +322,13 @@ pub fn write(alloc: Global, info: &SpliceInfo) -> Result<Vec<u8>, SpliceFault>
 
     // What is written is the value's section, with each reserved bit as the layout has it.
     ensures written { IfOk result
-        (λ bytes. Holds IsWritten (written_fields (section_of info.now)) bytes.items) }
+        (λ bytes. HoldsFields IsWritten (written_fields (section_of info.now)) bytes.items) }
     ensures section { IfOk result (λ bytes. IsSection (section_of info.now) bytes.items) }
 
     // It is read as the same value.
     ensures again { IfOk result (λ bytes. reading bytes.items ≡ Ok (section_of info.now)) }
 {
-    let mut out = front_of(alloc, info)?;
+    let mut out = section_front(alloc, info)?;
     put_u32(&mut out, info.crc)?;
     Ok(out)
 }
@@ -342,7 +345,7 @@ pub fn write_with_crc(alloc: Global, info: &SpliceInfo) -> Result<Vec<u8>, Splic
     ensures checked { IfOk result (λ bytes. IsChecked (section_of info.now) bytes.items) }
     ensures zero { IfOk result (λ bytes. crc_of bytes.items ≡ 0) }
 {
-    let mut out = front_of(alloc, info)?;
+    let mut out = section_front(alloc, info)?;
     let crc = crc_of(&out);
     put_number(&mut out, u64::from(crc), 4)?;
     Ok(out)

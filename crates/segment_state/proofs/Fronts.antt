@@ -7,7 +7,7 @@ use Rattle.std.proofs.lemmas.List.{take-append-drop, length-take-le}
 use Rattle.std.proofs.lemmas.List.Sums.{position_or_len_is, fails_before_first, passes_at_first}
 use Rattle.fixed_duration.specs.Duration.{duration_of}
 use Rattle.playlist_model.specs.Said.{duration, duration_said}
-use Rattle.segment_state.specs.Inner.Fronts.{IsFront}
+use Rattle.segment_state.specs.Inner.Fronts.{IsDurationFront}
 
 -- an element of the front, with other elements after it
 within_front : (xs after : List ℕ) (n k : ℕ) → n < length xs → k ≤ n → get_or (take (n + 1) xs ++ after) k 0 ≡ get_or xs k 0
@@ -32,7 +32,7 @@ said_at text n nanos title e d t = rw (e, d, t) refl
 
 -- the front with any title states the duration of what stands before its comma
 pub front_states : (text front : List ℕ) (nanos n : ℕ) → n ≡ length (before_first (λ b. b == 44) text) → front ≡ slice_range text 0 (n + 1) → n + 1 ≤ length text
-    → Ok nanos ≡ duration_of (before_first (λ b. b == 44) text) → IsFront front nanos
+    → Ok nanos ≡ duration_of (before_first (λ b. b == 44) text) → IsDurationFront front nanos
 front_states text front nanos n size is within stated = λ title.
     let at : n ≡ position_or_len (λ b. b == 44) text = grind (arith, common_steps, size, within) in
     let below : n < length text = omega (arith, within) in
@@ -41,6 +41,6 @@ front_states text front nanos n size is within stated = λ title.
     rw front_is (said_at (take (n + 1) text ++ title) n nanos title (cut_again (λ b. b == 44) text title n at below) value (after_again text title n below))
 
 -- so does a text with that front
-pub stated_again : (text front title : List ℕ) (nanos n : ℕ) → IsFront front nanos → front ≡ take n text → title ≡ drop n text → duration_said text ≡ Ok (duration nanos title)
+pub stated_again : (text front title : List ℕ) (nanos n : ℕ) → IsDurationFront front nanos → front ≡ take n text → title ≡ drop n text → duration_said text ≡ Ok (duration nanos title)
 stated_again text front title nanos n h f t =
     let whole : front ++ title ≡ text = rw (f, t) (take-append-drop n text) in rw whole at (h title)

@@ -11,9 +11,9 @@ IsResolved base None = ⊤
 IsResolved base (Some last) = uri_of base last.reference ≡ Ok last.uri
 
 -- the duration and the title that are kept are those that the text states
-abbrev pub IsSaid : List ℕ → Option (ℕ × List ℕ) → Type 0
-IsSaid text None = ⊤
-IsSaid text (Some own) = duration_said text ≡ Ok (duration own.0 own.1)
+abbrev pub StatesDuration : List ℕ → Option (ℕ × List ℕ) → Type 0
+StatesDuration text None = ⊤
+StatesDuration text (Some own) = duration_said text ≡ Ok (duration own.0 own.1)
 
 -- they are the next segment's from their line to its URI line
 abbrev pub due_of : Inside → Option (ℕ × List ℕ)

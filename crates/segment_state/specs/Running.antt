@@ -6,7 +6,7 @@ use Rattle.playlist_model.specs.declared.Segment.{Segment}
 use Rattle.playlist_model.specs.Said.{Said, Name, media, Outcome}
 use Rattle.playlist_model.specs.Reading.{limited, said_by_tag}
 use Rattle.playlist_model.specs.LookBack.{Standing, standing_at, with_said, segment_at}
-use Rattle.playlist_model.specs.Refusals.{Refuses}
+use Rattle.playlist_model.specs.Refusals.{RefusesByPlaylistFault}
 
 -- the base of the playlist's references, and what stands at a line
 pub record Running : Type 0 where
@@ -18,8 +18,8 @@ abbrev pub running_at : Parts → List Said → Running
 running_at base before = record { base = base; standing = standing_at before }
 
 -- after any lines that leave what stands, this is said too
-abbrev pub Follows : Said → Running → Running → Type 0
-Follows said old new = (before : List Said) → old.standing ≡ standing_at before → new ≡ running_at old.base (said ∷ before)
+abbrev pub SayingLeadsTo : Said → Running → Running → Type 0
+SayingLeadsTo said old new = (before : List Said) → old.standing ≡ standing_at before → new ≡ running_at old.base (said ∷ before)
 
 -- after any lines that leave what stands, the line says its part and that stands too; or its fault
 -- is answered, and what stood stands
@@ -28,7 +28,7 @@ Takes outcome old new result =
     (before : List Said) → old.standing ≡ standing_at before →
     MatchResult result
     (λ _. IsOk (outcome old.base before) × (new ≡ running_at old.base (with_said before (outcome old.base before))))
-    (λ e. Refuses e (outcome old.base before) × (new ≡ old))
+    (λ e. RefusesByPlaylistFault e (outcome old.base before) × (new ≡ old))
 
 -- the same of a line that takes no memory: the fault is always the line's own
 abbrev pub TakesExactly : (Parts → List Said → Outcome Said) → Running → Running → Result (Unit {0}) FaultKind → Type 0
@@ -53,4 +53,4 @@ TakesSegment outcome old new result =
     MatchResult result
     (λ segment. (outcome old.base before ≡ Ok (media segment.uri)) × (segment ≡ segment_at before segment.uri)
     × (new ≡ running_at old.base (media segment.uri ∷ before)))
-    (λ e. Refuses e (outcome old.base before) × (new ≡ old))
+    (λ e. RefusesByPlaylistFault e (outcome old.base before) × (new ≡ old))

@@ -4,8 +4,8 @@ ghost use Rattle.attr_list.specs.Attributes.{attribute};
 ghost use Rattle.playlist_model.specs.Said.{attributes, required};
 ghost use Rattle.playlist_model.specs.Reading.{limited};
 ghost use Rattle.spec_words.specs.Outcomes.{GivesExactly};
-ghost use Rattle.playlist_model.specs.Refusals.{Gives};
-ghost use Rattle.segment_state.specs.Attributes.{pairs_of, optional};
+ghost use Rattle.playlist_model.specs.Refusals.{GivesOrPlaylistFault};
+ghost use Rattle.segment_state.specs.Attributes.{pairs_of, optional_value};
 
 use attr_list::{AttrFault, AttrList};
 use playlist_model::FaultKind;
@@ -14,7 +14,7 @@ use std::alloc::Global;
 /// The attributes in `rest`, which comes after a tag's colon (RFC 8216, section 4.2). `BadAttributes` exactly if it
 /// is no attribute list of at most 64 attributes; `OutOfMemory` only if an allocation fails.
 pub fn attributes_of(alloc: Global, rest: &str) -> Result<AttrList<'_>, FaultKind>
-    ensures { Gives pairs_of result (attributes limited rest.now) }
+    ensures { GivesOrPlaylistFault pairs_of result (attributes limited rest.now) }
 {
     match AttrList::read(alloc, rest) {
         Ok(list) => Ok(list),
@@ -25,13 +25,14 @@ pub fn attributes_of(alloc: Global, rest: &str) -> Result<AttrList<'_>, FaultKin
 
 /// The value of the attribute `name` of `list`, which may be left out. `BadAttributes` exactly if it is there and in
 /// quotes though it isn't `quoted` by its type, or without though it is (RFC 8216, section 4.2). Takes no memory.
-pub fn optional<'a>(
+pub fn optional_value<'a>(
     list: &AttrList<'a>,
     name: &str,
     quoted: bool,
 ) -> Result<Option<&'a str>, FaultKind>
     ensures { GivesExactly (option_map
-        (λ value. value.now)) result (optional quoted (attribute (pairs_of list.now) name.now)) }
+        (λ value. value.now)) result
+        (optional_value quoted (attribute (pairs_of list.now) name.now)) }
 {
     let Some(attr) = list.get(name) else {
         return Ok(None);
@@ -45,9 +46,13 @@ pub fn optional<'a>(
 /// The value of the attribute `name` of `list`, which has to be there. `MissingAttribute` exactly if it is not;
 /// `BadAttributes` exactly if it is, and in quotes though it isn't `quoted` by its type, or without though it is (RFC
 /// 8216, section 4.2). Takes no memory.
-pub fn required<'a>(list: &AttrList<'a>, name: &str, quoted: bool) -> Result<&'a str, FaultKind>
+pub fn required_value<'a>(
+    list: &AttrList<'a>,
+    name: &str,
+    quoted: bool,
+) -> Result<&'a str, FaultKind>
     ensures { GivesExactly
         (λ value. value.now) result (required quoted (attribute (pairs_of list.now) name.now)) }
 {
-    optional(list, name, quoted)?.ok_or(FaultKind::MissingAttribute)
+    optional_value(list, name, quoted)?.ok_or(FaultKind::MissingAttribute)
 }

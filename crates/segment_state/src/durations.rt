@@ -4,7 +4,7 @@ ghost use Rattle.std.specs.List.{before_first, after_first};
 ghost use Rattle.attr_list.specs.Attributes.{is_comma};
 ghost use Rattle.spec_words.specs.Outcomes.{Tells};
 ghost use Rattle.playlist_model.specs.Said.{duration, duration_said};
-ghost use Rattle.playlist_model.specs.Refusals.{Gives, Refuses};
+ghost use Rattle.playlist_model.specs.Refusals.{GivesOrPlaylistFault, RefusesByPlaylistFault};
 ghost use Rattle.segment_state.specs.Kept.{IsDue};
 ghost use Rattle.segment_state.specs.Repeated.{IsLineOf, IsTakenAgain};
 
@@ -29,7 +29,7 @@ pub struct Durations<'a> {
 
 impl<'a> Model for Durations<'a> {
     ghost use Rattle.std.specs.Prelude.{List, ℕ, Option};
-    ghost use Rattle.segment_state.specs.Kept.{IsSaid, due_of};
+    ghost use Rattle.segment_state.specs.Kept.{StatesDuration, due_of};
     ghost use Rattle.segment_state.specs.Repeated.{IsAgain};
     ghost use Rattle.std.specs.Option.{option_copied};
 
@@ -37,7 +37,7 @@ impl<'a> Model for Durations<'a> {
 
     ghost view = { due_of };
 
-    ghost invariant = { λ a. IsSaid a.text.now a.said × IsAgain (option_copied a.line) a.said };
+    ghost invariant = { λ a. StatesDuration a.text.now a.said × IsAgain (option_copied a.line) a.said };
 }
 
 // Reads the seconds and the title that EXTINF states. Most texts begin as the one before, up to their comma: what that
@@ -49,13 +49,13 @@ struct SecondsReader<'a> {
 }
 
 impl<'a> Model for SecondsReader<'a> {
-    ghost use Rattle.segment_state.specs.Inner.Fronts.{IsFront};
+    ghost use Rattle.segment_state.specs.Inner.Fronts.{IsDurationFront};
 
     ghost Value = { Unit {0} };
 
     ghost view = { λ _. tt };
 
-    ghost invariant = { λ a. IsFront a.front.now a.nanos };
+    ghost invariant = { λ a. IsDurationFront a.front.now a.nanos };
 }
 
 impl<'a> SecondsReader<'a> {
@@ -135,8 +135,9 @@ impl<'a> Durations<'a> {
     }
 
     // What EXTINF states by itself: a duration, and a title after the comma (RFC 8216, section 4.3.2.1).
-    fn parsed(&mut self, text: &'a str) -> Result<(Nanos, Shared<ShortText>), FaultKind>
-        ensures said { Gives (λ own. duration own.0 own.1) result (duration_said text.now) }
+    fn parse(&mut self, text: &'a str) -> Result<(Nanos, Shared<ShortText>), FaultKind>
+        ensures said { GivesOrPlaylistFault (λ own. duration own.0 own.1) result
+            (duration_said text.now) }
         ensures told { Tells result (duration_said text.now) }
         ensures kept { self.new ≡ self.old }
     {
@@ -162,11 +163,11 @@ impl<'a> Durations<'a> {
     #[inline(never)]
     fn read_other(&mut self, text: &'a str) -> Result<(), FaultKind>
         ensures due { OnOk result (IsDue text.now self.new) }
-        ensures err { IfErr result (λ e. Refuses e (duration_said text.now)) }
+        ensures err { IfErr result (λ e. RefusesByPlaylistFault e (duration_said text.now)) }
         ensures told { Tells result (duration_said text.now) }
         ensures kept { OnErr result (self.new ≡ self.old) }
     {
-        let own = self.parsed(text)?;
+        let own = self.parse(text)?;
         self.keep(text, own);
         Ok(())
     }
@@ -177,7 +178,7 @@ impl<'a> Durations<'a> {
     #[inline]
     pub fn read(&mut self, text: &'a str) -> Result<(), FaultKind>
         ensures due { OnOk result (IsDue text.now self.new) }
-        ensures err { IfErr result (λ e. Refuses e (duration_said text.now)) }
+        ensures err { IfErr result (λ e. RefusesByPlaylistFault e (duration_said text.now)) }
         ensures told { Tells result (duration_said text.now) }
         ensures kept { OnErr result (self.new ≡ self.old) }
     {

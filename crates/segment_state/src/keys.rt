@@ -2,14 +2,14 @@
 ghost use Rattle.std.specs.Prelude.{◌≡◌, ◌≤◌, ◌<◌, Ok, IfErr, OnOk, length, vec_len, vec_capacity};
 ghost use Rattle.std.specs.List.{position_or_len};
 ghost use Rattle.playlist_model.specs.LookBack.{is_before, without_format};
-ghost use Rattle.playlist_model.specs.Refusals.{Gives, Refuses};
+ghost use Rattle.playlist_model.specs.Refusals.{GivesOrPlaylistFault, RefusesByPlaylistFault};
 ghost use Rattle.segment_state.specs.Inner.Tags.{with_key};
 
 use playlist_model::{FaultKind, Key, Keys, MAX_FORMATS};
 use std::alloc::Global;
 
 // The place of the first key of a greater format.
-fn place_of(keys: &[Key], key: &Key) -> usize
+fn place_of_key(keys: &[Key], key: &Key) -> usize
     ensures place { result ≡ position_or_len (is_before key.now) keys.now }
     ensures within { result ≤ length keys.now }
 {
@@ -40,7 +40,7 @@ fn remove_format(keys: &mut Vec<Key>, format: &str)
 // would be in force.
 fn put_key(keys: &mut Vec<Key>, key: Key) -> Result<(), FaultKind>
     ensures ok { OnOk result (with_key key keys.old.items ≡ Ok keys.new.items) }
-    ensures err { IfErr result (λ e. Refuses e (with_key key keys.old.items)) }
+    ensures err { IfErr result (λ e. RefusesByPlaylistFault e (with_key key keys.old.items)) }
     ensures kept { IfErr result (λ e. keys.new.items ≡ keys.old.items) }
 {
     if others_count(keys.as_slice(), key.format.as_str()) >= MAX_FORMATS {
@@ -48,7 +48,7 @@ fn put_key(keys: &mut Vec<Key>, key: Key) -> Result<(), FaultKind>
     }
     keys.reserve(1)?;
     remove_format(keys, key.format.as_str());
-    let place = place_of(keys.as_slice(), &key);
+    let place = place_of_key(keys.as_slice(), &key);
     keys.insert(place, key)?;
     Ok(())
 }
@@ -56,7 +56,7 @@ fn put_key(keys: &mut Vec<Key>, key: Key) -> Result<(), FaultKind>
 /// The `keys` in force with `key`, which takes the place of the one of its format (RFC 8216, section 4.3.2.4).
 /// `TooMany` if 17 formats would be in force; `OutOfMemory` only if an allocation fails.
 pub fn keys_with(alloc: Global, keys: &Keys, key: Key) -> Result<Keys, FaultKind>
-    ensures { Gives (λ keys. keys) result (with_key key keys.now) }
+    ensures { GivesOrPlaylistFault (λ keys. keys) result (with_key key keys.now) }
 {
     let mut listed = keys.to_vec(alloc)?;
     put_key(&mut listed, key)?;

@@ -10,9 +10,9 @@ ghost use Rattle.playlist_model.specs.EffectiveKeys.{effective_key};
 ghost use Rattle.playlist_model.specs.Said as said;
 ghost use Rattle.spec_words.specs.Outcomes.{Tells};
 ghost use Rattle.playlist_model.specs.Said.{uri_of, duration_said};
-ghost use Rattle.playlist_model.specs.Refusals.{Gives};
-ghost use Rattle.segment_state.specs.Running.{running_at, Follows, TakesTag, TakesTagExactly, TakesSegment};
-ghost use Rattle.segment_state.specs.Inner.Running.{after_segment, segment_from};
+ghost use Rattle.playlist_model.specs.Refusals.{GivesOrPlaylistFault};
+ghost use Rattle.segment_state.specs.Running.{running_at, SayingLeadsTo, TakesTag, TakesTagExactly, TakesSegment};
+ghost use Rattle.segment_state.specs.Inner.Running.{after_uri_line, segment_from};
 ghost use Rattle.segment_state.specs.Views.{extent_after};
 ghost use Rattle.segment_state.specs.Repeated.{IsLineOf, IsRepeated};
 
@@ -102,7 +102,7 @@ impl<'a> ReaderState<'a> {
 
     /// Sets the Media Sequence Number of the first segment to `number` (RFC 8216, section 4.3.3.2).
     pub fn sequence(&mut self, number: u64)
-        ensures { Follows (said.sequence number) self.old self.new }
+        ensures { SayingLeadsTo (said.sequence number) self.old self.new }
     {
         self.media_sequence = number;
     }
@@ -110,7 +110,7 @@ impl<'a> ReaderState<'a> {
     /// Sets the Discontinuity Sequence Number before any discontinuity to `number` (RFC 8216, section 4.3.3.3).
     pub fn discontinuity_sequence(&mut self, number: u64)
         requires { self.old.standing.discontinuity_count ≡ 0 }
-        ensures { Follows (said.discontinuity_sequence number) self.old self.new }
+        ensures { SayingLeadsTo (said.discontinuity_sequence number) self.old self.new }
     {
         self.discontinuity_sequence = number;
     }
@@ -239,7 +239,7 @@ impl<'a> ReaderState<'a> {
     }
 
     // The next segment's Media Sequence Number (RFC 8216, section 4.3.3.2); none from 2^64 on.
-    fn number(&self) -> Option<u64>
+    fn next_number(&self) -> Option<u64>
         ensures { SomeIff result (self.now.standing.media_sequence + self.now.standing.media_count
             < 2 ^ 64) (self.now.standing.media_sequence + self.now.standing.media_count) }
     {
@@ -318,7 +318,7 @@ impl<'a> ReaderState<'a> {
     #[inline(always)]
     fn segment_stands(&mut self, last: Option<Part>)
         requires { self.old.standing.media_count < MAX_SEGMENTS }
-        ensures { self.new ≡ after_segment self.old (extent_after last) }
+        ensures { self.new ≡ after_uri_line self.old (extent_after last) }
     {
         self.media_count += 1;
         self.discontinuities = 0;
@@ -358,7 +358,7 @@ impl<'a> ReaderState<'a> {
         let Some(own) = self.durations.own()? else {
             return Err(FaultKind::NoDuration);
         };
-        let Some(number) = self.number() else {
+        let Some(number) = self.next_number() else {
             return Err(FaultKind::BadValue);
         };
         if self.byte_range.is_some() {

@@ -1,7 +1,7 @@
 //! The references of a playlist, resolved against its base (RFC 3986, section 5).
 ghost use Rattle.std.specs.Prelude.{◌≡◌};
 ghost use Rattle.playlist_model.specs.Said.{uri_of};
-ghost use Rattle.playlist_model.specs.Refusals.{Gives};
+ghost use Rattle.playlist_model.specs.Refusals.{GivesOrPlaylistFault};
 
 use crate::tags::short_uri_of;
 use playlist_model::{FaultKind, ShortText, Text};
@@ -59,7 +59,7 @@ impl<'a> References<'a> {
     /// only if an allocation fails.
     #[inline(always)]
     pub fn resolve(&self, reference: &str) -> Result<ShortText, FaultKind>
-        ensures { Gives (λ uri. uri) result (uri_of self.now reference.now) }
+        ensures { GivesOrPlaylistFault (λ uri. uri) result (uri_of self.now reference.now) }
     {
         short_uri_of(self.base, reference)
     }
@@ -68,7 +68,7 @@ impl<'a> References<'a> {
     /// next part. The faults are those of `resolve`.
     #[inline(never)]
     pub fn resolve_part(&mut self, reference: &str) -> Result<ShortText, FaultKind>
-        ensures value { Gives (λ uri. uri) result (uri_of self.old reference.now) }
+        ensures value { GivesOrPlaylistFault (λ uri. uri) result (uri_of self.old reference.now) }
         ensures kept { self.new ≡ self.old }
     {
         if let Some(last) = &self.last {

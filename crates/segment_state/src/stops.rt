@@ -113,7 +113,7 @@ impl<'a> ReaderState<'a> {
         if !self.is_between() {
             return Ok(None);
         }
-        let Some(number) = self.number() else {
+        let Some(number) = self.next_number() else {
             return Ok(None);
         };
         Ok(Some(Stop {
@@ -132,7 +132,7 @@ impl<'a> ReaderState<'a> {
         if !self.is_between() {
             return false;
         }
-        let Some(number) = self.number() else {
+        let Some(number) = self.next_number() else {
             return false;
         };
         if number != stop.number {

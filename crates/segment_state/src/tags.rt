@@ -7,11 +7,11 @@ ghost use Rattle.spec_words.specs.Outcomes.{or_fault};
 ghost use Rattle.playlist_model.specs.Said.{iv_of, key_tag_said, uri_of, set_key, key_said, init_section_said, init_section_byte_range, byte_range_of, stated_byte_range};
 ghost use Rattle.attr_list.specs.Numbers.{decimal_of};
 ghost use Rattle.playlist_model.specs.Reading.{limited};
-ghost use Rattle.playlist_model.specs.Refusals.{Gives};
+ghost use Rattle.playlist_model.specs.Refusals.{GivesOrPlaylistFault};
 ghost use Rattle.segment_state.specs.Attributes.{pairs_of};
 ghost use Rattle.segment_state.specs.Inner.Tags.{init_section_tag_said};
 
-use crate::attributes::{attributes_of, optional, required};
+use crate::attributes::{attributes_of, optional_value, required_value};
 use attr_list::{AttrList, read_decimal, read_hex_u128};
 use playlist_model::{ByteRange, FaultKind, Key, KeyTag, OtherAttributes, Shared, ShortText, Text};
 use std::alloc::Global;
@@ -31,7 +31,7 @@ pub struct InitSectionTag {
 
 /// The resource that a reference names.
 fn uri_of(base: &Base, reference: &str) -> Result<Text, FaultKind>
-    ensures { Gives (λ uri. uri) result (uri_of base.now reference.now) }
+    ensures { GivesOrPlaylistFault (λ uri. uri) result (uri_of base.now reference.now) }
 {
     match base.resolve(reference) {
         Ok(uri) => Ok(Text::from_string(uri)),
@@ -44,7 +44,7 @@ fn uri_of(base: &Base, reference: &str) -> Result<Text, FaultKind>
 /// its own if it is short, as most are. `BadUri` if it can't be resolved; `OutOfMemory` only if an allocation fails.
 #[inline(always)]
 pub fn short_uri_of(base: &Base, reference: &str) -> Result<ShortText, FaultKind>
-    ensures { Gives (λ uri. uri) result (uri_of base.now reference.now) }
+    ensures { GivesOrPlaylistFault (λ uri. uri) result (uri_of base.now reference.now) }
 {
     let fault = match base.resolve_short(reference) {
         Ok(uri) => return Ok(uri),
@@ -56,7 +56,7 @@ pub fn short_uri_of(base: &Base, reference: &str) -> Result<ShortText, FaultKind
 
 // The same, to be shared.
 fn shared_uri(alloc: Global, base: &Base, reference: &str) -> Result<Shared<Text>, FaultKind>
-    ensures { Gives (λ uri. uri) result (uri_of base.now reference.now) }
+    ensures { GivesOrPlaylistFault (λ uri. uri) result (uri_of base.now reference.now) }
 {
     Ok(Shared::new(alloc, uri_of(base, reference)?)?)
 }
@@ -65,7 +65,7 @@ fn shared_uri(alloc: Global, base: &Base, reference: &str) -> Result<Shared<Text
 fn iv_of(list: &AttrList<'_>) -> Result<Option<u128>, FaultKind>
     ensures { result ≡ outcomes.optional iv_of (attribute (pairs_of list.now) (codes "IV")) }
 {
-    let Some(value) = optional(list, "IV", false)? else {
+    let Some(value) = optional_value(list, "IV", false)? else {
         return Ok(None);
     };
     match read_hex_u128(value) {
@@ -75,11 +75,12 @@ fn iv_of(list: &AttrList<'_>) -> Result<Option<u128>, FaultKind>
 }
 
 fn set_key(alloc: Global, base: &Base, list: &AttrList<'_>, method: &str) -> Result<Key, FaultKind>
-    ensures { Gives said.key result (set_key base.now (pairs_of list.now) method.now) }
+    ensures { GivesOrPlaylistFault said.key result
+        (set_key base.now (pairs_of list.now) method.now) }
 {
-    let reference = required(list, "URI", true)?;
+    let reference = required_value(list, "URI", true)?;
     let iv = iv_of(list)?;
-    let format = optional(list, "KEYFORMAT", true)?;
+    let format = optional_value(list, "KEYFORMAT", true)?;
     let uri = shared_uri(alloc, base, reference)?;
     let other = OtherAttributes::of(alloc, list)?;
     Ok(Key {
@@ -95,10 +96,10 @@ fn set_key(alloc: Global, base: &Base, list: &AttrList<'_>, method: &str) -> Res
 /// order: `BadAttributes` for the list, `MissingAttribute` or `BadAttributes` for METHOD, URI, IV and KEYFORMAT,
 /// `BadUri`; `OutOfMemory` only if an allocation fails.
 pub fn key_said(alloc: Global, base: &Base, rest: &str) -> Result<KeyTag, FaultKind>
-    ensures { Gives key_tag_said result (key_said limited base.now rest.now) }
+    ensures { GivesOrPlaylistFault key_tag_said result (key_said limited base.now rest.now) }
 {
     let list = attributes_of(alloc, rest)?;
-    let method = required(&list, "METHOD", false)?;
+    let method = required_value(&list, "METHOD", false)?;
     if method == "NONE" {
         return Ok(KeyTag::End);
     }
@@ -141,7 +142,7 @@ fn init_section_byte_range(list: &AttrList<'_>) -> Result<Option<ByteRange>, Fau
     ensures { result
         ≡ outcomes.optional init_section_byte_range (attribute (pairs_of list.now) (codes "BYTERANGE")) }
 {
-    let Some(value) = optional(list, "BYTERANGE", true)? else {
+    let Some(value) = optional_value(list, "BYTERANGE", true)? else {
         return Ok(None);
     };
     let (length, offset) = byte_range_of(value)?;
@@ -157,10 +158,11 @@ pub fn init_section_said(
     base: &Base,
     rest: &str,
 ) -> Result<InitSectionTag, FaultKind>
-    ensures { Gives init_section_tag_said result (init_section_said limited base.now rest.now) }
+    ensures { GivesOrPlaylistFault init_section_tag_said result
+        (init_section_said limited base.now rest.now) }
 {
     let list = attributes_of(alloc, rest)?;
-    let reference = required(&list, "URI", true)?;
+    let reference = required_value(&list, "URI", true)?;
     let byte_range = init_section_byte_range(&list)?;
     let uri = shared_uri(alloc, base, reference)?;
     Ok(InitSectionTag { uri, byte_range })

@@ -7,10 +7,10 @@ use Rattle.http_messages.specs.declared.message.Reply.{Reply}
 use Rattle.http_messages.specs.declared.message.Allow.{Allow}
 use Rattle.http_messages.specs.declared.message.Allow.TheVariants as allow
 use Rattle.http_messages.specs.declared.message.ContentType.TheVariants.{Playlist}
-use Rattle.http_messages.specs.Replies.{bare, plain}
+use Rattle.http_messages.specs.Replies.{bare, plain_reply}
 use Rattle.pod_store.specs.declared.fault.DecisionKind.{DecisionKind}
 use Rattle.pod_store.specs.declared.fault.DecisionKind.TheVariants as decision
-use Rattle.pod_store.specs.Outcome.{Outcome}
+use Rattle.pod_store.specs.Outcome.{DecisionOutcome}
 use Rattle.pod_store.specs.Store.{Store}
 use Rattle.playlist_model.specs.declared.FaultKind.TheVariants.{NoDuration}
 use Rattle.channel_spec.specs.declared.fault.RefreshFault.TheVariants as refusal
@@ -22,7 +22,7 @@ use Rattle.http_edge.specs.Table.{Table, Turn, added, reply_to}
 use Rattle.http_edge.specs.Isolation.{Exchange, replies_on, is_served_on, asked_of, answered_of}
 use Rattle.worked_examples.specs.Playlists.{text}
 use Rattle.worked_examples.specs.Pods.{long}
-use Rattle.worked_examples.specs.Tables.{Gives}
+use Rattle.worked_examples.specs.Tables.{HasValues}
 
 abbrev pub asks : List ℕ → List ℕ → List ℕ → Request
 asks method target body = record { method = method; target = target; body = body }
@@ -35,7 +35,7 @@ get target = asks (codes "GET") target []
 
 -- a reply of one line
 abbrev pub line : ℕ → List ℕ → Reply
-line status words = plain status (words ++ 10 ∷ [])
+line status words = plain_reply status (words ++ 10 ∷ [])
 
 abbrev pub not_found : Reply
 not_found = line 404 (codes "not found")
@@ -57,7 +57,7 @@ answer (r ∷ before) = Some (reply_to before r)
 
 -- RFC 9110, 9.1: a method is told by its letters' case, too; RFC 3986, 3.4: a query is no part of the path
 abbrev pub ChannelsAreMade : Type 0
-ChannelsAreMade = Gives answer (
+ChannelsAreMade = HasValues answer (
     (make ∷ [], Some (bare 201))
     ∷ (make ∷ make ∷ [], Some (line 409 (codes "channel exists")))
     ∷ (put (codes "/channels/a") (codes "{\"base\":\"http://h/\",\"tolerance\":\"10\"}") ∷ [], Some (bare 201))
@@ -91,7 +91,7 @@ abbrev pub first_refresh : Request
 first_refresh = refresh (codes "#EXTINF:10," ∷ codes "a:s" ∷ [])
 
 abbrev pub RefreshesAreAnswered : Type 0
-RefreshesAreAnswered = Gives answer (
+RefreshesAreAnswered = HasValues answer (
     (first_refresh ∷ make ∷ [], Some (bare 204))
     ∷ (first_refresh ∷ [], Some not_found)
     ∷ (put (codes "/channels/a/origin") [] ∷ make ∷ [], Some (line 422 (codes "P3 NoHeader line 1")))
@@ -129,7 +129,7 @@ remove path = asks (codes "DELETE") path []
 
 -- what is done to one of two channels isn't done to the other
 abbrev pub OthersStay : Type 0
-OthersStay = Gives answer (
+OthersStay = HasValues answer (
     (remove (codes "/channels/a") ∷ make_b ∷ make ∷ [], Some (bare 204))
     ∷ (remove (codes "/channels/b") ∷ make_b ∷ make ∷ [], Some (bare 204))
     ∷ (remove (codes "/channels/a") ∷ remove (codes "/channels/b") ∷ make_b ∷ make ∷ [], Some (bare 204))
@@ -140,7 +140,7 @@ OthersStay = Gives answer (
     ∷ (make_b ∷ make_b ∷ make ∷ [], Some (line 409 (codes "channel exists"))) ∷ [])
 
 abbrev pub PlaylistsAreRead : Type 0
-PlaylistsAreRead = Gives answer (
+PlaylistsAreRead = HasValues answer (
     (live ∷ first_refresh ∷ make ∷ [], Some owed)
     ∷ (live ∷ refresh [] ∷ refresh [] ∷ refresh [] ∷ refresh [] ∷ first_refresh ∷ make ∷ [], Some owed)
     ∷ (live ∷ refresh (codes "#EXT-X-INDEPENDENT-SEGMENTS" ∷ codes "#EXTINF:10," ∷ codes "a:s" ∷ []) ∷ make ∷ [], Some (record owed { content = Some (record { media = Playlist; text = independent_text }) }))
@@ -160,7 +160,7 @@ abbrev pub decide : List ℕ → Request
 decide body = put (codes "/channels/a/decisions") body
 
 abbrev pub DecisionsAreAnswered : Type 0
-DecisionsAreAnswered = Gives answer (
+DecisionsAreAnswered = HasValues answer (
     (decide (codes "{\"breaks\":[]}") ∷ make ∷ [], Some (bare 204))
     ∷ (decide (codes "{\"breaks\":[]}") ∷ [], Some not_found)
     ∷ (decide (codes "{") ∷ make ∷ [], Some (line 422 (codes "J1 NotJson")))
@@ -170,12 +170,12 @@ DecisionsAreAnswered = Gives answer (
     ∷ (get (codes "/channels/a/decisions") ∷ make ∷ [], Some (not_allowed allow.Put))
     ∷ (asks (codes "DELETE") (codes "/channels/a/decisions") [] ∷ make ∷ [], Some (not_allowed allow.Put)) ∷ [])
 
-abbrev pub refused_by : DecisionKind → Outcome Store
+abbrev pub refused_by : DecisionKind → DecisionOutcome Store
 refused_by kind = Err (record { kind = kind; place = record { pod = None; ad = None; segment = None } })
 
 -- RFC 9110, 15.5.21 and 15.5.10: what isn't well written is 422, and what conflicts with what the channel is doing 409
 abbrev pub DecisionFaultsAreAnswered : Type 0
-DecisionFaultsAreAnswered = Gives (λ (kind : DecisionKind). decisions_reply (refused_by kind)) (
+DecisionFaultsAreAnswered = HasValues (λ (kind : DecisionKind). decisions_reply (refused_by kind)) (
     (decision.NotJson, line 422 (codes "J1 NotJson"))
     ∷ (decision.Shape, line 422 (codes "J2 Shape"))
     ∷ (decision.BadUri, line 422 (codes "J3 BadUri"))
@@ -189,14 +189,14 @@ DecisionFaultsAreAnswered = Gives (λ (kind : DecisionKind). decisions_reply (re
 
 -- RFC 9110, 15.6.4: a lack of memory is 503
 abbrev pub BodyFaultsAreAnswered : Type 0
-BodyFaultsAreAnswered = Gives body_fault_reply ((body.NotJson, line 422 (codes "J1 NotJson")) ∷ (body.Shape, line 422 (codes "J2 Shape")) ∷ (body.OutOfMemory, bare 503) ∷ [])
+BodyFaultsAreAnswered = HasValues body_fault_reply ((body.NotJson, line 422 (codes "J1 NotJson")) ∷ (body.Shape, line 422 (codes "J2 Shape")) ∷ (body.OutOfMemory, bare 503) ∷ [])
 
 abbrev pub BodyFaultsAreTold : Type 0
-BodyFaultsAreTold = Gives body_fault_text ((body.NotJson, codes "J1 NotJson") ∷ (body.Shape, codes "J2 Shape") ∷ (body.OutOfMemory, codes "J8 OutOfMemory") ∷ [])
+BodyFaultsAreTold = HasValues body_fault_text ((body.NotJson, codes "J1 NotJson") ∷ (body.Shape, codes "J2 Shape") ∷ (body.OutOfMemory, codes "J8 OutOfMemory") ∷ [])
 
 -- the same of a refresh
 abbrev pub RefreshFaultsAreAnswered : Type 0
-RefreshFaultsAreAnswered = Gives refused_refresh (
+RefreshFaultsAreAnswered = HasValues refused_refresh (
     (refusal.Playlist (record { kind = NoDuration; line = 12 }), line 422 (codes "P17 NoDuration line 12"))
     ∷ (refusal.VersionChanged, line 409 (codes "N1 VersionChanged"))
     ∷ (refusal.TargetChanged, line 409 (codes "N2 TargetChanged"))
@@ -211,7 +211,7 @@ RefreshFaultsAreAnswered = Gives refused_refresh (
 
 -- docs/OPERATING.md: the words of `why`
 abbrev pub WordsOfWhyAreTold : Type 0
-WordsOfWhyAreTold = Gives why_word (
+WordsOfWhyAreTold = HasValues why_word (
     (reason.Filled, codes "Filled")
     ∷ (reason.NotKnown, codes "NotKnown")
     ∷ (reason.NoStart, codes "NoStart")
@@ -241,34 +241,34 @@ five_ids = refresh (codes "#EXT-X-DATERANGE:ID=\"b\"" ∷ codes "#EXT-X-DATERANG
 
 -- the known breaks with the first reason of each, in the order since when they are known; 9 is a tab, 10 a line feed
 abbrev pub ReasonsAreAnswered : Type 0
-ReasonsAreAnswered = Gives answer (
+ReasonsAreAnswered = HasValues answer (
     (why ∷ make ∷ [], Some (bare 200))
     ∷ (
       why ∷ refresh (codes "#EXT-X-DATERANGE:ID=\"c\"" ∷ codes "#EXT-X-DATERANGE:ID=\"b\",START-DATE=\"2024-05-01T12:00:00Z\"" ∷ codes "#EXTINF:10," ∷ codes "a:s" ∷ []) ∷ make ∷ [],
-      Some (plain 200 (codes "c" ++ (9 ∷ codes "NoStart" ++ (10 ∷ codes "b" ++ (9 ∷ codes "NotSignalled" ++ 10 ∷ []))))),
+      Some (plain_reply 200 (codes "c" ++ (9 ∷ codes "NoStart" ++ (10 ∷ codes "b" ++ (9 ∷ codes "NotSignalled" ++ 10 ∷ []))))),
     )
     ∷ (
       why ∷ refresh (long_tag ∷ codes "#EXT-X-PROGRAM-DATE-TIME:2024-05-01T12:00:00Z" ∷ codes "#EXTINF:10," ∷ codes "a:s" ∷ codes "#EXTINF:10," ∷ codes "a:t" ∷ codes "#EXTINF:10," ∷ codes "a:u" ∷ codes "#EXTINF:10," ∷ codes "a:v" ∷ codes "#EXTINF:10," ∷ codes "a:w" ∷ []) ∷ decide fallback ∷ make ∷ [],
-      Some (plain 200 (long 98 ++ (9 ∷ codes "Filled" ++ 10 ∷ []))),
+      Some (plain_reply 200 (long 98 ++ (9 ∷ codes "Filled" ++ 10 ∷ []))),
     )
     ∷ (
       why ∷ refresh (later_tag ∷ codes "#EXT-X-PROGRAM-DATE-TIME:2024-05-01T12:00:00Z" ∷ codes "#EXTINF:10," ∷ codes "a:s" ∷ []) ∷ decide fallback ∷ put (codes "/channels/a") (codes "{\"base\":\"http://h/\",\"tolerance\":\"1\"}") ∷ [],
-      Some (plain 200 (codes "b" ++ (9 ∷ codes "Filled" ++ 10 ∷ []))),
+      Some (plain_reply 200 (codes "b" ++ (9 ∷ codes "Filled" ++ 10 ∷ []))),
     )
     ∷ (
       why ∷ refresh (later_tag ∷ codes "#EXT-X-PROGRAM-DATE-TIME:2024-05-01T12:00:00Z" ∷ codes "#EXTINF:10," ∷ codes "a:s" ∷ []) ∷ decide fallback ∷ make ∷ [],
-      Some (plain 200 (codes "b" ++ (9 ∷ codes "Waiting" ++ 10 ∷ []))),
+      Some (plain_reply 200 (codes "b" ++ (9 ∷ codes "Waiting" ++ 10 ∷ []))),
     )
     ∷ (
       why ∷ refresh (tag_b ∷ tag_c ∷ codes "#EXT-X-MEDIA-SEQUENCE:102" ∷ codes "#EXTINF:10," ∷ codes "a:u" ∷ codes "#EXTINF:10," ∷ codes "a:v" ∷ [])
           ∷ refresh (tag_b ∷ tag_c ∷ codes "#EXT-X-MEDIA-SEQUENCE:100" ∷ codes "#EXT-X-PROGRAM-DATE-TIME:2024-05-01T12:00:00Z" ∷ codes "#EXTINF:10," ∷ codes "a:s" ∷ codes "#EXTINF:10," ∷ codes "a:t" ∷ []) ∷ decide fallback ∷ make ∷ [],
-      Some (plain 200 (codes "b" ++ (9 ∷ codes "Waiting" ++ (10 ∷ codes "c" ++ (9 ∷ codes "Filled" ++ 10 ∷ []))))),
+      Some (plain_reply 200 (codes "b" ++ (9 ∷ codes "Waiting" ++ (10 ∷ codes "c" ++ (9 ∷ codes "Filled" ++ 10 ∷ []))))),
     )
     ∷ (
       why ∷ five_ids ∷ five_ids ∷ five_ids ∷ five_ids ∷ refresh (codes "#EXT-X-DATERANGE:ID=\"e\"" ∷ codes "#EXTINF:10," ∷ codes "a:s" ∷ []) ∷ make ∷ [],
-      Some (plain 200 (codes "e" ++ (9 ∷ codes "NoStart" ++ (10 ∷ codes "b" ++ (9 ∷ codes "NoStart" ++ (10 ∷ codes "c" ++ (9 ∷ codes "NoStart" ++ (10 ∷ codes "d" ++ (9 ∷ codes "NoStart" ++ 10 ∷ []))))))))),
+      Some (plain_reply 200 (codes "e" ++ (9 ∷ codes "NoStart" ++ (10 ∷ codes "b" ++ (9 ∷ codes "NoStart" ++ (10 ∷ codes "c" ++ (9 ∷ codes "NoStart" ++ (10 ∷ codes "d" ++ (9 ∷ codes "NoStart" ++ 10 ∷ []))))))))),
     )
-    ∷ (why ∷ refresh (long_tag ∷ codes "#EXTINF:10," ∷ codes "a:s" ∷ []) ∷ make ∷ [], Some (plain 200 (long 98 ++ (9 ∷ codes "NotDecided" ++ 10 ∷ []))))
+    ∷ (why ∷ refresh (long_tag ∷ codes "#EXTINF:10," ∷ codes "a:s" ∷ []) ∷ make ∷ [], Some (plain_reply 200 (long 98 ++ (9 ∷ codes "NotDecided" ++ 10 ∷ []))))
     ∷ (why ∷ [], Some not_found)
     ∷ (put (codes "/channels/a/why") [] ∷ make ∷ [], Some (not_allowed allow.Get)) ∷ [])
 
@@ -285,14 +285,14 @@ added_to count = option_map (λ (base : Parts). reply_of (added (entries count b
 
 -- docs/OPERATING.md: 64 channels at most
 abbrev pub TablesAreLimited : Type 0
-TablesAreLimited = Gives added_to ((0, Some (bare 201)) ∷ (63, Some (bare 201)) ∷ (64, Some (bare 503)) ∷ [])
+TablesAreLimited = HasValues added_to ((0, Some (bare 201)) ∷ (63, Some (bare 201)) ∷ (64, Some (bare 503)) ∷ [])
 
 abbrev pub added_again : ℕ → Option Reply
 added_again count = option_map (λ (base : Parts). reply_of (added (entries count base) (0 ∷ []) base 0)) (base_of (codes "http://h/"))
 
 -- that a channel is there already is told first
 abbrev pub ChannelsAreOnce : Type 0
-ChannelsAreOnce = Gives added_again ((1, Some (line 409 (codes "channel exists"))) ∷ (64, Some (line 409 (codes "channel exists"))) ∷ [])
+ChannelsAreOnce = HasValues added_again ((1, Some (line 409 (codes "channel exists"))) ∷ (64, Some (line 409 (codes "channel exists"))) ∷ [])
 
 -- what the requests on channel `a` were answered, the newest first
 abbrev pub on_a : List Request → List Reply
@@ -300,7 +300,7 @@ on_a requests = replies_on (codes "a") requests
 
 -- requests on another channel, or on none, aren't its own
 abbrev pub ChannelsAreApart : Type 0
-ChannelsAreApart = Gives on_a (
+ChannelsAreApart = HasValues on_a (
     (live ∷ put (codes "/channels/b") (codes "{\"base\":\"http://h/\"}") ∷ get (codes "/") ∷ make ∷ [], not_found ∷ bare 201 ∷ [])
     ∷ (asks (codes "DELETE") (codes "/channels/b") [] ∷ make ∷ [], bare 201 ∷ [])
     ∷ (live ∷ get (codes "/") ∷ get (codes "/") ∷ get (codes "/") ∷ get (codes "/") ∷ live ∷ live ∷ live ∷ make ∷ [], not_found ∷ not_found ∷ not_found ∷ not_found ∷ bare 201 ∷ [])
@@ -311,7 +311,7 @@ exchange request reply = record { request = request; reply = reply }
 
 -- a request on channel `a` that was answered, and not by 503
 abbrev pub RequestsAreServed : Type 0
-RequestsAreServed = Gives (is_served_on (codes "a")) (
+RequestsAreServed = HasValues (is_served_on (codes "a")) (
     (exchange make (bare 201), true)
     ∷ (exchange live not_found, true)
     ∷ (exchange (get (codes "/channels/a/why?x")) not_found, true)
@@ -321,11 +321,11 @@ RequestsAreServed = Gives (is_served_on (codes "a")) (
     ∷ (exchange (get (codes "/")) not_found, false) ∷ [])
 
 abbrev pub RequestsWereAsked : Type 0
-RequestsWereAsked = Gives asked_of (
+RequestsWereAsked = HasValues asked_of (
     (exchange live not_found ∷ exchange make (bare 201) ∷ [], live ∷ make ∷ [])
     ∷ (exchange live not_found ∷ exchange live not_found ∷ exchange live not_found ∷ exchange live not_found ∷ exchange make (bare 201) ∷ [], live ∷ live ∷ live ∷ live ∷ make ∷ []) ∷ [])
 
 abbrev pub RequestsWereAnswered : Type 0
-RequestsWereAnswered = Gives answered_of (
+RequestsWereAnswered = HasValues answered_of (
     (exchange live not_found ∷ exchange make (bare 201) ∷ [], not_found ∷ bare 201 ∷ [])
     ∷ (exchange live not_found ∷ exchange live not_found ∷ exchange live not_found ∷ exchange live not_found ∷ exchange make (bare 201) ∷ [], not_found ∷ not_found ∷ not_found ∷ not_found ∷ bare 201 ∷ []) ∷ [])

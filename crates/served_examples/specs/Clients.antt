@@ -8,14 +8,14 @@ use Rattle.connections.specs.declared.arrivals.Arrival.{Arrival}
 use Rattle.connections.specs.declared.conversation.Conversation.TheVariants.{Asking, Answering}
 use Rattle.connections.specs.Arrivals.{gives_place, gives_room}
 use Rattle.connections.specs.Limits.{most_held, place_count, serving_nanos, ending_nanos, reads_in_turn, writes_in_turn, drains_in_turn}
-use Rattle.connections.specs.Runs.{visits, said, taken}
+use Rattle.connections.specs.Runs.{visits, said, reply_bytes_taken}
 use Rattle.connections.specs.Table.{State, ClientEvent, arrival, request_bytes, reply_bytes, departure, held_in, left_of, taken_of}
-use Rattle.connections.specs.Turns.{joined}
-use Rattle.worked_examples.specs.Tables.{Gives}
+use Rattle.connections.specs.Turns.{bytes_of_pieces}
+use Rattle.worked_examples.specs.Tables.{HasValues}
 
 -- docs/OPERATING.md, "Slow clients": 64 MiB, 512 places, 10 s, a quarter of a second, and the reads and writes of a turn
 abbrev pub ClientsAreLimited : Type 0
-ClientsAreLimited = Gives (λ (n : ℕ). n) ((most_held, 67108864) ∷ (place_count, 512) ∷ (serving_nanos, 10000000000) ∷ (ending_nanos, 250000000) ∷ (reads_in_turn, 4)
+ClientsAreLimited = HasValues (λ (n : ℕ). n) ((most_held, 67108864) ∷ (place_count, 512) ∷ (serving_nanos, 10000000000) ∷ (ending_nanos, 250000000) ∷ (reads_in_turn, 4)
     ∷ (writes_in_turn, 4) ∷ (drains_in_turn, 32) ∷ [])
 
 -- place 0: a client with a reply on its way; 1: one that has said nothing; 2: one that has said two bytes; 3: nobody
@@ -28,27 +28,27 @@ at_place until place = record { place = place; until = until }
 -- for one that comes, the client is given up that has asked longest; if none asks, the one that has been ending longest; and
 -- only if all have a reply on its way, the one that came first
 abbrev pub PlacesAreGiven : Type 0
-PlacesAreGiven = (until : Instant) → Gives (λ (served : List Arrival). gives_place three served (at_place until 3 ∷ [])) (
+PlacesAreGiven = (until : Instant) → HasValues (λ (served : List Arrival). gives_place three served (at_place until 3 ∷ [])) (
     (at_place until 0 ∷ at_place until 2 ∷ at_place until 1 ∷ [], Some 2) ∷ (at_place until 0 ∷ [], Some 3) ∷ [])
 
 abbrev pub RepliesAreGivenUpLast : Type 0
-RepliesAreGivenUpLast = (until : Instant) → Gives (λ (served : List Arrival). gives_place three served []) (
+RepliesAreGivenUpLast = (until : Instant) → HasValues (λ (served : List Arrival). gives_place three served []) (
     (at_place until 0 ∷ at_place until 1 ∷ [], Some 1) ∷ (at_place until 0 ∷ [], Some 0) ∷ ([], None) ∷ [])
 
 -- for bytes that have no room, it is the client that has asked longest of those whose bytes are held
 abbrev pub RoomIsGiven : Type 0
-RoomIsGiven = (until : Instant) → Gives (gives_room three) (
+RoomIsGiven = (until : Instant) → HasValues (gives_room three) (
     (at_place until 0 ∷ at_place until 1 ∷ at_place until 2 ∷ [], Some 2) ∷ (at_place until 0 ∷ at_place until 1 ∷ [], None) ∷ [])
 
 abbrev pub BytesAreHeld : Type 0
-BytesAreHeld = Gives held_in ((three.places, 2) ∷ (Some (Asking (codes "GE") 1) ∷ Some (Asking (codes "PUT") 2) ∷ [], 5)
+BytesAreHeld = HasValues held_in ((three.places, 2) ∷ (Some (Asking (codes "GE") 1) ∷ Some (Asking (codes "PUT") 2) ∷ [], 5)
     ∷ (Some (Asking (codes "GET /") 1) ∷ None ∷ None ∷ None ∷ Some (Asking (codes "PUT") 2) ∷ [], 8) ∷ ([], 0) ∷ [])
 
 abbrev pub RepliesAreLeft : Type 0
-RepliesAreLeft = Gives left_of ((Some (Answering (codes "xyz") 200), codes "xyz") ∷ (Some (Asking (codes "GE") 1), []) ∷ (None, []) ∷ [])
+RepliesAreLeft = HasValues left_of ((Some (Answering (codes "xyz") 200), codes "xyz") ∷ (Some (Asking (codes "GE") 1), []) ∷ (None, []) ∷ [])
 
 abbrev pub BytesAreTaken : Type 0
-BytesAreTaken = Gives (taken_of 2) (
+BytesAreTaken = HasValues (taken_of 2) (
     (Some (Answering (codes "xyz") 200), Some (Answering (codes "z") 200)) ∷ (Some (Asking (codes "GE") 1), Some (Asking (codes "GE") 1)) ∷ (None, None) ∷ [])
 
 -- what happened, the newest first: at place 1 a client went, and another one came
@@ -57,17 +57,17 @@ events =
     reply_bytes 1 2 ∷ reply_bytes 1 3 ∷ request_bytes 2 (codes "Q") ∷ request_bytes 1 (codes "T /") ∷ request_bytes 1 (codes "GE") ∷ arrival 1 ∷ arrival 2 ∷ departure 1 ∷ reply_bytes 1 9 ∷ request_bytes 1 (codes "PUT") ∷ arrival 1 ∷ []
 
 abbrev pub VisitsAreCounted : Type 0
-VisitsAreCounted = Gives (λ (place : ℕ). visits place events) ((1, 2) ∷ (2, 1) ∷ (3, 0) ∷ [])
+VisitsAreCounted = HasValues (λ (place : ℕ). visits place events) ((1, 2) ∷ (2, 1) ∷ (3, 0) ∷ [])
 
 -- what the last client there said since it came, and how much it took
 abbrev pub WordsAreSaid : Type 0
-WordsAreSaid = Gives (λ (place : ℕ). said place events) ((1, codes "GET /") ∷ (2, codes "Q") ∷ (3, []) ∷ [])
+WordsAreSaid = HasValues (λ (place : ℕ). said place events) ((1, codes "GET /") ∷ (2, codes "Q") ∷ (3, []) ∷ [])
 
 abbrev pub TakenIsCounted : Type 0
-TakenIsCounted = Gives (λ (place : ℕ). taken place events) ((1, 5) ∷ (2, 0) ∷ [])
+TakenIsCounted = HasValues (λ (place : ℕ). reply_bytes_taken place events) ((1, 5) ∷ (2, 0) ∷ [])
 
 abbrev pub PiecesAreJoined : Type 0
-PiecesAreJoined = Gives joined (
+PiecesAreJoined = HasValues bytes_of_pieces (
     (codes "T /" ∷ codes "GE" ∷ [], codes "GET /") ∷ ([], []) ∷ (codes "/" ∷ codes " " ∷ codes "T" ∷ codes "E" ∷ codes "G" ∷ [], codes "GET /") ∷ [])
 
 -- the same of more: a client at place 1 says five pieces, while others come and go before and after it
@@ -77,18 +77,18 @@ many =
     ∷ reply_bytes 1 3 ∷ request_bytes 1 (codes "T") ∷ request_bytes 1 (codes "E") ∷ request_bytes 1 (codes "G") ∷ arrival 1 ∷ []
 
 abbrev pub visits_said_and_taken : ℕ → ℕ × List ℕ × ℕ
-visits_said_and_taken place = (visits place many, said place many, taken place many)
+visits_said_and_taken place = (visits place many, said place many, reply_bytes_taken place many)
 
 abbrev pub OthersAreApart : Type 0
-OthersAreApart = Gives visits_said_and_taken ((0, (1, [], 0)) ∷ (1, (1, codes "GET /", 7)) ∷ (2, (1, [], 9)) ∷ (3, (0, [], 0)) ∷ [])
+OthersAreApart = HasValues visits_said_and_taken ((0, (1, [], 0)) ∷ (1, (1, codes "GET /", 7)) ∷ (2, (1, [], 9)) ∷ (3, (0, [], 0)) ∷ [])
 
 -- a device's calls, and those that failed: one more each time. A count stays at 2^64 - 1
 abbrev pub CallsAreCounted : Type 0
-CallsAreCounted = Gives (one_call WouldWait) (
+CallsAreCounted = HasValues (one_call WouldWait) (
     (record { count = 5; last = None }, record { count = 6; last = Some WouldWait })
     ∷ (record { count = 2 ^ 64 - 1; last = Some HasFailed }, record { count = 2 ^ 64 - 1; last = Some WouldWait }) ∷ [])
 
 abbrev pub FailuresAreCounted : Type 0
-FailuresAreCounted = Gives one_more (
+FailuresAreCounted = HasValues one_more (
     (record { count = 5; last = false }, record { count = 6; last = true })
     ∷ (record { count = 2 ^ 64 - 1; last = true }, record { count = 2 ^ 64 - 1; last = true }) ∷ [])

@@ -14,14 +14,14 @@ use Rattle.channel_window.specs.declared.state.ChannelState.{ChannelState}
 use Rattle.pod_store.specs.Marks.{Marked}
 use Rattle.stitcher.specs.declared.OutSegment.{OutSegment}
 use Rattle.channel_window.specs.Listed.{head_of, segments_in}
-use Rattle.channel_window.specs.ListEnd.{begins_run, has_ended, last_window}
+use Rattle.channel_window.specs.ListEnd.{begins_run, heading_has_ended, last_window}
 use Rattle.live_channel.specs.declared.channel.Refreshed.{Refreshed}
 use Rattle.live_channel.specs.Channel.{Channel, Given, decided, withdrawn, refreshed, channel_with, with_store, text_in, owed_answer, is_out_of_memory, store_by}
 use Rattle.worked_examples.specs.Breaks.{nothing_said}
 use Rattle.worked_examples.specs.Channels.{five}
 use Rattle.worked_examples.specs.Pods.{ab, short}
 use Rattle.worked_examples.specs.Stitched.{stepped, unmarked, marked}
-use Rattle.worked_examples.specs.Tables.{Gives}
+use Rattle.worked_examples.specs.Tables.{HasValues}
 use Rattle.http_messages.specs.declared.message.Request.{Request}
 use Rattle.served_examples.specs.Answers.{first_refresh, refresh}
 
@@ -57,7 +57,7 @@ kept = record {
 }
 
 abbrev pub StatesAreMeant : Type 0
-StatesAreMeant = (base : Parts) → Gives (channel_with base 5 state) (
+StatesAreMeant = (base : Parts) → HasValues (channel_with base 5 state) (
     (None, record { base = base; tolerance = 5; kept = kept; text = None })
     ∷ (Some (codes "x"), record { base = base; tolerance = 5; kept = kept; text = Some (codes "x") }) ∷ [])
 
@@ -67,14 +67,14 @@ five_shown = record state { list = record { segment = stepped 5 3 0; instant = N
 
 -- the segments that it holds, the oldest first
 abbrev pub SegmentsAreHeld : Type 0
-SegmentsAreHeld = Gives segments_in (
+SegmentsAreHeld = HasValues segments_in (
     (state.list, stepped 5 3 1 ∷ stepped 6 3 0 ∷ [])
     ∷ ([], [])
     ∷ (five_shown.list, stepped 5 3 0 ∷ stepped 6 3 0 ∷ stepped 7 3 0 ∷ stepped 8 3 0 ∷ stepped 9 3 0 ∷ []) ∷ [])
 
 -- five segments are meant with the newest first
 abbrev pub ShownAreMeant : Type 0
-ShownAreMeant = (base : Parts) → Gives (λ (state : ChannelState). (channel_with base 5 state None).kept.shown) (
+ShownAreMeant = (base : Parts) → HasValues (λ (state : ChannelState). (channel_with base 5 state None).kept.shown) (
     (five_shown, unmarked (stepped 9 3 0) ∷ unmarked (stepped 8 3 0) ∷ unmarked (stepped 7 3 0) ∷ unmarked (stepped 6 3 0) ∷ unmarked (stepped 5 3 0) ∷ []) ∷ [])
 
 abbrev pub holding : Parts → Kept → Channel
@@ -82,13 +82,13 @@ holding base kept = record { base = base; tolerance = 5; kept = kept; text = Som
 
 -- a decision changes the store alone
 abbrev pub StoresAreReplaced : Type 0
-StoresAreReplaced = (base : Parts) → Gives (with_store (holding base kept)) ((nothing_decided, holding base (record kept { store = nothing_decided })) ∷ [])
+StoresAreReplaced = (base : Parts) → HasValues (with_store (holding base kept)) ((nothing_decided, holding base (record kept { store = nothing_decided })) ∷ [])
 
 abbrev pub written : WrittenText
 written = record { text = codes "x"; from = 0; till = 1; count = 1; keys = []; init_section = None }
 
 abbrev pub TextsAreKept : Type 0
-TextsAreKept = Gives text_in ((None, None) ∷ (Some written, Some (codes "x")) ∷ [])
+TextsAreKept = HasValues text_in ((None, None) ∷ (Some written, Some (codes "x")) ∷ [])
 
 -- ---- the end from which a stitched list goes on
 
@@ -103,7 +103,7 @@ of_none number = unmarked (stepped number 3 0)
 
 -- it is asked of the oldest of the first segments whether it goes on the break of the newest of the others
 abbrev pub RunsBegin : Type 0
-RunsBegin = Gives (λ (it : List Marked × List Marked). begins_run it.0 it.1) (
+RunsBegin = HasValues (λ (it : List Marked × List Marked). begins_run it.0 it.1) (
     (([], []), false)
     ∷ (([], of_a 6 ∷ []), false)
     ∷ ((of_none 5 ∷ [], []), true)
@@ -117,7 +117,7 @@ RunsBegin = Gives (λ (it : List Marked × List Marked). begins_run it.0 it.1) (
     ∷ ((of_none 12 ∷ of_none 11 ∷ of_none 10 ∷ of_none 9 ∷ of_none 8 ∷ of_a 7 ∷ [], of_a 6 ∷ []), false) ∷ [])
 
 abbrev pub EndsAreTold : Type 0
-EndsAreTold = Gives has_ended (
+EndsAreTold = HasValues heading_has_ended (
     (None, false) ∷ (Some (heading_of five), false) ∷ (Some (record (heading_of five) { end_list = true }), true) ∷ [])
 
 -- a segment of the origin as it is written
@@ -125,13 +125,13 @@ abbrev pub written_as : ℕ → ℕ → ℕ → ℕ → OutSegment
 written_as number media discontinuity steps = record { segment = stepped number 3 0; media_sequence = media; discontinuity_sequence = discontinuity; discontinuities = steps; program_date_time = None }
 
 abbrev pub FirstNumbersAreTold : Type 0
-FirstNumbersAreTold = Gives head_of (
+FirstNumbersAreTold = HasValues head_of (
     ([], record { media_sequence = 0; discontinuity_sequence = 0; discontinuities = 0 })
     ∷ (written_as 5 8 4 2 ∷ written_as 6 9 5 1 ∷ [], record { media_sequence = 8; discontinuity_sequence = 4; discontinuities = 2 }) ∷ [])
 
 -- the window is written in the order of a playlist, with its numbers counted on from the first; before the first refresh there is none
 abbrev pub LastWindowsAreTold : Type 0
-LastWindowsAreTold = Gives last_window (
+LastWindowsAreTold = HasValues last_window (
     (record kept { last = None }, [])
     ∷ (
       record kept { shown = of_none 9 ∷ of_none 8 ∷ of_none 7 ∷ of_none 6 ∷ of_none 5 ∷ []; rest = None },
@@ -151,7 +151,7 @@ five_from_7 = refresh (codes "#EXT-X-MEDIA-SEQUENCE:7" ∷ codes "#EXTINF:10," �
 
 -- a playlist is taken, is taken again, may not follow, and can't be read
 abbrev pub RefreshesAreOwed : Type 0
-RefreshesAreOwed = Gives owed_to (
+RefreshesAreOwed = HasValues owed_to (
     (([], first_refresh.body), Some (Ok (record { media_sequence = 0; segments = 1; fresh = 1 })))
     ∷ ((refreshed first_refresh.body ∷ [], first_refresh.body), Some (Ok (record { media_sequence = 0; segments = 1; fresh = 0 })))
     ∷ ((refreshed first_refresh.body ∷ [], (refresh (codes "#EXTINF:10," ∷ codes "a:t" ∷ [])).body), Some (Err (Changed 0)))
@@ -160,7 +160,7 @@ RefreshesAreOwed = Gives owed_to (
     ∷ ((refreshed [] ∷ refreshed [] ∷ refreshed [] ∷ refreshed [] ∷ refreshed first_refresh.body ∷ [], (refresh (codes "#EXTINF:10," ∷ codes "a:t" ∷ [])).body), Some (Err (Changed 0))) ∷ [])
 
 abbrev pub LackOfMemoryIsSeen : Type 0
-LackOfMemoryIsSeen = Gives is_out_of_memory (
+LackOfMemoryIsSeen = HasValues is_out_of_memory (
     (Ok (record { media_sequence = 0; segments = 1; fresh = 1 }), false) ∷ (Err OutOfMemory, true) ∷ (Err NumberRange, false) ∷ [])
 
 abbrev pub decision : List ℕ
@@ -171,7 +171,7 @@ abbrev pub stored_after : List Given → Option (List (List ℕ))
 stored_after given = option_map (λ (base : Parts). map (λ (e : Entry). e.id) (store_by (new_channel base) given).entries) (base_of (codes "http://h/"))
 
 abbrev pub DecisionsAreStored : Type 0
-DecisionsAreStored = Gives stored_after (
+DecisionsAreStored = HasValues stored_after (
     ([], Some [])
     ∷ (decided decision ∷ [], Some (codes "b" ∷ []))
     ∷ (decided (codes "{") ∷ decided decision ∷ [], Some (codes "b" ∷ []))

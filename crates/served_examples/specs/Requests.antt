@@ -7,16 +7,16 @@ use Rattle.http_messages.specs.declared.refusal.Refusal.TheVariants.{BadRequest,
 use Rattle.http_messages.specs.declared.head.Framing.{Framing}
 use Rattle.http_messages.specs.declared.head.Framing.TheVariants.{Body, Refused}
 use Rattle.http_messages.specs.Limits.{head_limit, field_limit, body_limit}
-use Rattle.http_messages.specs.Requests.{Field, framing_of, framing_said}
-use Rattle.http_messages.specs.Replies.{bare, plain, refusal_reply, sends_body, text_sent}
+use Rattle.http_messages.specs.Requests.{HeaderField, framing_of, framing_said}
+use Rattle.http_messages.specs.Replies.{bare, plain_reply, refusal_reply, sends_body, text_sent}
 use Rattle.channel_api.specs.declared.routes.Resource.TheVariants.{Channel, Origin, Decisions, Live, Why}
 use Rattle.channel_api.specs.Routes.{is_channel_name, path_of, route_of}
 use Rattle.worked_examples.specs.Pods.{long}
-use Rattle.worked_examples.specs.Tables.{Gives}
+use Rattle.worked_examples.specs.Tables.{HasValues}
 
 -- docs/OPERATING.md: a name is 1 to 32 of a to z, 0 to 9 and `-`
 abbrev pub NamesAreChecked : Type 0
-NamesAreChecked = Gives is_channel_name (
+NamesAreChecked = HasValues is_channel_name (
     (codes "news-1", true)
     ∷ (replicate 32 97, true)
     ∷ (replicate 33 97, false)
@@ -28,11 +28,11 @@ NamesAreChecked = Gives is_channel_name (
 
 -- RFC 3986, 3.4: a query begins at the first question mark, and is passed over
 abbrev pub QueriesArePassedOver : Type 0
-QueriesArePassedOver = Gives path_of ((codes "/a?b?c", codes "/a") ∷ (codes "/a", codes "/a") ∷ (codes "?", []) ∷ [])
+QueriesArePassedOver = HasValues path_of ((codes "/a?b?c", codes "/a") ∷ (codes "/a", codes "/a") ∷ (codes "?", []) ∷ [])
 
 -- docs/OPERATING.md: the routes
 abbrev pub RoutesAreFound : Type 0
-RoutesAreFound = Gives route_of (
+RoutesAreFound = HasValues route_of (
     (codes "/channels/a", Some (codes "a", Channel))
     ∷ (codes "/channels/a/origin", Some (codes "a", Origin))
     ∷ (codes "/channels/a/decisions", Some (codes "a", Decisions))
@@ -41,17 +41,17 @@ RoutesAreFound = Gives route_of (
     ∷ (codes "/channels/news-1/live.m3u8", Some (codes "news-1", Live)) ∷ [])
 
 abbrev pub OtherPathsAreNone : Type 0
-OtherPathsAreNone = Gives route_of (
+OtherPathsAreNone = HasValues route_of (
     (codes "/channels/A", None) ∷ (codes "/channels/", None) ∷ (codes "/channels/a/", None) ∷ (codes "/channels/a/live", None) ∷ (codes "/a", None) ∷ (codes "/", None) ∷ [])
 
-abbrev pub framing : List ℕ × List Field → Framing
+abbrev pub framing : List ℕ × List HeaderField → Framing
 framing it = framing_of it.0 it.1
 
 -- RFC 9112, 6.1 and 6.3, with docs/CONFORMANCE.md: the body of a PUT has its one Content-Length, of at most 4,194,304 bytes; with
 -- Transfer-Encoding or without a length it is 411, with two or one that is no decimal 400, with more 413. A request of another
 -- method has no body. RFC 9110, 5.1: names of fields are the same in any case
 abbrev pub BodiesAreFramed : Type 0
-BodiesAreFramed = Gives framing (
+BodiesAreFramed = HasValues framing (
     ((codes "PUT", (codes "Host", codes "h") ∷ (codes "Content-Length", codes "5") ∷ []), Body 5)
     ∷ ((codes "PUT", (codes "content-LENGTH", codes "5") ∷ []), Body 5)
     ∷ ((codes "PUT", (codes "Content-Length", codes "0") ∷ []), Body 0)
@@ -72,7 +72,7 @@ BodiesAreFramed = Gives framing (
 
 -- docs/OPERATING.md: 16,384 bytes and 64 fields of a head, 4,194,304 bytes of a body, 65,536 reads
 abbrev pub MessagesAreLimited : Type 0
-MessagesAreLimited = Gives (λ (n : ℕ). n) ((head_limit, 16384) ∷ (field_limit, 64) ∷ (body_limit, 4194304) ∷ [])
+MessagesAreLimited = HasValues (λ (n : ℕ). n) ((head_limit, 16384) ∷ (field_limit, 64) ∷ (body_limit, 4194304) ∷ [])
 
 -- each line with CR and LF
 abbrev pub lines : List (List ℕ) → List ℕ
@@ -82,21 +82,21 @@ lines (line ∷ later) = line ++ (13 ∷ 10 ∷ lines later)
 -- RFC 9112, 4 and 9.3: a status line, fields, an empty line and the body; each reply closes its connection. RFC 9110, 8.6: 204 has
 -- no length; 15.5.6: 405 has Allow. RFC 8216, 4: the media type of a playlist
 abbrev pub RepliesAreWritten : Type 0
-RepliesAreWritten = Gives (text_sent true) (
+RepliesAreWritten = HasValues (text_sent true) (
     (bare 204, lines (codes "HTTP/1.1 204 No Content" ∷ codes "Connection: close" ∷ [] ∷ []))
     ∷ (bare 201, lines (codes "HTTP/1.1 201 Created" ∷ codes "Content-Length: 0" ∷ codes "Connection: close" ∷ [] ∷ []))
-    ∷ (plain 200 (long 98), lines (codes "HTTP/1.1 200 OK" ∷ codes "Content-Type: text/plain; charset=utf-8" ∷ codes "Content-Length: 46" ∷ codes "Connection: close" ∷ [] ∷ []) ++ long 98)
+    ∷ (plain_reply 200 (long 98), lines (codes "HTTP/1.1 200 OK" ∷ codes "Content-Type: text/plain; charset=utf-8" ∷ codes "Content-Length: 46" ∷ codes "Connection: close" ∷ [] ∷ []) ++ long 98)
     ∷ (bare 200, lines (codes "HTTP/1.1 200 OK" ∷ codes "Content-Length: 0" ∷ codes "Connection: close" ∷ [] ∷ []))
-    ∷ (plain 404 (codes "not found\n"), lines (codes "HTTP/1.1 404 Not Found" ∷ codes "Content-Type: text/plain; charset=utf-8" ∷ codes "Content-Length: 10" ∷ codes "Connection: close" ∷ [] ∷ []) ++ codes "not found\n")
-    ∷ (plain 409 (codes "N5 Back\n"), lines (codes "HTTP/1.1 409 Conflict" ∷ codes "Content-Type: text/plain; charset=utf-8" ∷ codes "Content-Length: 8" ∷ codes "Connection: close" ∷ [] ∷ []) ++ codes "N5 Back\n")
-    ∷ (plain 422 (codes "J6 EmptyPod\n"), lines (codes "HTTP/1.1 422 Unprocessable Entity" ∷ codes "Content-Type: text/plain; charset=utf-8" ∷ codes "Content-Length: 12" ∷ codes "Connection: close" ∷ [] ∷ []) ++ codes "J6 EmptyPod\n")
+    ∷ (plain_reply 404 (codes "not found\n"), lines (codes "HTTP/1.1 404 Not Found" ∷ codes "Content-Type: text/plain; charset=utf-8" ∷ codes "Content-Length: 10" ∷ codes "Connection: close" ∷ [] ∷ []) ++ codes "not found\n")
+    ∷ (plain_reply 409 (codes "N5 Back\n"), lines (codes "HTTP/1.1 409 Conflict" ∷ codes "Content-Type: text/plain; charset=utf-8" ∷ codes "Content-Length: 8" ∷ codes "Connection: close" ∷ [] ∷ []) ++ codes "N5 Back\n")
+    ∷ (plain_reply 422 (codes "J6 EmptyPod\n"), lines (codes "HTTP/1.1 422 Unprocessable Entity" ∷ codes "Content-Type: text/plain; charset=utf-8" ∷ codes "Content-Length: 12" ∷ codes "Connection: close" ∷ [] ∷ []) ++ codes "J6 EmptyPod\n")
     ∷ (bare 503, lines (codes "HTTP/1.1 503 Service Unavailable" ∷ codes "Content-Length: 0" ∷ codes "Connection: close" ∷ [] ∷ []))
     ∷ (
       record { status = 200; allow = None; content = Some (record { media = Playlist; text = codes "hi" }) },
       lines (codes "HTTP/1.1 200 OK" ∷ codes "Content-Type: application/vnd.apple.mpegurl" ∷ codes "Content-Length: 2" ∷ codes "Connection: close" ∷ [] ∷ []) ++ codes "hi",
     )
     ∷ (
-      record (plain 405 (codes "no")) { allow = Some allow.PutDelete },
+      record (plain_reply 405 (codes "no")) { allow = Some allow.PutDelete },
       lines (codes "HTTP/1.1 405 Method Not Allowed" ∷ codes "Content-Type: text/plain; charset=utf-8" ∷ codes "Allow: PUT, DELETE" ∷ codes "Content-Length: 2" ∷ codes "Connection: close" ∷ [] ∷ []) ++ codes "no",
     )
     ∷ (record (bare 405) { allow = Some allow.Put }, lines (codes "HTTP/1.1 405 Method Not Allowed" ∷ codes "Allow: PUT" ∷ codes "Content-Length: 0" ∷ codes "Connection: close" ∷ [] ∷ []))
@@ -107,11 +107,11 @@ RepliesAreWritten = Gives (text_sent true) (
 
 -- RFC 9110, 9.3.2: a reply to HEAD is the head alone
 abbrev pub HeadsAreSent : Type 0
-HeadsAreSent = Gives sends_body ((codes "GET", true) ∷ (codes "PUT", true) ∷ (codes "HEAD", false) ∷ (codes "head", true) ∷ [])
+HeadsAreSent = HasValues sends_body ((codes "GET", true) ∷ (codes "PUT", true) ∷ (codes "HEAD", false) ∷ (codes "head", true) ∷ [])
 
 abbrev pub HeadRepliesAreWritten : Type 0
-HeadRepliesAreWritten = Gives (text_sent false) (
-    (plain 405 (codes "no"), lines (codes "HTTP/1.1 405 Method Not Allowed" ∷ codes "Content-Type: text/plain; charset=utf-8" ∷ codes "Content-Length: 2" ∷ codes "Connection: close" ∷ [] ∷ [])) ∷ [])
+HeadRepliesAreWritten = HasValues (text_sent false) (
+    (plain_reply 405 (codes "no"), lines (codes "HTTP/1.1 405 Method Not Allowed" ∷ codes "Content-Type: text/plain; charset=utf-8" ∷ codes "Content-Length: 2" ∷ codes "Connection: close" ∷ [] ∷ [])) ∷ [])
 
 -- a head of this method, whose only field states this length
 abbrev pub head_with : List ℕ → List ℕ → RequestHead
@@ -122,7 +122,7 @@ head_of it = framing_said (head_with it.0 it.1)
 
 -- RFC 9112, 5: white space around a field's value is none of it
 abbrev pub HeadsAreFramed : Type 0
-HeadsAreFramed = Gives head_of (
+HeadsAreFramed = HasValues head_of (
     ((codes "PUT", codes " 5 "), Body 5)
     ∷ ((codes "GET", codes " 5"), Body 0)
     ∷ ((codes "PUT", codes " 5x"), Refused BadRequest)
@@ -130,5 +130,5 @@ HeadsAreFramed = Gives head_of (
 
 -- a head of five fields, of which the last one states the length
 abbrev pub AllFieldsCount : Type 0
-AllFieldsCount = Gives (λ (h : RequestHead). framing_said (record h { fields = record { name = codes "A"; raw = []; end = crlf } ∷ record { name = codes "B"; raw = []; end = crlf } ∷ record { name = codes "C"; raw = []; end = crlf } ∷ record { name = codes "D"; raw = []; end = crlf } ∷ h.fields })) (
+AllFieldsCount = HasValues (λ (h : RequestHead). framing_said (record h { fields = record { name = codes "A"; raw = []; end = crlf } ∷ record { name = codes "B"; raw = []; end = crlf } ∷ record { name = codes "C"; raw = []; end = crlf } ∷ record { name = codes "D"; raw = []; end = crlf } ∷ h.fields })) (
     (head_with (codes "PUT") (codes "5"), Body 5) ∷ [])

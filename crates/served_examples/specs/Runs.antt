@@ -22,15 +22,15 @@ use Rattle.vod_run.specs.Vod.{read_under, told_with}
 use Rattle.worked_examples.specs.Channels.{b, decide_b, plays, segments}
 use Rattle.worked_examples.specs.Playlists.{text}
 use Rattle.worked_examples.specs.Pods.{fault_at, long, nowhere}
-use Rattle.worked_examples.specs.Tables.{Gives}
+use Rattle.worked_examples.specs.Tables.{HasValues}
 
 -- docs/OPERATING.md: 65,536 reads at most; a counter stays at 2^64 - 1
 abbrev pub ReadsAreLimited : Type 0
-ReadsAreLimited = Gives (λ (n : ℕ). n) ((most_reads, 65536) ∷ (next_count 5, 6) ∷ (next_count (2 ^ 64 - 1), 2 ^ 64 - 1) ∷ [])
+ReadsAreLimited = HasValues (λ (n : ℕ). n) ((most_reads, 65536) ∷ (next_count 5, 6) ∷ (next_count (2 ^ 64 - 1), 2 ^ 64 - 1) ∷ [])
 
 -- a decision file's first fault, of what it says and then of a store in which nothing is decided; without one nothing is told
 abbrev pub FilesAreTold : Type 0
-FilesAreTold = Gives vod.events_of (
+FilesAreTold = HasValues vod.events_of (
     (None, Ok [])
     ∷ (Some (codes "{\"breaks\":[]}"), Ok (live.decided (Breaks []) ∷ []))
     ∷ (Some (codes "{\"breaks\":[],\"x\":\"" ++ (long 98 ++ codes "\"}")), Ok (live.decided (Breaks []) ∷ []))
@@ -38,14 +38,14 @@ FilesAreTold = Gives vod.events_of (
     ∷ (Some (codes "{\"withdraw\":\"b\"}"), Err (fault_at nowhere fault.Unknown)) ∷ [])
 
 abbrev pub FilesAreGiven : Type 0
-FilesAreGiven = Gives given_by ((None, []) ∷ (Some (codes "{"), decided (codes "{") ∷ []) ∷ [])
+FilesAreGiven = HasValues given_by ((None, []) ∷ (Some (codes "{"), decided (codes "{") ∷ []) ∷ [])
 
 abbrev pub told : List Given → Option (List live.Event)
 told given = option_map (λ (base : Parts). events_of base given) (base_of (codes "http://h/"))
 
 -- bytes that don't read are no event, and neither are those that say no decisions
 abbrev pub BytesAreTold : Type 0
-BytesAreTold = Gives told (
+BytesAreTold = HasValues told (
     ([], Some [])
     ∷ (withdrawn (codes "b") ∷ decided (codes "{\"breaks\":[]}") ∷ [], Some (live.decided (Withdraw (codes "b")) ∷ live.decided (Breaks []) ∷ []))
     ∷ (decided (codes "{") ∷ refreshed [] ∷ [], Some []) ∷ [])
@@ -58,7 +58,7 @@ segment = record { media_sequence = 0; discontinuity_sequence = 0; discontinuiti
 
 -- RFC 8216, 4.1: a playlist is UTF-8, and so is each URI in it; 255 is no byte of such a text
 abbrev pub UrisAreText : Type 0
-UrisAreText = Gives uris_are_text (
+UrisAreText = HasValues uris_are_text (
     (segment, true)
     ∷ (record segment { uri = 255 ∷ [] }, false)
     ∷ (record segment { keys = key (codes "a:k") ∷ [] }, true)
@@ -75,12 +75,12 @@ abbrev pub are_read : List ℕ → Bool × Bool
 are_read uri = (uri_reads uri, quoted_uri_reads uri)
 
 abbrev pub ReadUrisAreWhole : Type 0
-ReadUrisAreWhole = Gives are_read (
+ReadUrisAreWhole = HasValues are_read (
     (codes "http://h/a", (true, true)) ∷ (codes "s0.ts", (false, false)) ∷ (codes "http://h/" ++ (127 ∷ []), (false, false)) ∷ (codes "http://h/\"", (true, false)) ∷ [])
 
 -- 4.3.3.2 and 4.3.3.3: a playlist has a segment, and numbers go up by one and by the discontinuities between
 abbrev pub ReadNumbersRise : Type 0
-ReadNumbersRise = Gives numbers_read (
+ReadNumbersRise = HasValues numbers_read (
     ([], false)
     ∷ (segment ∷ record segment { media_sequence = 1; discontinuity_sequence = 1; discontinuities = 1 } ∷ [], true)
     ∷ (segment ∷ record segment { media_sequence = 1; discontinuity_sequence = 1 } ∷ [], false)
@@ -93,7 +93,7 @@ abbrev pub is_read_and_written : Segment → Bool × Bool
 is_read_and_written s = (segment_reads s, segment_can_be_written s)
 
 abbrev pub ReadSegmentsAreWritten : Type 0
-ReadSegmentsAreWritten = Gives is_read_and_written (
+ReadSegmentsAreWritten = HasValues is_read_and_written (
     (segment, (true, true))
     ∷ (record segment { byte_range = Some (record { length = 5; offset = 3 }); keys = key (codes "a:k") ∷ []; title = codes "first"; program_date_time = Some (pos 0) }, (true, true))
     ∷ (record segment { uri = codes "s" }, (false, false))
@@ -103,7 +103,7 @@ ReadSegmentsAreWritten = Gives is_read_and_written (
 
 -- docs/OPERATING.md: a tag of attributes has 64 at most; EXTINF has none
 abbrev pub LinesKeepTheirLimit : Type 0
-LinesKeepTheirLimit = Gives line_keeps (
+LinesKeepTheirLimit = HasValues line_keeps (
     (codes "#EXT-X-KEY:METHOD=AES-128,URI=\"k\"", true)
     ∷ (codes "#EXT-X-MAP:" ++ replicate 63 44, true)
     ∷ (codes "#EXT-X-MAP:" ++ replicate 64 44, false)
@@ -122,7 +122,7 @@ one_segment = text (codes "#EXTM3U" ∷ codes "#EXT-X-TARGETDURATION:10" ∷ cod
 
 -- RFC 3986, 5.2: a reference is resolved against the base, which is of http or https
 abbrev pub InputsAreReadUnderBases : Type 0
-InputsAreReadUnderBases = Gives uris_under (
+InputsAreReadUnderBases = HasValues uris_under (
     ((codes "http://h/a/b", one_segment), Some (Some (codes "http://h/a/s" ∷ [])))
     ∷ ((codes "http://h/" ++ (long 98 ++ codes "/b"), one_segment), Some (Some ((codes "http://h/" ++ (long 98 ++ codes "/s")) ∷ [])))
     ∷ ((codes "ftp://h/", one_segment), None)
@@ -137,7 +137,7 @@ marks_told one = map marked_with (told_with (decide_b ∷ []) (plays (one ∷ []
 
 -- docs/OPERATING.md: `vod` takes a segment that begins within 100 ms of a break's start
 abbrev pub RunsAreTold : Type 0
-RunsAreTold = Gives marks_told (
+RunsAreTold = HasValues marks_told (
     (b, Some (codes "b") ∷ None ∷ [])
     ∷ (record b { start = Some (pos 1714564810100000000) }, Some (codes "b") ∷ None ∷ [])
     ∷ (record b { start = Some (pos 1714564810100000001) }, None ∷ None ∷ []) ∷ [])

@@ -7,7 +7,7 @@ use Rattle.std.proofs.lemmas.List.Folds.{list_all-append}
 use Rattle.stitcher.specs.Stitched.{Piece, Numbers}
 use Rattle.stitcher.specs.Written.{written_segment}
 use Rattle.stitcher.specs.StitchedSegments.{item_fits}
-use Rattle.stitcher.specs.Inner.Making.{Made, numbers_fit, numbers_after, origin_of, comes_to, Puts, Passes, pushed}
+use Rattle.stitcher.specs.Inner.Making.{Made, numbers_fit, numbers_after, origin_discontinuity, comes_to, PutsPieces, Passes, pushed}
 
 false_and : (a b c : Bool) → a ≡ true → b ≡ true → (a && (b && true)) ≡ true
 false_and true true c p q = refl
@@ -16,7 +16,7 @@ false_and false b c p q = p
 
 -- one piece more, whose numbers fit
 pub puts_one : (made : Made) (p : Piece) (n : Numbers) → n ≡ numbers_after made.first made.last p → numbers_fit n ≡ true
-    → Puts made (pushed made (written_segment p n) p.instant n (origin_of p)) (p ∷ [])
+    → PutsPieces made (pushed made (written_segment p n) p.instant n (origin_discontinuity p)) (p ∷ [])
 puts_one made p n same fits = grind (arith, append_assoc, list_all-append, false_and)
 
 pub passes_longer : (made : Made) (pieces more : List Piece) → Passes made pieces → Passes made (pieces ++ more)
@@ -33,10 +33,10 @@ pub record Walks (old new : Made) (all rest : List Piece) : Type 0 where
 pub walks_none : (made : Made) (all : List Piece) → Walks made made all all
 walks_none made all = record { first = refl; comes = λ later. refl; fit = λ h. h }
 
-pub walks_on : (old mid new : Made) (all pieces rest : List Piece) → Walks old mid all (pieces ++ rest) → Puts mid new pieces → Walks old new all rest
+pub walks_on : (old mid new : Made) (all pieces rest : List Piece) → Walks old mid all (pieces ++ rest) → PutsPieces mid new pieces → Walks old new all rest
 walks_on old mid new all pieces rest w p = grind (arith, append_assoc)
 
-pub walked : (old new : Made) (all : List Piece) → Walks old new all [] → Puts old new all
+pub walked : (old new : Made) (all : List Piece) → Walks old new all [] → PutsPieces old new all
 walked old new all w = record { first = w.first; comes = w.comes; fit = w.fit }
 
 pub passes_there : (old mid : Made) (all pieces rest : List Piece) → Walks old mid all (pieces ++ rest) → Passes mid pieces → Passes old all

@@ -5,7 +5,7 @@ use mathlib.Core.List.{reverse_aux}
 use Rattle.std.proofs.lemmas.Grind.{reverse_onto}
 use Rattle.std.proofs.lemmas.List.{reverse-reverse, reverse-append}
 use Rattle.pod_store.specs.Pods.{Pod}
-use Rattle.pod_store.specs.Marks.{Mark, newest_mark, are_one, continues, Marked as Meant}
+use Rattle.pod_store.specs.Marks.{Mark, newest_mark, are_one, continues, Marked as Meant, mark_with, mark_in}
 use Rattle.stitcher.specs.Stitched.{Piece, Numbers, stitched, run_pieces}
 use Rattle.stitcher.specs.Paced.{newest_pieces, due_with, or_zero, rest_pieces, stitched_with}
 use Rattle.pod_store.specs.Store.{Store, pod_for}
@@ -13,9 +13,9 @@ use Rattle.stitcher.specs.declared.marked.MarkedSegment.{MarkedSegment}
 use Rattle.stitcher.specs.declared.ends.Rest.{Rest}
 use Rattle.stitcher.specs.declared.ends.Ends.{Ends}
 use Rattle.stitcher.specs.Written.{written_item}
-use Rattle.stitcher.specs.StitchedSegments.{mark_with, mark_in, meant, IsDecided, AreDecided, rest_from, rest_in, ends_in, stitched_segments}
+use Rattle.stitcher.specs.StitchedSegments.{meant, IsDecided, AreDecided, rest_from, rest_in, ends_in, stitched_segments}
 use Rattle.stitcher.specs.Making.{is_same_run, pod_with}
-use Rattle.stitcher.specs.Inner.Making.{counted, begun_with, part_of, part_due, whole_from, goes_on_to_last, pieces_at, pieces_on, rest_on, pieces_between}
+use Rattle.stitcher.specs.Inner.Making.{counted, begun_with, pieces_in_part, part_due, whole_from, goes_on_to_last, pieces_at, pieces_on, pieces_of_rest, pieces_between}
 use Rattle.stitcher.proofs.Counting.{numbers_count_on}
 use Rattle.stitcher.proofs.Parts.{whole_is_part, due_is_part, rest_is_part}
 
@@ -40,7 +40,7 @@ same_run store mark previous h k = grind arith
 
 -- ---- what stands for a run
 
-pod_stands : (store : Store) (m : MarkedSegment) (id : List ℕ) (o : Option Pod) → IsSome o → run_pieces (meant store m) (mark_with id o) ≡ reverse (part_of (whole_from 0) (pod_with id o))
+pod_stands : (store : Store) (m : MarkedSegment) (id : List ℕ) (o : Option Pod) → IsSome o → run_pieces (meant store m) (mark_with id o) ≡ reverse (pieces_in_part (whole_from 0) (pod_with id o))
 pod_stands store m id o h = grind (arith, whole_is_part)
 
 stands : (store : Store) (m : MarkedSegment) (mark : Option (List ℕ)) → IsDecided store mark → run_pieces (meant store m) (mark_in store mark) ≡ reverse (begun_with store (whole_from 0) m mark)
@@ -50,7 +50,7 @@ stands store m (Some id) h = pod_stands store m id (pod_for store id) h
 abbrev newest : Option ℕ → Meant → Option Mark → List Piece
 newest so_far s mark = newest_pieces (is_none so_far) (or_zero so_far) s mark
 
-pod_due : (store : Store) (so_far : Option ℕ) (m : MarkedSegment) (id : List ℕ) (o : Option Pod) → IsSome o → newest so_far (meant store m) (mark_with id o) ≡ reverse (part_of (part_due so_far) (pod_with id o))
+pod_due : (store : Store) (so_far : Option ℕ) (m : MarkedSegment) (id : List ℕ) (o : Option Pod) → IsSome o → newest so_far (meant store m) (mark_with id o) ≡ reverse (pieces_in_part (part_due so_far) (pod_with id o))
 pod_due store so_far m id o h = grind (arith, whole_is_part, due_is_part)
 
 stands_due : (store : Store) (so_far : Option ℕ) (m : MarkedSegment) (mark : Option (List ℕ)) → IsDecided store mark → newest so_far (meant store m) (mark_in store mark) ≡ reverse (begun_with store (part_due so_far) m mark)
@@ -100,10 +100,10 @@ nothing_yet false = refl
 
 -- ---- the rest
 
-rest_stands : (place : ℕ) (id : List ℕ) (o : Option Pod) → rest_pieces (option_map (rest_from place) (mark_with id o)) ≡ reverse (part_of (whole_from place) (pod_with id o))
+rest_stands : (place : ℕ) (id : List ℕ) (o : Option Pod) → rest_pieces (option_map (rest_from place) (mark_with id o)) ≡ reverse (pieces_in_part (whole_from place) (pod_with id o))
 rest_stands place id o = grind (arith, rest_is_part)
 
-pub rest_in_order : (store : Store) (rest : Option Rest) → rest_pieces (rest_in store rest) ≡ reverse (rest_on store rest)
+pub rest_in_order : (store : Store) (rest : Option Rest) → rest_pieces (rest_in store rest) ≡ reverse (pieces_of_rest store rest)
 rest_in_order store None = refl
 rest_in_order store (Some rest) = rest_stands rest.place rest.id (pod_for store rest.id)
 
@@ -111,7 +111,7 @@ whole_in_order : (store : Store) (ends : Ends) (marked : List MarkedSegment) →
     → stitched_with (ends_in store ends) (reverse (map (meant store) marked)) ≡ reverse (pieces_between store ends marked)
 whole_in_order store ends marked d =
     let segments = pieces_on store ends.so_far None marked in
-    let rest = rest_on store ends.rest in
+    let rest = pieces_of_rest store ends.rest in
     let list : list_due ends.so_far (reverse (map (meant store) marked)) ≡ reverse segments =
     due_on store ends.so_far None marked [] refl tt d ∙ ap (reverse_aux segments) (nothing_yet (goes_on_to_last None marked)) in
     ap (λ t. t ++ rest_pieces (rest_in store ends.rest)) list

@@ -13,8 +13,8 @@ is_same_run (Some id) (Some other) = bytes_eq id other
 is_same_run (Some id) None = false
 is_same_run None other = false
 
-abbrev pub plain : MarkedSegment → Piece
-plain m = kept_piece (record { segment = m.segment; instant = m.instant; mark = None })
+abbrev pub unmarked_piece : MarkedSegment → Piece
+unmarked_piece m = kept_piece (record { segment = m.segment; instant = m.instant; mark = None })
 
 -- the whole of a pod
 abbrev pub pod_with : List ℕ → Option Pod → List Piece
@@ -23,5 +23,5 @@ pod_with id (Some pod) = pod_pieces (record { id = id; pod = pod })
 
 -- what stands where a run begins that is shown whole
 abbrev pub begun : Store → MarkedSegment → Option (List ℕ) → List Piece
-begun store m None = plain m ∷ []
+begun store m None = unmarked_piece m ∷ []
 begun store m (Some id) = pod_with id (pod_for store id)

@@ -107,8 +107,8 @@ numbered first [] = []
 numbered first (p ∷ before) = record { piece = p; numbers = numbers_at first p before } ∷ numbered first before
 
 -- a playlist can state the numbers
-abbrev pub fits : Item → Bool
-fits item = nat_lt item.numbers.media_sequence (2 ^ 64) && nat_lt item.numbers.discontinuity_sequence (2 ^ 64)
+abbrev pub can_be_numbered : Item → Bool
+can_be_numbered item = nat_lt item.numbers.media_sequence (2 ^ 64) && nat_lt item.numbers.discontinuity_sequence (2 ^ 64)
 
 -- ---- the window
 

@@ -1,10 +1,9 @@
 -- What `stitch` answers: the stitched list of marked segments, told by IDs and a store of pods.
 use Rattle.std.specs.Prelude.{◌≡◌, ℕ, ◌^◌, Bool, ◌&&◌, nat_lt, List, [], ◌∷◌, map, reverse, Option, Some, None, IsSome, option_map}
 use Rattle.std.specs.List.{AllByRecursion}
-use Rattle.pod_store.specs.Pods.{Pod}
-use Rattle.pod_store.specs.Marks.{Mark, Marked as Meant}
+use Rattle.pod_store.specs.Marks.{Mark, Marked as Meant, mark_in}
 use Rattle.stitcher.specs.Stitched.{Numbers, numbered}
-use Rattle.stitcher.specs.Paced.{Rest as MeantRest, Ends as MeantEnds, stitched_with}
+use Rattle.stitcher.specs.Paced.{MeantRest, MeantEnds, stitched_with}
 use Rattle.pod_store.specs.Store.{Store, pod_for}
 use Rattle.stitcher.specs.declared.OutSegment.{OutSegment}
 use Rattle.stitcher.specs.declared.marked.MarkedSegment.{MarkedSegment}
@@ -14,15 +13,6 @@ use Rattle.stitcher.specs.declared.fault.StitchFault.{StitchFault}
 use Rattle.stitcher.specs.declared.fault.StitchFault.TheVariants.{NumberRange, OutOfMemory}
 use Rattle.stitcher.specs.Written.{written_item}
 use Rattle.stitcher.specs.Making.{is_same_run}
-
-abbrev pub mark_with : List ℕ → Option Pod → Option Mark
-mark_with id None = None
-mark_with id (Some pod) = Some (record { id = id; pod = pod })
-
--- the break of an ID, with the pod that it has in the store
-abbrev pub mark_in : Store → Option (List ℕ) → Option Mark
-mark_in store None = None
-mark_in store (Some id) = mark_with id (pod_for store id)
 
 abbrev pub meant : Store → MarkedSegment → Meant
 meant store m = record { segment = m.segment; instant = m.instant; mark = mark_in store m.mark }

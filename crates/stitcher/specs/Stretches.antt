@@ -23,13 +23,13 @@ numbers_on n m [] = n
 numbers_on n m (next ∷ later) = next_numbers n (next.segment.discontinuity_sequence - m.segment.discontinuity_sequence)
 
 -- kept segments that follow each other, the first with these numbers
-abbrev pub kept_items : Numbers → List MarkedSegment → List OutSegment
-kept_items n [] = []
-kept_items n (m ∷ later) = kept_item n m ∷ kept_items (numbers_on n m later) later
+abbrev pub segment_items : Numbers → List MarkedSegment → List OutSegment
+segment_items n [] = []
+segment_items n (m ∷ later) = kept_item n m ∷ segment_items (numbers_on n m later) later
 
 -- the items of a stretch, and those of stretches
 abbrev pub stretch_items : Stretch → List OutSegment
-stretch_items s = map ad_item s.ads ++ kept_items s.numbers s.kept.now
+stretch_items s = map ad_item s.ads ++ segment_items s.numbers s.kept.now
 
 abbrev pub stretches_items : List Stretch → List OutSegment
 stretches_items [] = []
@@ -37,7 +37,7 @@ stretches_items (s ∷ later) = stretch_items s ++ stretches_items later
 
 -- what is left of the stretch at which a walk is, and all that is left
 abbrev pub here_items : Cursor → List OutSegment
-here_items c = map ad_item c.ads.now ++ kept_items c.numbers c.kept.now
+here_items c = map ad_item c.ads.now ++ segment_items c.numbers c.kept.now
 
 abbrev pub left_items : Cursor → List OutSegment
 left_items c = here_items c ++ stretches_items c.later.now

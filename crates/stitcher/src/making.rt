@@ -7,9 +7,9 @@ ghost use Rattle.stitcher.specs.Stitched.{ad_piece, ad_pieces, next_numbers, pie
 ghost use Rattle.stitcher.specs.StitchedSegments.{AreDecided, KnowRuns, KnowsRun, RefusesNumber, item_fits, stitched_segments};
 ghost use Rattle.pod_store.specs.Store.{pod_for};
 ghost use Rattle.playlist_model.specs.Numbering.{segment_numbers};
-ghost use Rattle.stitcher.specs.Making.{is_same_run, plain, pod_with};
-ghost use Rattle.stitcher.specs.Inner.Making.{Passes, Puts, after_front, front_pieces, goes_on_to_last, kept_on, last_of_run, numbers_fit, numbers_with, part_after, part_after_one, part_at, part_here, part_of, pushed, rest_on, shows_next, steps_from, unmarked_front, whole_from};
-ghost use Rattle.stitcher.specs.Stretches.{kept_items};
+ghost use Rattle.stitcher.specs.Making.{is_same_run, unmarked_piece, pod_with};
+ghost use Rattle.stitcher.specs.Inner.Making.{Passes, PutsPieces, after_front, front_pieces, goes_on_to_last, kept_on, last_of_run, numbers_fit, numbers_with, part_after, part_after_one, part_at, part_here, pieces_in_part, pushed, pieces_of_rest, shows_next, steps_from, unmarked_front, whole_from};
+ghost use Rattle.stitcher.specs.Stretches.{segment_items};
 
 use crate::ad_segment::AdSegment;
 use crate::ends::{Ends, Rest};
@@ -102,10 +102,10 @@ fn last_of_run(
     requires { numbers_fit numbers ≡ true }
     ensures ok { IfOk result
         (λ last. (last ≡ last_of_run numbers first.now later.now)
-        × (list_all item_fits (kept_items numbers (first.now ∷ later.now)) ≡ true)) }
+        × (list_all item_fits (segment_items numbers (first.now ∷ later.now)) ≡ true)) }
     ensures err { IfErr result
         (λ e. (e ≡ StitchFault.NumberRange)
-        × (list_all item_fits (kept_items numbers (first.now ∷ later.now)) ≡ false)) }
+        × (list_all item_fits (segment_items numbers (first.now ∷ later.now)) ≡ false)) }
 {
     let mut numbers = numbers;
     let mut here = first;
@@ -203,7 +203,7 @@ fn goes_on_to_last(mark: &Option<Shared<Text>>, later: &[MarkedSegment]) -> bool
 }
 
 // A whole pod, from this place on.
-fn from_place(place: usize) -> Part
+fn part_from_place(place: usize) -> Part
     ensures { result ≡ whole_from place }
 {
     Part {
@@ -220,10 +220,10 @@ fn part_at(ends: &Ends, mark: &Option<Shared<Text>>, later: &[MarkedSegment]) ->
     ensures { result ≡ part_at ends.now.so_far mark.now later.now }
 {
     let Some(length) = ends.so_far else {
-        return from_place(0);
+        return part_from_place(0);
     };
     if !goes_on_to_last(mark, later) {
-        return from_place(0);
+        return part_from_place(0);
     }
     Part {
         skip: 0,
@@ -315,8 +315,9 @@ impl<'a> Stitching<'a> {
     // Puts segments of the origin at the end, which follow each other.
     fn keep(&mut self, alloc: Global, kept: &'a [MarkedSegment]) -> Result<(), StitchFault>
         requires { numbers_fit self.old.first ≡ true }
-        ensures ok { OnOk result (Puts self.old self.new (map plain kept.now)) }
-        ensures err { IfErr result (λ e. RefusesNumber e (Passes self.old (map plain kept.now))) }
+        ensures ok { OnOk result (PutsPieces self.old self.new (map unmarked_piece kept.now)) }
+        ensures err { IfErr result
+            (λ e. RefusesNumber e (Passes self.old (map unmarked_piece kept.now))) }
     {
         let Some((first, later)) = kept.split_first() else {
             return Ok(());
@@ -336,8 +337,9 @@ impl<'a> Stitching<'a> {
         cut: usize,
     ) -> Result<(), StitchFault>
         requires { numbers_fit self.old.first ≡ true }
-        ensures ok { OnOk result (Puts self.old self.new (map plain kept.now)) }
-        ensures err { IfErr result (λ e. RefusesNumber e (Passes self.old (map plain kept.now))) }
+        ensures ok { OnOk result (PutsPieces self.old self.new (map unmarked_piece kept.now)) }
+        ensures err { IfErr result
+            (λ e. RefusesNumber e (Passes self.old (map unmarked_piece kept.now))) }
     {
         let (before, after) = kept.split_at(cut.min(kept.len()));
         self.keep(alloc, before)?;
@@ -355,12 +357,13 @@ impl<'a> Stitching<'a> {
     ) -> Result<&'a [MarkedSegment], StitchFault>
         requires { numbers_fit self.old.first ≡ true }
         ensures ok { OnOk result
-            (Puts self.old self.new (map plain (take (unmarked_front segments.now) segments.now))) }
+            (PutsPieces self.old self.new
+            (map unmarked_piece (take (unmarked_front segments.now) segments.now))) }
         ensures left { IfOk result
             (λ left. left.now ≡ drop (unmarked_front segments.now) segments.now) }
         ensures err { IfErr result
             (λ e. RefusesNumber e (Passes self.old
-            (map plain (take (unmarked_front segments.now) segments.now)))) }
+            (map unmarked_piece (take (unmarked_front segments.now) segments.now)))) }
     {
         let (kept, left) = segments.split_at(unmarked_front(segments));
         self.keep_in_two(alloc, kept, cut)?;
@@ -369,10 +372,16 @@ impl<'a> Stitching<'a> {
 
     // Puts `segment`, one of `ad`, at the end, after a discontinuity if it is the `first` of its ad (RFC 8216,
     // section 4.3.2.3).
-    fn put(&mut self, ad: &'a Ad, segment: &'a PodSegment, first: bool) -> Result<(), StitchFault>
+    fn put_segment(
+        &mut self,
+        ad: &'a Ad,
+        segment: &'a PodSegment,
+        first: bool,
+    ) -> Result<(), StitchFault>
         requires { numbers_fit self.old.first ≡ true }
         ensures ok { OnOk result
-            ((mark : Mark) → Puts self.old self.new (ad_piece mark first ad.now segment.now ∷ [])) }
+            ((mark : Mark)
+            → PutsPieces self.old self.new (ad_piece mark first ad.now segment.now ∷ [])) }
         ensures err { IfErr result
             (λ e. RefusesNumber e ((mark : Mark)
             → Passes self.old (ad_piece mark first ad.now segment.now ∷ []))) }
@@ -391,7 +400,7 @@ impl<'a> Stitching<'a> {
     ) -> Result<Part, StitchFault>
         requires { numbers_fit self.old.first ≡ true }
         ensures ok { OnOk result
-            ((mark : Mark) → Puts self.old self.new
+            ((mark : Mark) → PutsPieces self.old self.new
             (part_here part.now (ad_piece mark first ad.now segment.now))) }
         ensures part { IfOk result (λ after. after ≡ part_after_one part.now segment.now.duration) }
         ensures err { IfErr result
@@ -401,21 +410,21 @@ impl<'a> Stitching<'a> {
         if !shows_next(part) {
             return Ok(part_after(part, segment.duration));
         }
-        self.put(ad, segment, first)?;
+        self.put_segment(ad, segment, first)?;
         Ok(part_after(part, segment.duration))
     }
 
     fn put_ad(&mut self, ad: &'a Ad, part: Part) -> Result<Part, StitchFault>
         requires { numbers_fit self.old.first ≡ true }
         ensures ok { OnOk result
-            ((mark : Mark) → Puts self.old self.new
-            (part_of part (ad_pieces mark ad.now ad.now.segments))) }
+            ((mark : Mark) → PutsPieces self.old self.new
+            (pieces_in_part part (ad_pieces mark ad.now ad.now.segments))) }
         ensures part { IfOk result
             (λ after. (mark : Mark) → after
             ≡ part_after part (ad_pieces mark ad.now ad.now.segments)) }
         ensures err { IfErr result
             (λ e. RefusesNumber e ((mark : Mark)
-            → Passes self.old (part_of part (ad_pieces mark ad.now ad.now.segments)))) }
+            → Passes self.old (pieces_in_part part (ad_pieces mark ad.now ad.now.segments)))) }
     {
         let Some((first, later)) = ad.segments.as_slice().split_first() else {
             return Ok(part);
@@ -433,11 +442,11 @@ impl<'a> Stitching<'a> {
     fn put_pod(&mut self, pod: &'a Pod, part: Part) -> Result<(), StitchFault>
         requires { numbers_fit self.old.first ≡ true }
         ensures ok { OnOk result
-            ((mark : Mark) → Puts self.old self.new
-            (part_of part (pieces_of_ads mark pod.now.ads))) }
+            ((mark : Mark) → PutsPieces self.old self.new
+            (pieces_in_part part (pieces_of_ads mark pod.now.ads))) }
         ensures err { IfErr result
             (λ e. RefusesNumber e ((mark : Mark)
-            → Passes self.old (part_of part (pieces_of_ads mark pod.now.ads)))) }
+            → Passes self.old (pieces_in_part part (pieces_of_ads mark pod.now.ads)))) }
     {
         let mut left = part;
         let mut rest = pod.ads();
@@ -455,10 +464,11 @@ impl<'a> Stitching<'a> {
     fn put_break(&mut self, id: &str, part: Part, store: &'a PodStore) -> Result<(), StitchFault>
         requires { numbers_fit self.old.first ≡ true }
         ensures ok { OnOk result
-            (Puts self.old self.new (part_of part (pod_with id.now (pod_for store.now id.now)))) }
+            (PutsPieces self.old self.new
+            (pieces_in_part part (pod_with id.now (pod_for store.now id.now)))) }
         ensures err { IfErr result
             (λ e. RefusesNumber e (Passes self.old
-            (part_of part (pod_with id.now (pod_for store.now id.now))))) }
+            (pieces_in_part part (pod_with id.now (pod_for store.now id.now))))) }
     {
         match store.pod_for(id) {
             Some(pod) => self.put_pod(pod, part),
@@ -469,14 +479,15 @@ impl<'a> Stitching<'a> {
     // Puts the rest of a pod at the end.
     fn put_rest(&mut self, rest: &Option<Rest>, store: &'a PodStore) -> Result<(), StitchFault>
         requires { numbers_fit self.old.first ≡ true }
-        ensures ok { OnOk result (Puts self.old self.new (rest_on store.now rest.now)) }
+        ensures ok { OnOk result
+            (PutsPieces self.old self.new (pieces_of_rest store.now rest.now)) }
         ensures err { IfErr result
-            (λ e. RefusesNumber e (Passes self.old (rest_on store.now rest.now))) }
+            (λ e. RefusesNumber e (Passes self.old (pieces_of_rest store.now rest.now))) }
     {
         let Some(rest) = rest else {
             return Ok(());
         };
-        let part = from_place(rest.place);
+        let part = part_from_place(rest.place);
         self.put_break(rest.id.as_str(), part, store)
     }
 
@@ -494,7 +505,8 @@ impl<'a> Stitching<'a> {
         requires fits { numbers_fit self.old.first ≡ true }
         requires runs { KnowRuns previous.now segments.now }
         ensures ok { OnOk result
-            (Puts self.old self.new (front_pieces store.now ends.now.so_far previous.now segments.now)) }
+            (PutsPieces self.old self.new
+            (front_pieces store.now ends.now.so_far previous.now segments.now)) }
         ensures left { IfOk result (λ left. left.now ≡ after_front segments.now) }
         ensures err { IfErr result
             (λ e. RefusesNumber e (Passes self.old

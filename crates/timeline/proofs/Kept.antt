@@ -7,7 +7,7 @@ use Rattle.std.proofs.lemmas.List.{same_from_push}
 use Rattle.playlist_model.specs.declared.Segment.{Segment}
 use Rattle.playlist_model.specs.Instants.{reckoned_back}
 use Rattle.timeline.specs.Inner.Reckoned.{is_unstated}
-use Rattle.timeline.specs.Reckoned.{clamped, reckoned, stack_of, IsKept}
+use Rattle.timeline.specs.Reckoned.{clamped, reckoned, stack_of, IsKeptStack}
 
 -- ---- what is kept
 
@@ -18,10 +18,10 @@ none_back : (segments : List Segment) → list_all is_unstated segments ≡ true
 none_back [] h = refl
 none_back (s ∷ later) h = unstated s later (and_parts _ _ h).0 (none_back later (and_parts _ _ h).1)
 
-pub unstated_kept : (segments : List Segment) → list_all is_unstated segments ≡ true → IsKept [] segments
+pub unstated_kept : (segments : List Segment) → list_all is_unstated segments ≡ true → IsKeptStack [] segments
 unstated_kept segments h = ap (λ back. option_map clamped back) (none_back segments h)
 
-pub stack_kept : (segments : List Segment) (kept : List (Option ℤ)) → kept ≡ stack_of segments → IsKept kept segments
+pub stack_kept : (segments : List Segment) (kept : List (Option ℤ)) → kept ≡ stack_of segments → IsKeptStack kept segments
 stack_kept [] [] e = refl
 stack_kept (s ∷ later) [] e =
     let none : 0 ≡ length (stack_of later) + 1 = ap (λ kept. length kept) e ∙ length-append (stack_of later) (reckoned (s ∷ later) ∷ []) in
@@ -30,19 +30,19 @@ stack_kept segments (first ∷ kept) e = e
 
 -- ---- what is kept after the first segment
 
-pub none_first : (s : Segment) (later : List Segment) → IsKept [] (s ∷ later) → None ≡ reckoned (s ∷ later)
+pub none_first : (s : Segment) (later : List Segment) → IsKeptStack [] (s ∷ later) → None ≡ reckoned (s ∷ later)
 none_first s later h = sym h
 
-pub none_others : (s : Segment) (later : List Segment) → IsKept [] (s ∷ later) → IsKept [] later
+pub none_others : (s : Segment) (later : List Segment) → IsKeptStack [] (s ∷ later) → IsKeptStack [] later
 none_others s later h = grind (arith, h)
 
-whole : (kept : List (Option ℤ)) (first : Option ℤ) (s : Segment) (later : List Segment) → IsKept (kept ++ first ∷ []) (s ∷ later)
+whole : (kept : List (Option ℤ)) (first : Option ℤ) (s : Segment) (later : List Segment) → IsKeptStack (kept ++ first ∷ []) (s ∷ later)
     → kept ++ first ∷ [] ≡ stack_of later ++ reckoned (s ∷ later) ∷ []
 whole [] first s later h = h
 whole (other ∷ kept) first s later h = h
 
-pub popped_first : (kept : List (Option ℤ)) (first : Option ℤ) (s : Segment) (later : List Segment) → IsKept (kept ++ first ∷ []) (s ∷ later) → first ≡ reckoned (s ∷ later)
+pub popped_first : (kept : List (Option ℤ)) (first : Option ℤ) (s : Segment) (later : List Segment) → IsKeptStack (kept ++ first ∷ []) (s ∷ later) → first ≡ reckoned (s ∷ later)
 popped_first kept first s later h = (same_from_push kept (stack_of later) first (reckoned (s ∷ later)) (whole kept first s later h)).1
 
-pub popped_others : (kept : List (Option ℤ)) (first : Option ℤ) (s : Segment) (later : List Segment) → IsKept (kept ++ first ∷ []) (s ∷ later) → IsKept kept later
+pub popped_others : (kept : List (Option ℤ)) (first : Option ℤ) (s : Segment) (later : List Segment) → IsKeptStack (kept ++ first ∷ []) (s ∷ later) → IsKeptStack kept later
 popped_others kept first s later h = stack_kept later kept (same_from_push kept (stack_of later) first (reckoned (s ∷ later)) (whole kept first s later h)).0

@@ -11,6 +11,6 @@ abbrev pub instant_held : ℤ → Option ℤ
 instant_held number = if int_eq number no_instant then None else Some number
 
 -- the number that says this
-abbrev pub number_of : Option ℤ → ℤ
-number_of None = no_instant
-number_of (Some instant) = instant
+abbrev pub number_for : Option ℤ → ℤ
+number_for None = no_instant
+number_for (Some instant) = instant

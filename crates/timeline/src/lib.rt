@@ -6,7 +6,7 @@ ghost use Rattle.std.specs.List.{list_all};
 ghost use Rattle.std.specs.Option.{is_some};
 ghost use Rattle.playlist_model.specs.Instants.{bounded, instants_after};
 ghost use Rattle.playlist_model.specs.LookBack.{or_earlier};
-ghost use Rattle.timeline.specs.Reckoned.{clamped, reckoned, stack_of, IsKept};
+ghost use Rattle.timeline.specs.Reckoned.{clamped, reckoned, stack_of, IsKeptStack};
 ghost use Rattle.timeline.specs.Inner.Reckoned.{is_unstated};
 
 use date_times::FIRST_INSTANT;
@@ -103,7 +103,7 @@ fn are_unstated(segments: &[Segment]) -> bool
 #[tactic(auto, using(crate::proofs::Kept::unstated_kept, crate::proofs::Kept::stack_kept))]
 // What is kept of these segments. In most playlists either the first states its time or none does, and then no memory is taken.
 fn kept_of(alloc: Global, segments: &[Segment]) -> Result<Vec<Option<i128>>, AllocError>
-    ensures { IfOk result (λ v. IsKept v.items segments.now) }
+    ensures { IfOk result (λ v. IsKeptStack v.items segments.now) }
 {
     if are_unstated(segments) {
         return Ok(Vec::new(alloc));
@@ -114,10 +114,10 @@ fn kept_of(alloc: Global, segments: &[Segment]) -> Result<Vec<Option<i128>>, All
 #[tactic(auto, using(crate::proofs::Kept::popped_first, crate::proofs::Kept::popped_others, crate::proofs::Kept::none_first, crate::proofs::Kept::none_others))]
 // What is reckoned of the first of some segments, of which this is kept; then it is of the others.
 fn pop_reckoned(kept: &mut Vec<Option<i128>>) -> Option<i128>
-    ensures first { (s : Segment) (later : List Segment) → IsKept kept.old.items (s ∷ later)
+    ensures first { (s : Segment) (later : List Segment) → IsKeptStack kept.old.items (s ∷ later)
         → result ≡ reckoned (s ∷ later) }
-    ensures others { (s : Segment) (later : List Segment) → IsKept kept.old.items (s ∷ later)
-        → IsKept kept.new.items later }
+    ensures others { (s : Segment) (later : List Segment) → IsKeptStack kept.old.items (s ∷ later)
+        → IsKeptStack kept.new.items later }
 {
     match kept.pop() {
         Some(reckoned) => reckoned,
@@ -138,13 +138,13 @@ pub struct Beginnings<'a> {
 impl<'a> Model for Beginnings<'a> {
     ghost use Rattle.std.specs.Prelude.{◌≡◌, ℤ, List, Option, IfSome, option_map};
     ghost use Rattle.playlist_model.specs.Instants.{instants_after};
-    ghost use Rattle.timeline.specs.Reckoned.{IsKept};
+    ghost use Rattle.timeline.specs.Reckoned.{IsKeptStack};
 
     ghost Value = { List (Option ℤ) };
 
     ghost view = { λ a. instants_after a.ended a.segments.now };
 
-    ghost invariant = { λ a. IfSome (option_map (λ v. v.items) a.kept) (λ items. IsKept items a.segments.now) };
+    ghost invariant = { λ a. IfSome (option_map (λ v. v.items) a.kept) (λ items. IsKeptStack items a.segments.now) };
 }
 
 impl<'a> Beginnings<'a> {

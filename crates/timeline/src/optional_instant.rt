@@ -18,14 +18,14 @@ pub struct OptionalInstant {
 
 impl Model for OptionalInstant {
     ghost use Rattle.std.specs.Prelude.{ℤ, Option};
-    ghost use Rattle.timeline.specs.OptionalInstants.{instant_held, number_of};
+    ghost use Rattle.timeline.specs.OptionalInstants.{instant_held, number_for};
     ghost use Rattle.std.proofs.Common.{arith};
 
     ghost Value = { Option ℤ };
 
     ghost view = { λ a. instant_held a.nanos };
 
-    ghost inverse = { λ instant. record { nanos = number_of instant } };
+    ghost inverse = { λ instant. record { nanos = number_for instant } };
 
     ghost inverse_ok = { λ a h. Prim.grind (arith) };
 }

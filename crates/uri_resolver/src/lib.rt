@@ -93,7 +93,7 @@ fn directory_of(url: &Url) -> Option<String>
     }
 }
 
-fn joined(alloc: Global, front: &str, reference: &str) -> Result<String, AllocError>
+fn join_texts(alloc: Global, front: &str, reference: &str) -> Result<String, AllocError>
     ensures { IfOk result (λ text. string_bytes text ≡ front.now ++ reference.now) }
 {
     let room = front.len().saturating_add(reference.len());
@@ -146,7 +146,7 @@ impl Base {
 
     // What stands before this reference, if it is plain.
     #[inline(always)]
-    fn front_of(&self, reference: &str) -> Option<&str>
+    fn base_front(&self, reference: &str) -> Option<&str>
         ensures { IfSome (option_copied result)
             (λ front. resolved self.now reference.now ≡ Some (front ++ reference.now)) }
     {
@@ -193,8 +193,8 @@ impl Base {
             (λ text. resolved self.now reference.now ≡ Some (string_bytes text))
             (λ e. RefusesUri e (resolved self.now reference.now)) }
     {
-        if let Some(front) = self.front_of(reference) {
-            return Ok(joined(self.alloc, front, reference)?);
+        if let Some(front) = self.base_front(reference) {
+            return Ok(join_texts(self.alloc, front, reference)?);
         }
         self.resolve_other(reference)
     }
@@ -206,8 +206,8 @@ impl Base {
         ensures { MatchResult result (λ text. resolved self.now reference.now ≡ Some text)
             (λ e. RefusesUri e (resolved self.now reference.now)) }
     {
-        if let Some(front) = self.front_of(reference) {
-            return Ok(ShortText::joined(self.alloc, front, reference)?);
+        if let Some(front) = self.base_front(reference) {
+            return Ok(ShortText::join(self.alloc, front, reference)?);
         }
         Ok(ShortText::from_string(self.resolve_other(reference)?))
     }

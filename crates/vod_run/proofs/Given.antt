@@ -8,21 +8,21 @@ use Rattle.playlist_model.specs.LookBack.{or_earlier}
 use Rattle.playlist_model.specs.Uri.{base_of}
 use Rattle.byte_streams.specs.Stands.{SourceStand, GaveAll}
 use Rattle.playlist_model.specs.Reading.{reading, limited}
-use Rattle.stitcher.specs.Stitched.{fits}
+use Rattle.stitcher.specs.Stitched.{can_be_numbered}
 use Rattle.pod_store.specs.declared.Decisions.{Decisions}
 use Rattle.pod_store.specs.declared.fault.DecisionFault.{DecisionFault}
 use Rattle.pod_store.specs.declared.fault.DecisionKind.{DecisionKind}
 use Rattle.pod_store.specs.declared.fault.DecisionKind.TheVariants.{OutOfMemory as NoRoom}
 use Rattle.decision_files.specs.Decided.{decisions_of}
 use Rattle.spec_words.specs.Outcomes.{◌>>=◌}
-use Rattle.pod_store.specs.Outcome.{Outcome}
+use Rattle.pod_store.specs.Outcome.{DecisionOutcome}
 use Rattle.pod_store.specs.Store.{Store, nothing_decided}
 use Rattle.pod_store.specs.Store.{decided as after_decisions}
 use Rattle.channel_spec.specs.declared.fault.RefreshFault.{RefreshFault}
 use Rattle.channel_spec.specs.declared.fault.RefreshFault.TheVariants.{Playlist as Unreadable, NumberRange as PassesRange, OutOfMemory as NoMemory}
 use Rattle.channel_spec.specs.Kept.{Kept}
 use Rattle.channel_spec.specs.Live as live
-use Rattle.channel_spec.specs.Live.{Told, refusal, number_range_fault, succession_fault, last_playlist, list_of, after_refresh, window_after}
+use Rattle.channel_spec.specs.Live.{Told, refusal, number_range_fault, succession_fault, last_playlist, whole_stitched_list, after_refresh, window_after}
 use Rattle.channel_spec.specs.Successor.{fault_if}
 use Rattle.channel_spec.specs.Limits.{default_tolerance}
 use Rattle.live_channel.specs.declared.channel.Refreshed.{Refreshed}
@@ -33,16 +33,16 @@ use Rattle.vod_run.specs.Events.{first_decided, events_of, fault_by, fault_of_de
 use Rattle.vod_run.specs.Inner.Events.{RefusesDecisions}
 use Rattle.vod_run.specs.Given.{given_by, fault_of_refresh}
 use Rattle.vod_run.specs.Vod.{IsInOrder}
-use Rattle.vod_run.specs.Inner.Given.{IsDecided, IsOfBeginning, IsRefreshed, RefusesRefresh, RefreshesFrom, RefusesInput, RefusesFrom}
+use Rattle.vod_run.specs.Inner.Given.{IsGivenFile, IsOfBeginning, IsRefreshed, RefusesRefresh, RefreshesFrom, RefusesInput, RefusesFrom}
 
 -- ---- the decision file
 
-tells : (o : Outcome Decisions) (store : Store) → (o >>= after_decisions nothing_decided) ≡ Ok store → (o >>= first_decided) ≡ Ok (decisions_in o ++ [])
-tells (Ok ds) store h = ap (λ (s : Outcome Store). s >>= λ x. Ok (live.decided ds ∷ [])) h
+tells : (o : DecisionOutcome Decisions) (store : Store) → (o >>= after_decisions nothing_decided) ≡ Ok store → (o >>= first_decided) ≡ Ok (decisions_in o ++ [])
+tells (Ok ds) store h = ap (λ (s : DecisionOutcome Store). s >>= λ x. Ok (live.decided ds ∷ [])) h
 tells (Err e) store h = absurd (cc)
 
-tells_no : (o : Outcome Decisions) (e : DecisionFault) → (o >>= after_decisions nothing_decided) ≡ Err e → (o >>= first_decided) ≡ Err e
-tells_no (Ok ds) e h = ap (λ (s : Outcome Store). s >>= λ x. Ok (live.decided ds ∷ [])) h
+tells_no : (o : DecisionOutcome Decisions) (e : DecisionFault) → (o >>= after_decisions nothing_decided) ≡ Err e → (o >>= first_decided) ≡ Err e
+tells_no (Ok ds) e h = ap (λ (s : DecisionOutcome Store). s >>= λ x. Ok (live.decided ds ∷ [])) h
 tells_no (Err f) e h = let same : f ≡ e = cc in ap Err same
 
 module _ (bytes : List ℕ) (old new : Channel) (s : Represents old []) where
@@ -51,7 +51,7 @@ module _ (bytes : List ℕ) (old new : Channel) (s : Represents old []) where
 
   pub has_decided : (base : List ℕ) → base_of base ≡ Some old.base → old.tolerance ≡ default_tolerance
       → (after_bytes old.kept.store bytes ≡ Ok new.kept.store) × (new ≡ with_store old new.kept.store)
-      → ((given : List Given) → Represents old given → Represents new (decided bytes ∷ given)) → IsDecided base (Some bytes) new
+      → ((given : List Given) → Represents old given → Represents new (decided bytes ∷ given)) → IsGivenFile base (Some bytes) new
   has_decided base b t h on = record {
     base = b ∙ ap (λ (c : Channel). Some c.base) (sym h.1);
     tolerance = ap (λ (c : Channel). c.tolerance) h.1 ∙ t;
@@ -67,7 +67,7 @@ module _ (bytes : List ℕ) (old new : Channel) (s : Represents old []) where
       by _ is = tells_no (decisions_of bytes) e (sym from_none ∙ h.1 (λ same. let k = ap (λ (d : DecisionFault). d.kind) same in absurd (cc)))
 
 -- its faults come after those of the base
-pub in_decisions : {A : Type 0} (e : VodFault) (o : Outcome A) → RefusesDecisions e o → IsOfBeginning e
+pub in_decisions : {A : Type 0} (e : VodFault) (o : DecisionOutcome A) → RefusesDecisions e o → IsOfBeginning e
 in_decisions BadBase o h = tt
 in_decisions (Decision fault) o h = tt
 in_decisions OutOfMemory o h = tt
@@ -124,7 +124,7 @@ module _ (c : Channel) (bytes : List ℕ) (given : List Given) where
       where
         by : (r : Reading) → reading limited c.base bytes ≡ r → Err f ≡ answer_read c.tolerance before r → RefusesRefresh (fault_of_refresh f) c bytes given
         by (Err fault) is a = let same : Unreadable fault ≡ f = cc in subst (λ x. RefusesRefresh (fault_of_refresh x) c bytes given) same is
-        by (Ok p) is a = judged_so p (answer_to p) f (not (list_all fits (list_of (after_refresh c.tolerance before p)))) is (number_range_alone p) (a ∙ ap (λ o. judged o (answer_to p)) (number_range_alone p))
+        by (Ok p) is a = judged_so p (answer_to p) f (not (list_all can_be_numbered (whole_stitched_list (after_refresh c.tolerance before p)))) is (number_range_alone p) (a ∙ ap (λ o. judged o (answer_to p)) (number_range_alone p))
 
     pub refuses_refresh : (f : RefreshFault) (new : Channel) → AnswersRefresh c bytes given (Err f) new → RefusesRefresh (fault_of_refresh f) c bytes given
     refuses_refresh NoMemory new h = tt

@@ -18,7 +18,7 @@ use Rattle.channel_spec.specs.Limits.{default_tolerance}
 use Rattle.vod_run.specs.declared.fault.VodFault.{VodFault}
 use Rattle.vod_run.specs.declared.fault.VodFault.TheVariants.{BadBase, Decision, Playlist as PlaylistOf, NumberRange, Read, TooManyReads, Write, OutOfMemory}
 use Rattle.vod_run.specs.Given.{given_by, IsGivenAll}
-use Rattle.vod_run.specs.Inner.Given.{IsDecided, IsRefreshed, PassesItsRange, RefreshesFrom, RefusesInput, RefusesFrom}
+use Rattle.vod_run.specs.Inner.Given.{IsGivenFile, IsRefreshed, PassesItsRange, RefreshesFrom, RefusesInput, RefusesFrom}
 use Rattle.vod_run.specs.Events.{events_of}
 use Rattle.byte_streams.specs.Fair.{IsFairToSource, IsFairToSink}
 use Rattle.vod_run.specs.Runs.{IfAtEnd, OnEnd}
@@ -34,7 +34,7 @@ owed_so t p (Some text) last (q, (is, same, means)) =
       λ other. subst (λ x. Denotes other (owed_text t x) (owed_for t x)) one (subst (λ x. Denotes other x (owed_for t q)) same (means other)),
     )
 
-module _ (base : List ℕ) (file : Option (List ℕ)) (c : Channel) (d : IsDecided base file c) where
+module _ (base : List ℕ) (file : Option (List ℕ)) (c : Channel) (d : IsGivenFile base file c) where
   abbrev events : List Event
   events = channel.events_of c.base (given_by file)
 

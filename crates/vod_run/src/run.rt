@@ -7,7 +7,7 @@ ghost use Rattle.channel_spec.specs.declared.fault.RefreshFault.TheVariants.{Num
 ghost use Rattle.pod_store.specs.declared.fault.DecisionFault.{DecisionFault};
 ghost use Rattle.vod_run.specs.Events.{events_of};
 ghost use Rattle.vod_run.specs.Given.{IsGivenAll};
-ghost use Rattle.vod_run.specs.Inner.Given.{IsDecided, IsOfBeginning, RefreshesFrom, RefusesFrom};
+ghost use Rattle.vod_run.specs.Inner.Given.{IsGivenFile, IsOfBeginning, RefreshesFrom, RefusesFrom};
 ghost use Rattle.vod_run.specs.Vod.{IsInOrder, IsOfVod, HasJudged, HasRead, Writes, WritesFront};
 ghost use Rattle.byte_streams.specs.Stands.{TookAll, FailedAfterFront};
 ghost use Rattle.byte_streams.specs.Fair.{IsFairToSource, IsFairToSink, GaveAtEachButLast};
@@ -29,7 +29,7 @@ fn decided_channel(
     base: &str,
     decisions: Option<&[u8]>,
 ) -> Result<Channel, VodFault>
-    ensures ok { IfOk result (IsDecided base.now (option_copied decisions.entry)) }
+    ensures ok { IfOk result (IsGivenFile base.now (option_copied decisions.entry)) }
     ensures kind { IfErr result IsOfBeginning }
     ensures order { IfErr result (λ e. IsInOrder e base.now (option_copied decisions.entry)) }
 {

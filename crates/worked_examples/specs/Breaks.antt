@@ -10,13 +10,14 @@ use Rattle.break_finder.specs.declared.why.Why.TheVariants.{Filled, NotKnown, No
 use Rattle.break_finder.specs.Signals.{signal_of, ticks_nanos}
 use Rattle.break_finder.specs.Breaks.{Break, End, at, closed, and_tag, end_of, is_before_end, is_not_past, is_near, is_signalled}
 use Rattle.break_finder.specs.Known.{Accepted, known}
-use Rattle.break_finder.specs.Entering.{EntryLimits, entered, is_inside, mark_of, why}
+use Rattle.break_finder.specs.Entering.{EntryLimits, entered, is_inside, why}
+use Rattle.pod_store.specs.Marks.{mark_in}
 use Rattle.worked_examples.specs.Pods.{long}
-use Rattle.worked_examples.specs.Tables.{Gives}
+use Rattle.worked_examples.specs.Tables.{HasValues}
 
 -- SCTE 35, 9.7.3: an uncancelled splice_insert leaves the network or returns to it; no other command signals a break
 abbrev pub SignalsAreRead : Type 0
-SignalsAreRead = Gives signal_of (
+SignalsAreRead = HasValues signal_of (
     (codes "0xFC302000000000000000FFF00F05000000017FFFFE002932E000010000000000000000", Leaves (Some 2700000))
     ∷ (codes "0xFC30280000000000030412301405480000017F6FFF000000057E00015F90010203040002AABBCC01020304", Returns (Some 90000))
     ∷ (codes "0xFC302400000000000000FFF01305000000027F8F0207FE00000009087F00000000000000000000", Leaves None)
@@ -30,7 +31,7 @@ SignalsAreRead = Gives signal_of (
 
 -- 9.8.2: ticks of 90 kHz
 abbrev pub TicksAreCounted : Type 0
-TicksAreCounted = Gives ticks_nanos ((0, 0) ∷ (1, 11111) ∷ (90000, 1000000000) ∷ (2700000, 30000000000) ∷ (8589934591, 95443717677777) ∷ [])
+TicksAreCounted = HasValues ticks_nanos ((0, 0) ∷ (1, 11111) ∷ (90000, 1000000000) ∷ (2700000, 30000000000) ∷ (8589934591, 95443717677777) ∷ [])
 
 abbrev pub nothing_said : Described
 nothing_said = record { start = None; end = None; duration = None; planned_duration = None; scte35_out = None; scte35_in = None }
@@ -43,7 +44,7 @@ later_tag = record { id = codes "b"; start = Some (pos 11); end = Some (pos 12);
 
 -- RFC 8216, 4.3.2.7: tags of one ID are of one date range, whose attributes say the same; the first value of each one stands
 abbrev pub FirstValuesStand : Type 0
-FirstValuesStand = Gives (λ said. and_tag said later_tag) (
+FirstValuesStand = HasValues (λ said. and_tag said later_tag) (
     (said_first, said_first)
     ∷ (nothing_said, record { start = Some (pos 11); end = Some (pos 12); duration = Some 13; planned_duration = Some 14; scte35_out = Some Nothing; scte35_in = Some (Returns None) })
     ∷ (record said_first { scte35_in = Some (Leaves None) }, record said_first { scte35_in = Some (Leaves None) })
@@ -58,7 +59,7 @@ starting = record nothing_said { start = Some (pos 100); scte35_out = Some (Leav
 -- docs/CONFORMANCE.md: the first that is known of END-DATE, START-DATE with DURATION, a valid SCTE35-IN, START-DATE with
 -- PLANNED-DURATION, with the section's duration, and with that of the pod, here 50 ns
 abbrev pub BreaksEnd : Type 0
-BreaksEnd = Gives ends (
+BreaksEnd = HasValues ends (
     (starting, Some (at (pos 150)))
     ∷ (record starting { scte35_out = Some (Leaves (Some 90000)) }, Some (at (pos 1000000100)))
     ∷ (record starting { scte35_out = Some (Leaves (Some 90000)); planned_duration = Some 30 }, Some (at (pos 130)))
@@ -82,7 +83,7 @@ BreaksEnd = Gives ends (
 
 -- a break is signalled if it has a start and an SCTE35-OUT that leaves the network
 abbrev pub BreaksAreSignalled : Type 0
-BreaksAreSignalled = Gives is_signalled (
+BreaksAreSignalled = HasValues is_signalled (
     (starting, true)
     ∷ (record starting { start = None }, false)
     ∷ (record starting { scte35_out = None }, false)
@@ -91,16 +92,16 @@ BreaksAreSignalled = Gives is_signalled (
 
 -- the tolerance at a start, here 10 ns: on both sides, and as far as it goes
 abbrev pub StartsAreNear : Type 0
-StartsAreNear = Gives (λ instant. is_near instant 10 (Some (pos 100))) (
+StartsAreNear = HasValues (λ instant. is_near instant 10 (Some (pos 100))) (
     (pos 89, false) ∷ (pos 90, true) ∷ (pos 100, true) ∷ (pos 110, true) ∷ (pos 111, false) ∷ [])
 
 -- nothing is near a start that isn't stated
 abbrev pub StartsAreStated : Type 0
-StartsAreStated = Gives (is_near (pos 0) 10) ((Some (pos 0), true) ∷ (None, false) ∷ [])
+StartsAreStated = HasValues (is_near (pos 0) 10) ((Some (pos 0), true) ∷ (None, false) ∷ [])
 
 -- and at an end: a segment that begins less than the tolerance before it is past it
 abbrev pub EndsAreNear : Type 0
-EndsAreNear = Gives (λ instant. is_before_end instant 10 (Some (at (pos 100)))) ((pos 89, true) ∷ (pos 90, false) ∷ (pos 100, false) ∷ [])
+EndsAreNear = HasValues (λ instant. is_before_end instant 10 (Some (at (pos 100)))) ((pos 89, true) ∷ (pos 90, false) ∷ (pos 100, false) ∷ [])
 
 -- at 89, with a tolerance of 10: whether a segment is inside, and whether it can enter
 abbrev pub before_end_and_not_past : Option End → Bool × Bool
@@ -108,7 +109,7 @@ before_end_and_not_past end = (is_before_end (pos 89) 10 end, is_not_past (pos 8
 
 -- no segment is inside a break that is closed, or has no end; but such a break can be entered
 abbrev pub ClosedBreaksCanBeEntered : Type 0
-ClosedBreaksCanBeEntered = Gives before_end_and_not_past (
+ClosedBreaksCanBeEntered = HasValues before_end_and_not_past (
     (Some closed, (false, true)) ∷ (None, (false, true)) ∷ (Some (at (pos 100)), (true, true)) ∷ (Some (at (pos 99)), (false, false)) ∷ [])
 
 abbrev pub tag : List ℕ → DateRange
@@ -145,7 +146,7 @@ four_refreshes =
 -- an ID is known while its tag stands in each refresh, or its break marks the newest segment; the first tag counts. A break
 -- that has gone and comes back is a new one. The newest refresh stands first
 abbrev pub BreaksAreKnown : Type 0
-BreaksAreKnown = Gives known_briefly (
+BreaksAreKnown = HasValues known_briefly (
     ([], [])
     ∷ (accepted (tag (codes "a") ∷ lasting 5 (tag (codes "b")) ∷ lasting 6 (tag (codes "b")) ∷ []) None ∷ [], (codes "a", None) ∷ (codes "b", Some 5) ∷ [])
     ∷ (accepted (tag (codes "b") ∷ tag (codes "a") ∷ []) None ∷ accepted (tag (codes "a") ∷ []) None ∷ [], (codes "a", None) ∷ (codes "b", None) ∷ [])
@@ -197,7 +198,7 @@ enters it = entered it.0 it.1 it.2 it.3
 -- docs/CONFORMANCE.md: a segment enters the first known break that is signalled, has a pod that fits, isn't past, isn't the one
 -- that was entered last, and near whose start it begins
 abbrev pub BreaksAreEntered : Type 0
-BreaksAreEntered = Gives enters (
+BreaksAreEntered = HasValues enters (
     ((limits 8 false None, decided_b, break starting ∷ [], Some (pos 110)), Some (codes "b"))
     ∷ ((limits 8 false (Some (codes "a")), decided_b, break starting ∷ [], Some (pos 90)), Some (codes "b"))
     ∷ ((limits 8 false (Some (codes "b")), decided_b, break starting ∷ [], Some (pos 100)), None)
@@ -218,12 +219,12 @@ BreaksAreEntered = Gives enters (
 
 -- the mark of a break with a long ID
 abbrev pub MarksAreMade : Type 0
-MarksAreMade = Gives (mark_of decided_long) (
+MarksAreMade = HasValues (mark_in decided_long) (
     (None, None) ∷ (Some (long 98), Some (record { id = long 98; pod = pod })) ∷ (Some (long 99), None) ∷ [])
 
 -- a segment at 100 is inside the break of an ID, if its end allows it
 abbrev pub BreaksGoOn : Type 0
-BreaksGoOn = Gives (λ (breaks : List Break). is_inside breaks (codes "b") (Some (pos 100)) 10 pod) (
+BreaksGoOn = HasValues (λ (breaks : List Break). is_inside breaks (codes "b") (Some (pos 100)) 10 pod) (
     (break starting ∷ [], true)
     ∷ (break (record starting { duration = Some 10 }) ∷ [], false)
     ∷ (break (record starting { duration = Some 11 }) ∷ [], true)
@@ -232,7 +233,7 @@ BreaksGoOn = Gives (λ (breaks : List Break). is_inside breaks (codes "b") (Some
 
 -- the same of other breaks, and of a segment without an instant
 abbrev pub BreaksOfOthersGoOn : Type 0
-BreaksOfOthersGoOn = Gives (λ (it : List ℕ × Option ℤ). is_inside five_breaks it.0 it.1 10 pod) (
+BreaksOfOthersGoOn = HasValues (λ (it : List ℕ × Option ℤ). is_inside five_breaks it.0 it.1 10 pod) (
     ((long 98, Some (pos 100)), true)
     ∷ ((codes "d", Some (pos 100)), true)
     ∷ ((long 100, Some (pos 100)), false)
@@ -246,7 +247,7 @@ reason it = why it.0 (codes "b") it.1 it.2 it.3 it.4
 
 -- docs/OPERATING.md: the first word that holds of Filled, NotKnown, NoStart, NotSignalled, NotDecided, DoesNotFit, Waiting
 abbrev pub ReasonsAreTold : Type 0
-ReasonsAreTold = Gives reason (
+ReasonsAreTold = HasValues reason (
     (([], 8, false, decided_b, true), Filled)
     ∷ (([], 8, false, decided_b, false), NotKnown)
     ∷ ((break (record nothing_said { duration = Some 5 }) ∷ [], 8, false, record { entries = []; fallback = None }, false), NoStart)
@@ -260,5 +261,5 @@ ReasonsAreTold = Gives reason (
 
 -- the same of breaks with long IDs
 abbrev pub ReasonsOfOthersAreTold : Type 0
-ReasonsOfOthersAreTold = Gives (λ (id : List ℕ). why five_breaks id 8 false decided_long false) (
+ReasonsOfOthersAreTold = HasValues (λ (id : List ℕ). why five_breaks id 8 false decided_long false) (
     (long 98, Waiting) ∷ (long 99, NotDecided) ∷ (long 100, NotKnown) ∷ (codes "d", NotDecided) ∷ [])

@@ -18,9 +18,9 @@ use Rattle.channel_spec.specs.Live as live
 use Rattle.channel_spec.specs.Live.{decided, refreshed, told, refusal}
 use Rattle.channel_spec.specs.Successor.{successor_fault}
 use Rattle.channel_spec.specs.Kept.{Kept, kept_of}
-use Rattle.stitcher.specs.Paced.{Rest}
+use Rattle.stitcher.specs.Paced.{MeantRest}
 use Rattle.worked_examples.specs.Playlists.{identity, under_key_1}
-use Rattle.worked_examples.specs.Tables.{Gives}
+use Rattle.worked_examples.specs.Tables.{HasValues}
 
 -- noon on the first of May 2024, and so many seconds
 abbrev pub noon_and : ℕ → ℤ
@@ -48,7 +48,7 @@ follows it = successor_fault it.0 it.1
 
 -- RFC 8216, 6.2.1 and 6.2.2: what a client that holds the playlist before it may be given (N1 to N7 and N9), each told before the next
 abbrev pub PlaylistsFollow : Type 0
-PlaylistsFollow = Gives (λ (new : Playlist). successor_fault five new) (
+PlaylistsFollow = HasValues (λ (new : Playlist). successor_fault five new) (
     (five, None)
     ∷ (plays [] (segments 11 5), None)
     ∷ (plays [] (segments 10 6), None)
@@ -75,7 +75,7 @@ PlaylistsFollow = Gives (λ (new : Playlist). successor_fault five new) (
 
 -- an EVENT stays one, and a VOD
 abbrev pub TypesStay : Type 0
-TypesStay = Gives follows (
+TypesStay = HasValues follows (
     ((record five { playlist_type = Some Event }, record five { playlist_type = Some Event }), None)
     ∷ ((record five { playlist_type = Some Vod }, record five { playlist_type = Some Vod }), None)
     ∷ ((record five { playlist_type = Some Event }, record five { playlist_type = Some Vod }), Some TypeChanged)
@@ -91,7 +91,7 @@ stepped_14 = record (origin 14) { discontinuity_sequence = 6; discontinuities = 
 
 -- discontinuity numbers go on from the last segment's
 abbrev pub LastSegmentsCount : Type 0
-LastSegmentsCount = Gives follows (
+LastSegmentsCount = HasValues follows (
     ((five, with_14 (record (origin 14) { uri = codes "u" })), Some (Changed 14))
     ∷ ((with_14 stepped_14, with_14 stepped_14), None)
     ∷ ((plays [] (segments 10 2), plays [] (record (origin 12) { discontinuity_sequence = 4 } ∷ [])), Some (Changed 12))
@@ -105,7 +105,7 @@ with_11 s = plays [] (origin 10 ∷ s ∷ segments 12 3)
 
 -- 6.2.1: a segment stays as it is (N8), except for its title, its time and its steps
 abbrev pub SegmentsStay : Type 0
-SegmentsStay = Gives (λ (s : Segment). successor_fault five (with_11 s)) (
+SegmentsStay = HasValues (λ (s : Segment). successor_fault five (with_11 s)) (
     (origin 11, None)
     ∷ (record (origin 11) { title = codes "t" }, None)
     ∷ (record (origin 11) { program_date_time = Some (pos 1) }, None)
@@ -121,12 +121,12 @@ next_window discontinuity = plays [] (record (origin 15) { discontinuity_sequenc
 
 -- docs/CONFORMANCE.md: after a whole window has gone the discontinuity number goes up by at most 1,000 (N8)
 abbrev pub DiscontinuitiesFollow : Type 0
-DiscontinuitiesFollow = Gives (λ (n : ℕ). successor_fault five (next_window n)) (
+DiscontinuitiesFollow = HasValues (λ (n : ℕ). successor_fault five (next_window n)) (
     (5, None) ∷ (1005, None) ∷ (1006, Some (Changed 15)) ∷ (4, Some (Changed 15)) ∷ [])
 
 -- 4.3.3.4: nothing follows EXT-X-ENDLIST but the same again (N9)
 abbrev pub EndedStays : Type 0
-EndedStays = Gives (λ (new : Playlist). successor_fault (record five { end_list = true }) new) (
+EndedStays = HasValues (λ (new : Playlist). successor_fault (record five { end_list = true }) new) (
     (record five { end_list = true }, None)
     ∷ (five, Some Ended)
     ∷ (record (plays [] (segments 10 6)) { end_list = true }, Some Ended)
@@ -137,7 +137,7 @@ EndedStays = Gives (λ (new : Playlist). successor_fault (record five { end_list
 
 -- docs/OPERATING.md: 100 ms if nothing else is asked, and 10 s at the most
 abbrev pub TolerancesAreStated : Type 0
-TolerancesAreStated = Gives (λ (n : ℕ). n) ((default_tolerance, 100000000) ∷ (max_tolerance, 10000000000) ∷ [])
+TolerancesAreStated = HasValues (λ (n : ℕ). n) ((default_tolerance, 100000000) ∷ (max_tolerance, 10000000000) ∷ [])
 
 -- ---- what is owed
 
@@ -187,7 +187,7 @@ written_by it = option_map (λ (p : Playlist). map brief p.segments) (owed_by it
 -- docs/OPERATING.md: a pod goes through the window at the pace of its break; the rest of it at once if the break has ended, and
 -- a break that is played is known although its tag has gone; what was written stays, also if a decision comes later; nothing is written before a refresh
 abbrev pub BreaksAreFilled : Type 0
-BreaksAreFilled = Gives written (
+BreaksAreFilled = HasValues written (
     (decide_b ∷ [], None)
     ∷ (window (b ∷ []) 0 2 ∷ decide_b ∷ [], Some ((0 ∷ 0 ∷ 5 ∷ 0 ∷ []) ∷ (1000 ∷ 1 ∷ 6 ∷ 1 ∷ []) ∷ []))
     ∷ (window (b ∷ []) 1 2 ∷ window (b ∷ []) 0 2 ∷ decide_b ∷ [], Some ((1000 ∷ 1 ∷ 6 ∷ 1 ∷ []) ∷ (1001 ∷ 2 ∷ 6 ∷ 0 ∷ []) ∷ []))
@@ -203,7 +203,7 @@ BreaksAreFilled = Gives written (
 
 -- the break begins at 11 s, a second after segment 1: that enters it if the tolerance is a second
 abbrev pub TolerancesCount : Type 0
-TolerancesCount = Gives written_by (
+TolerancesCount = HasValues written_by (
     ((1000000000, window (tag (codes "b") 11 ∷ []) 0 3 ∷ decide (codes "b") (1000 ∷ []) ∷ []), Some ((0 ∷ 0 ∷ 5 ∷ 0 ∷ []) ∷ (1000 ∷ 1 ∷ 6 ∷ 1 ∷ []) ∷ []))
     ∷ ((999999999, window (tag (codes "b") 11 ∷ []) 0 3 ∷ decide (codes "b") (1000 ∷ []) ∷ []), Some ((0 ∷ 0 ∷ 5 ∷ 0 ∷ []) ∷ (1 ∷ 1 ∷ 5 ∷ 0 ∷ []) ∷ (2 ∷ 2 ∷ 5 ∷ 0 ∷ []) ∷ [])) ∷ [])
 
@@ -216,14 +216,14 @@ four_are_decided = decide (codes "e") (4000 ∷ []) ∷ decide (codes "d") (3000
 
 -- each is filled with its own pod; and one that begins within another isn't entered
 abbrev pub SeveralAreFilled : Type 0
-SeveralAreFilled = Gives written (
+SeveralAreFilled = HasValues written (
     (window four 0 6 ∷ four_are_decided, Some ((0 ∷ 0 ∷ 5 ∷ 0 ∷ []) ∷ (1000 ∷ 1 ∷ 6 ∷ 1 ∷ []) ∷ (2000 ∷ 2 ∷ 7 ∷ 1 ∷ []) ∷ (3000 ∷ 3 ∷ 8 ∷ 1 ∷ []) ∷ (4000 ∷ 4 ∷ 9 ∷ 1 ∷ []) ∷ (5 ∷ 5 ∷ 10 ∷ 1 ∷ []) ∷ []))
     ∷ (window (b ∷ tag (codes "c") 20 ∷ []) 0 5 ∷ decide (codes "c") (2000 ∷ []) ∷ decide_b ∷ [], Some ((0 ∷ 0 ∷ 5 ∷ 0 ∷ []) ∷ (1000 ∷ 1 ∷ 6 ∷ 1 ∷ []) ∷ (1001 ∷ 2 ∷ 6 ∷ 0 ∷ []) ∷ (1002 ∷ 3 ∷ 6 ∷ 0 ∷ []) ∷ (4 ∷ 4 ∷ 7 ∷ 1 ∷ []) ∷ [])) ∷ [])
 
 -- a refused refresh changes nothing, nor does a refused decision; a mark stands although the break's end is stated earlier later
 -- on; two breaks that follow one another; a fallback
 abbrev pub WindowsGoOn : Type 0
-WindowsGoOn = Gives written (
+WindowsGoOn = HasValues written (
     (window (b ∷ []) 5 1 ∷ window (b ∷ []) 0 2 ∷ decide_b ∷ [], Some ((0 ∷ 0 ∷ 5 ∷ 0 ∷ []) ∷ (1000 ∷ 1 ∷ 6 ∷ 1 ∷ []) ∷ []))
     ∷ (decided (Withdraw (codes "b")) ∷ window (b ∷ []) 0 2 ∷ decide_b ∷ [], Some ((0 ∷ 0 ∷ 5 ∷ 0 ∷ []) ∷ (1000 ∷ 1 ∷ 6 ∷ 1 ∷ []) ∷ []))
     ∷ (window (b ∷ []) 0 2 ∷ decided (Withdraw (codes "b")) ∷ decide_b ∷ [], Some ((0 ∷ 0 ∷ 5 ∷ 0 ∷ []) ∷ (1 ∷ 1 ∷ 5 ∷ 0 ∷ []) ∷ []))
@@ -241,7 +241,7 @@ header_owed events = option_map header_and_ids (owed events)
 -- docs/CONFORMANCE.md: the version is 6 at least (RFC 8216, 7), a date range is left out while its break is in use, and all are
 -- if no written segment states a time (4.3.2.7); each origin segment states the time at which it begins (4.3.2.6)
 abbrev pub HeadersAreOwed : Type 0
-HeadersAreOwed = Gives header_owed (
+HeadersAreOwed = HasValues header_owed (
     (window (b ∷ tag (codes "c") 90 ∷ []) 0 2 ∷ [], Some ((6, 10, false), codes "b" ∷ codes "c" ∷ [], Some (noon_and 0) ∷ Some (noon_and 10) ∷ []))
     ∷ (window (tag (codes "f") 90 ∷ four) 0 6 ∷ four_are_decided, Some ((6, 10, false), codes "f" ∷ [], Some (noon_and 0) ∷ None ∷ None ∷ None ∷ None ∷ Some (noon_and 50) ∷ []))
     ∷ (refreshed (record (plays (b ∷ []) (segments 0 1)) { version = 7; end_list = true }) ∷ [], Some ((7, 10, true), codes "b" ∷ [], Some (noon_and 0) ∷ []))
@@ -254,7 +254,7 @@ type_owed events = option_map (λ (p : Playlist). (p.playlist_type, p.independen
 
 -- the playlist's type and EXT-X-INDEPENDENT-SEGMENTS are those of the last accepted refresh (4.3.3.5, 4.3.5.1)
 abbrev pub TypesAreOwed : Type 0
-TypesAreOwed = Gives type_owed (
+TypesAreOwed = HasValues type_owed (
     (refreshed (record (plays [] (segments 0 2)) { playlist_type = Some Event; independent_segments = true }) ∷ [], Some (Some Event, true))
     ∷ (refreshed (record (plays [] (segments 0 2)) { playlist_type = Some Vod }) ∷ [], Some (Some Vod, false))
     ∷ (refreshed (record (plays [] (segments 0 2)) { independent_segments = true }) ∷ window [] 0 2 ∷ [], Some (None, true)) ∷ [])
@@ -264,7 +264,7 @@ stored events = map (λ (e : Entry). (e.id, e.used)) (told 100000000 events).sto
 
 -- a break in use keeps its pod: while a segment of it is written, and while it is the last one entered; then the pod goes
 abbrev pub PodsAreKept : Type 0
-PodsAreKept = Gives stored (
+PodsAreKept = HasValues stored (
     (decide_b ∷ [], (codes "b", false) ∷ [])
     ∷ (window (b ∷ []) 0 2 ∷ decide_b ∷ [], (codes "b", true) ∷ [])
     ∷ (decided (Withdraw (codes "b")) ∷ window (b ∷ []) 0 2 ∷ decide_b ∷ [], (codes "b", true) ∷ [])
@@ -273,7 +273,7 @@ PodsAreKept = Gives stored (
     ∷ (window (lasting 10 b ∷ lasting 10 (tag (codes "c") 20) ∷ []) 3 2 ∷ window (lasting 10 b ∷ lasting 10 (tag (codes "c") 20) ∷ []) 2 2 ∷ window (lasting 10 b ∷ lasting 10 (tag (codes "c") 20) ∷ []) 0 2 ∷ decide (codes "c") (2000 ∷ []) ∷ decide_b ∷ [], (codes "c", true) ∷ []) ∷ [])
 
 abbrev pub kept_briefly : Kept → Option (List ℕ) × List ℕ × ℕ × Option ℕ × ℕ
-kept_briefly kept = (kept.entered, kept.numbers.media_sequence ∷ kept.numbers.discontinuity_sequence ∷ kept.numbers.discontinuities ∷ [], kept.so_far, option_map (λ (rest : Rest). rest.place) kept.rest, length kept.shown)
+kept_briefly kept = (kept.entered, kept.numbers.media_sequence ∷ kept.numbers.discontinuity_sequence ∷ kept.numbers.discontinuities ∷ [], kept.so_far, option_map (λ (rest : MeantRest). rest.place) kept.rest, length kept.shown)
 
 -- the last break entered, the numbers of the window's first item, how long the newest run has lasted, the place in the pod that the
 -- window starts with, and how many segments are shown
@@ -282,7 +282,7 @@ kept events = kept_briefly (kept_of (told 100000000 events))
 
 -- docs/ARCHITECTURE.md, "What a channel keeps": of a run's length at most a nanosecond more than its pod counts
 abbrev pub StatesAreKept : Type 0
-StatesAreKept = Gives kept (
+StatesAreKept = HasValues kept (
     ([], (None, 0 ∷ 0 ∷ 0 ∷ [], 0, None, 0))
     ∷ (window (b ∷ []) 0 2 ∷ decide_b ∷ [], (Some (codes "b"), 0 ∷ 5 ∷ 0 ∷ [], 10000000000, None, 2))
     ∷ (window (b ∷ []) 1 2 ∷ window (b ∷ []) 0 2 ∷ decide_b ∷ [], (Some (codes "b"), 1 ∷ 6 ∷ 1 ∷ [], 20000000000, None, 2))
@@ -291,7 +291,7 @@ StatesAreKept = Gives kept (
 
 -- docs/OPERATING.md, "Faults"
 abbrev pub RefreshFaultsAreTold : Type 0
-RefreshFaultsAreTold = Gives refresh_fault_text (
+RefreshFaultsAreTold = HasValues refresh_fault_text (
     (fault.Playlist (record { kind = NoDuration; line = 12 }), codes "P17 NoDuration line 12")
     ∷ (VersionChanged, codes "N1 VersionChanged")
     ∷ (TargetChanged, codes "N2 TargetChanged")
@@ -317,7 +317,7 @@ last_two = plays (lasting 10 b ∷ []) (record (origin 18446744073709551613) { p
 
 -- a refresh that may not follow is refused for that first; the newest segment has number 2^64 - 1, and a pod of two stands before it (N10)
 abbrev pub LastNumbersAreRefused : Type 0
-LastNumbersAreRefused = Gives refused (
+LastNumbersAreRefused = HasValues refused (
     (([], plays [] (segments 18446744073709551615 1)), None)
     ∷ ((decide (codes "b") (1000 ∷ 1001 ∷ []) ∷ [], plays (lasting 10 b ∷ []) (record (origin 18446744073709551614) { program_date_time = Some (noon_and 10) } ∷ origin 18446744073709551615 ∷ [])), Some NumberRange)
     ∷ ((decide (codes "b") (1000 ∷ []) ∷ [], plays (lasting 10 b ∷ []) (record (origin 18446744073709551614) { program_date_time = Some (noon_and 10) } ∷ origin 18446744073709551615 ∷ [])), None)

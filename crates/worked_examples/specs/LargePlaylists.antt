@@ -6,7 +6,7 @@ use Rattle.playlist_model.specs.declared.Playlist.{Playlist}
 use Rattle.playlist_model.specs.Reading.{limited, unlimited}
 use Rattle.worked_examples.specs.Pods.{long}
 use Rattle.worked_examples.specs.Playlists.{of_format, read_by}
-use Rattle.worked_examples.specs.Tables.{Gives}
+use Rattle.worked_examples.specs.Tables.{HasValues}
 
 -- keys of five formats, sorted
 abbrev pub large_keys : List Key
@@ -87,8 +87,8 @@ large = record {
 
 -- RFC 8216, 4.3.2: tags apply to the next segment, whatever lines stand between; of an EXTINF that stands twice the last counts
 abbrev pub LargePlaylistsAreRead : Type 0
-LargePlaylistsAreRead = Gives (read_by limited) ((lines, Some (Ok large)) ∷ [])
+LargePlaylistsAreRead = HasValues (read_by limited) ((lines, Some (Ok large)) ∷ [])
 
 -- the same without limits
 abbrev pub LargePlaylistsAreDenoted : Type 0
-LargePlaylistsAreDenoted = Gives (read_by unlimited) ((lines, Some (Ok large)) ∷ [])
+LargePlaylistsAreDenoted = HasValues (read_by unlimited) ((lines, Some (Ok large)) ∷ [])

@@ -5,22 +5,22 @@ use Rattle.playlist_model.specs.declared.FaultKind.TheVariants.{BadVersion, Vers
 use Rattle.playlist_model.specs.declared.PlaylistKind.TheVariants.{Event, Vod}
 use Rattle.playlist_model.specs.declared.Key.{Key}
 use Rattle.playlist_model.specs.Lines.{ignored, uri, tag, kind_of, placed_lines}
-use Rattle.playlist_model.specs.Uri.{base_of, can_be_written, has_scheme, joined, resolved}
+use Rattle.playlist_model.specs.Uri.{base_of, can_be_written, has_scheme, text_of_join, resolved}
 use Rattle.playlist_model.specs.Said.{Name, version_tag, target_tag, sequence_tag, discontinuity_sequence_tag, type_tag, ended_tag, independent_tag, frames_tag, master_tag, duration_tag, byte_range_tag, discontinuity_tag, key_tag, init_section_tag, time_tag, date_range_tag, unknown_tag, duration, no_keys, key, init_section, date_range, version_of, playlist_type_of, duration_said, byte_range_of, key_said, init_section_said, date_range_said}
 use Rattle.playlist_model.specs.Reading.{name_of, limited}
 use Rattle.worked_examples.specs.Pods.{long}
-use Rattle.worked_examples.specs.Tables.{Gives}
+use Rattle.worked_examples.specs.Tables.{HasValues}
 
 -- RFC 8216, 4.1: a line ends with LF or CR LF; a CR that no LF follows is part of its line. Each line stands with its place
 abbrev pub LinesArePlaced : Type 0
-LinesArePlaced = Gives placed_lines (
+LinesArePlaced = HasValues placed_lines (
     ([], [])
     ∷ (codes "#EXTM3U" ++ (13 ∷ 10 ∷ codes "a b" ++ (10 ∷ 10 ∷ codes "c" ++ (13 ∷ []))), (0, codes "#EXTM3U") ∷ (9, codes "a b") ∷ (13, []) ∷ (14, codes "c" ++ (13 ∷ [])) ∷ [])
     ∷ (codes "a" ++ (13 ∷ codes "b" ++ (10 ∷ [])), (0, codes "a" ++ (13 ∷ codes "b")) ∷ []) ∷ [])
 
 -- RFC 8216, 4.1: a line is a URI, is blank, or begins with `#`; a tag begins with `#EXT`, in that case
 abbrev pub LinesHaveTheirKinds : Type 0
-LinesHaveTheirKinds = Gives kind_of (
+LinesHaveTheirKinds = HasValues kind_of (
     ([], ignored)
     ∷ (codes "  ", ignored)
     ∷ (codes "# EXTINF", ignored)
@@ -38,7 +38,7 @@ named line = name_of line.0 line.1
 
 -- 4.3: the tags; one that has no value takes no `:`
 abbrev pub TagsHaveTheirNames : Type 0
-TagsHaveTheirNames = Gives named (
+TagsHaveTheirNames = HasValues named (
     ((codes "EXTINF", true), duration_tag)
     ∷ ((codes "EXT-X-BYTERANGE", true), byte_range_tag)
     ∷ ((codes "EXT-X-DISCONTINUITY", false), discontinuity_tag)
@@ -67,12 +67,12 @@ TagsHaveTheirNames = Gives named (
 
 -- RFC 3986, 3.1: scheme = ALPHA *( ALPHA / DIGIT / "+" / "-" / "." )
 abbrev pub SchemesAreSeen : Type 0
-SchemesAreSeen = Gives has_scheme (
+SchemesAreSeen = HasValues has_scheme (
     (codes "http://h/a", true) ∷ (codes "a+b-c.9:", true) ∷ (codes "a.ts", false) ∷ (codes "1http:", false) ∷ (codes "a/b:c", false) ∷ ([], false) ∷ (codes "a;b", false) ∷ (codes "a*b:", false) ∷ (codes "a,b:", false) ∷ (long 98 ++ codes ":a", true) ∷ [])
 
 -- what is joined may be written on a line and between quotes if it has a scheme, no control character and no quote
 abbrev pub JoinsCanBeWritten : Type 0
-JoinsCanBeWritten = Gives can_be_written (
+JoinsCanBeWritten = HasValues can_be_written (
     (codes "http://h/a", true)
     ∷ (codes "h/a", false)
     ∷ (codes "http://h/\"", false)
@@ -83,21 +83,21 @@ JoinsCanBeWritten = Gives can_be_written (
 
 -- 4.3.1.2, where versions 1 to 7 are described (7)
 abbrev pub VersionsAreRead : Type 0
-VersionsAreRead = Gives version_of (
+VersionsAreRead = HasValues version_of (
     (codes "1", Ok 1) ∷ (codes "7", Ok 7) ∷ (codes "0", Err Version) ∷ (codes "8", Err Version) ∷ (codes "x", Err BadVersion) ∷ [])
 
 -- 4.3.3.5
 abbrev pub TypesAreRead : Type 0
-TypesAreRead = Gives playlist_type_of ((codes "EVENT", Ok Event) ∷ (codes "VOD", Ok Vod) ∷ (codes "LIVE", Err BadValue) ∷ (codes "vod", Err BadValue) ∷ [])
+TypesAreRead = HasValues playlist_type_of ((codes "EVENT", Ok Event) ∷ (codes "VOD", Ok Vod) ∷ (codes "LIVE", Err BadValue) ∷ (codes "vod", Err BadValue) ∷ [])
 
 -- 4.3.2.1: <duration>,[<title>]
 abbrev pub SegmentDurationsAreRead : Type 0
-SegmentDurationsAreRead = Gives duration_said (
+SegmentDurationsAreRead = HasValues duration_said (
     (codes "9.5,one, two", Ok (duration 9500000000 (codes "one, two"))) ∷ (codes "10", Ok (duration 10000000000 [])) ∷ (codes "x,", Err BadDuration) ∷ [])
 
 -- 4.3.2.2: <n>[@<o>], whose end has 64 bits
 abbrev pub ByteRangesAreRead : Type 0
-ByteRangesAreRead = Gives byte_range_of (
+ByteRangesAreRead = HasValues byte_range_of (
     (codes "100@5", Ok (100, Some 5))
     ∷ (codes "100", Ok (100, None))
     ∷ (codes "00000000000000000025@00000000000000000001", Ok (25, Some 1))
@@ -113,7 +113,7 @@ based {A} say = option_map say (base_of (codes "http://origin.example/ch/index.m
 
 -- 4.1 and RFC 3986, 5: a reference is taken as it is if it has a scheme, else joined to the base
 abbrev pub ReferencesAreResolved : Type 0
-ReferencesAreResolved = Gives (λ reference. based (λ base. resolved base reference)) (
+ReferencesAreResolved = HasValues (λ reference. based (λ base. resolved base reference)) (
     (codes "s0.ts", Some (Some (codes "http://origin.example/ch/s0.ts")))
     ∷ (codes "/s0.ts?a=b", Some (Some (codes "http://origin.example/s0.ts?a=b")))
     ∷ (codes "//cdn.example/s0.ts", Some (Some (codes "http://cdn.example/s0.ts")))
@@ -127,12 +127,12 @@ ReferencesAreResolved = Gives (λ reference. based (λ base. resolved base refer
 
 -- the base with another path
 abbrev pub PathsAreJoined : Type 0
-PathsAreJoined = Gives (λ (path : List ℕ). based (λ base. joined (Ok (record base { path = path })))) (
+PathsAreJoined = HasValues (λ (path : List ℕ). based (λ base. text_of_join (Ok (record base { path = path })))) (
     (codes "/a", Some (Some (codes "http://origin.example/a"))) ∷ (codes "/\"", Some None) ∷ [])
 
 -- a base is an absolute http or https URL
 abbrev pub BasesAreWebUrls : Type 0
-BasesAreWebUrls = Gives (λ text. option_map (λ (parts : Parts). parts.scheme) (base_of text)) (
+BasesAreWebUrls = HasValues (λ text. option_map (λ (parts : Parts). parts.scheme) (base_of text)) (
     (codes "http://h/", Some (codes "http"))
     ∷ (codes "https://h/a", Some (codes "https"))
     ∷ (codes "http://h/" ++ replicate 300 97, Some (codes "http"))
@@ -145,7 +145,7 @@ aes format resource iv others = record { format = format; method = codes "AES-12
 -- 4.3.2.4: METHOD and, except for NONE, URI are required; KEYFORMAT is `identity` if it isn't stated. The first fault of METHOD,
 -- URI, IV and KEYFORMAT is told, and then that the URI can't be resolved
 abbrev pub KeysAreRead : Type 0
-KeysAreRead = Gives (λ text. based (λ base. key_said limited base text)) (
+KeysAreRead = HasValues (λ text. based (λ base. key_said limited base text)) (
     (codes "METHOD=NONE", Some (Ok no_keys))
     ∷ (codes "METHOD=NONE,URI=a", Some (Ok no_keys))
     ∷ (codes "METHOD=NONE,IV=5", Some (Ok no_keys))
@@ -171,7 +171,7 @@ KeysAreRead = Gives (λ text. based (λ base. key_said limited base text)) (
 -- 4.3.2.5: URI is required; a BYTERANGE without an offset begins at 0. A fault of BYTERANGE is told before that the URI can't be
 -- resolved
 abbrev pub InitSectionsAreRead : Type 0
-InitSectionsAreRead = Gives (λ text. based (λ base. init_section_said limited base text)) (
+InitSectionsAreRead = HasValues (λ text. based (λ base. init_section_said limited base text)) (
     (codes "URI=\"a:i\"", Some (Ok (init_section (codes "a:i") None)))
     ∷ (codes "URI=\"i\"", Some (Ok (init_section (codes "http://origin.example/ch/i") None)))
     ∷ (codes "URI=\"a:i\",BYTERANGE=\"100@5\"", Some (Ok (init_section (codes "a:i") (Some (record { length = 100; offset = 5 })))))
@@ -190,7 +190,7 @@ InitSectionsAreRead = Gives (λ text. based (λ base. init_section_said limited 
 -- 4.3.2.7 and 4.3.2.7.1: each field is that of its own attribute, quoted or not, and SCTE35-CMD is none of them. Faults are told in
 -- the order ID, START-DATE, END-DATE, DURATION, PLANNED-DURATION
 abbrev pub DateRangesAreRead : Type 0
-DateRangesAreRead = Gives (date_range_said limited) ((
+DateRangesAreRead = HasValues (date_range_said limited) ((
   codes "ID=\"b\",START-DATE=\"2024-05-01T12:00:00Z\",END-DATE=\"2024-05-01T12:00:10Z\",DURATION=20,PLANNED-DURATION=30,SCTE35-OUT=0xA,SCTE35-IN=0xB,SCTE35-CMD=0xC",
   Ok (date_range (record {
     id = codes "b";

@@ -6,14 +6,14 @@ use Rattle.playlist_model.specs.declared.DateRange.{DateRange}
 use Rattle.pod_store.specs.Marks.{Marked}
 use Rattle.break_finder.specs.Breaks.{Break}
 use Rattle.stitcher.specs.Stitched.{Item}
-use Rattle.stitcher.specs.Paced.{Rest}
-use Rattle.channel_spec.specs.Live.{Event, refreshed, told, last_playlist, in_use, list_of, date_range_text}
+use Rattle.stitcher.specs.Paced.{MeantRest}
+use Rattle.channel_spec.specs.Live.{Event, refreshed, told, last_playlist, in_use, whole_stitched_list, date_range_text}
 use Rattle.channel_spec.specs.Kept.{Kept, kept_of, window_by}
 use Rattle.channel_spec.specs.LastWindow.{last_items}
 use Rattle.channel_spec.specs.OwedLaws.{is_played}
 use Rattle.worked_examples.specs.Pods.{long}
 use Rattle.worked_examples.specs.Channels.{noon_and, tag, lasting, decide, plays, owed, written, stored}
-use Rattle.worked_examples.specs.Tables.{Gives}
+use Rattle.worked_examples.specs.Tables.{HasValues}
 
 -- ---- the events
 
@@ -71,7 +71,7 @@ ended_after = refreshed (record (plays tags (segments 8 4)) { end_list = true })
 -- of the pod as much as the run has lasted; the window begins one past the last item written before, so that the rest of the
 -- pod is written; all of it if the playlist has ended
 abbrev pub LongRunsAreWritten : Type 0
-LongRunsAreWritten = Gives written (
+LongRunsAreWritten = HasValues written (
     (first, Some ((0 ∷ 100 ∷ 5 ∷ 0 ∷ []) ∷ (1 ∷ 101 ∷ 5 ∷ 0 ∷ []) ∷ (1000 ∷ 102 ∷ 6 ∷ 1 ∷ []) ∷ (1001 ∷ 103 ∷ 6 ∷ 0 ∷ []) ∷ (1002 ∷ 104 ∷ 6 ∷ 0 ∷ []) ∷ []))
     ∷ (second, Some ((1000 ∷ 102 ∷ 6 ∷ 1 ∷ []) ∷ (1001 ∷ 103 ∷ 6 ∷ 0 ∷ []) ∷ (1002 ∷ 104 ∷ 6 ∷ 0 ∷ []) ∷ (1003 ∷ 105 ∷ 6 ∷ 0 ∷ []) ∷ (1004 ∷ 106 ∷ 6 ∷ 0 ∷ []) ∷ (1005 ∷ 107 ∷ 6 ∷ 0 ∷ []) ∷ []))
     ∷ (third, Some ((1006 ∷ 108 ∷ 6 ∷ 0 ∷ []) ∷ (1007 ∷ 109 ∷ 6 ∷ 0 ∷ []) ∷ (8 ∷ 110 ∷ 7 ∷ 1 ∷ []) ∷ (9 ∷ 111 ∷ 7 ∷ 0 ∷ []) ∷ (2000 ∷ 112 ∷ 8 ∷ 1 ∷ []) ∷ (11 ∷ 113 ∷ 9 ∷ 1 ∷ []) ∷ []))
@@ -86,11 +86,11 @@ brief item = item.piece.segment.uri ++ item.numbers.media_sequence ∷ item.numb
 
 -- the stitched list of all segments ever shown, the oldest item first
 abbrev pub listed : List Event → List (List ℕ)
-listed events = map brief (reverse (list_of (told 100000000 events)))
+listed events = map brief (reverse (whole_stitched_list (told 100000000 events)))
 
 -- its newest run is open until the playlist has ended
 abbrev pub WholeListsAreStitched : Type 0
-WholeListsAreStitched = Gives listed (
+WholeListsAreStitched = HasValues listed (
     ([], [])
     ∷ (second, (0 ∷ 100 ∷ 5 ∷ 0 ∷ []) ∷ (1 ∷ 101 ∷ 5 ∷ 0 ∷ []) ∷ (1000 ∷ 102 ∷ 6 ∷ 1 ∷ []) ∷ (1001 ∷ 103 ∷ 6 ∷ 0 ∷ []) ∷ (1002 ∷ 104 ∷ 6 ∷ 0 ∷ []) ∷ (1003 ∷ 105 ∷ 6 ∷ 0 ∷ []) ∷ (1004 ∷ 106 ∷ 6 ∷ 0 ∷ []) ∷ (1005 ∷ 107 ∷ 6 ∷ 0 ∷ []) ∷ [])
     ∷ (ended, (0 ∷ 100 ∷ 5 ∷ 0 ∷ []) ∷ (1 ∷ 101 ∷ 5 ∷ 0 ∷ []) ∷ (1000 ∷ 102 ∷ 6 ∷ 1 ∷ []) ∷ (1001 ∷ 103 ∷ 6 ∷ 0 ∷ []) ∷ (1002 ∷ 104 ∷ 6 ∷ 0 ∷ []) ∷ (1003 ∷ 105 ∷ 6 ∷ 0 ∷ []) ∷ (1004 ∷ 106 ∷ 6 ∷ 0 ∷ []) ∷ (1005 ∷ 107 ∷ 6 ∷ 0 ∷ []) ∷ (1006 ∷ 108 ∷ 6 ∷ 0 ∷ []) ∷ (1007 ∷ 109 ∷ 6 ∷ 0 ∷ []) ∷ [])
@@ -103,7 +103,7 @@ dated events = option_map (λ (p : Playlist). map (λ (r : DateRange). r.id) p.d
 -- all but those of the breaks in use: of each a segment of its pod is written, or it is the last one entered. None, if no
 -- written segment states a time
 abbrev pub DateRangesAreLeft : Type 0
-DateRangesAreLeft = Gives dated (
+DateRangesAreLeft = HasValues dated (
     (first, Some (codes "w" ∷ codes "x" ∷ codes "y" ∷ codes "z" ∷ long 99 ∷ []))
     ∷ (second, Some [])
     ∷ (third, Some (codes "w" ∷ codes "x" ∷ codes "y" ∷ codes "z" ∷ []))
@@ -113,7 +113,7 @@ DateRangesAreLeft = Gives dated (
 
 -- their pods are kept as long
 abbrev pub PodsStay : Type 0
-PodsStay = Gives stored (
+PodsStay = HasValues stored (
     (first, (long 98, true) ∷ (long 99, false) ∷ [])
     ∷ (second, (long 98, true) ∷ (long 99, false) ∷ [])
     ∷ (third, (long 98, true) ∷ (long 99, true) ∷ [])
@@ -125,7 +125,7 @@ abbrev pub is_used : List Event × ℕ × List ℕ → Bool
 is_used it = in_use (told 100000000 it.0).start it.1 (told 100000000 it.0).history it.2
 
 abbrev pub BreaksAreInUse : Type 0
-BreaksAreInUse = Gives is_used (
+BreaksAreInUse = HasValues is_used (
     ((third, 108, long 98), true)
     ∷ ((third, 108, long 99), true)
     ∷ ((third, 108, long 100), false)
@@ -138,7 +138,7 @@ abbrev pub is_shown : List Event × List ℕ → Option Bool
 is_shown it = option_map (λ (last : Playlist). is_played (told 100000000 it.0) last it.1) (last_playlist (told 100000000 it.0).accepted)
 
 abbrev pub BreaksAreShown : Type 0
-BreaksAreShown = Gives is_shown (
+BreaksAreShown = HasValues is_shown (
     ((third, long 98), Some true)
     ∷ ((third, long 99), Some true)
     ∷ ((third, long 100), Some false)
@@ -156,16 +156,16 @@ abbrev pub both_windows : List Event → List (List ℕ) × List (List ℕ)
 both_windows events = (windowed events, kept_window events)
 
 abbrev pub WindowsAreKept : Type 0
-WindowsAreKept = Gives both_windows (
+WindowsAreKept = HasValues both_windows (
     ([], ([], []))
     ∷ (third, ((1006 ∷ 108 ∷ 6 ∷ 0 ∷ []) ∷ (1007 ∷ 109 ∷ 6 ∷ 0 ∷ []) ∷ (8 ∷ 110 ∷ 7 ∷ 1 ∷ []) ∷ (9 ∷ 111 ∷ 7 ∷ 0 ∷ []) ∷ (2000 ∷ 112 ∷ 8 ∷ 1 ∷ []) ∷ (11 ∷ 113 ∷ 9 ∷ 1 ∷ []) ∷ [], (1006 ∷ 108 ∷ 6 ∷ 0 ∷ []) ∷ (1007 ∷ 109 ∷ 6 ∷ 0 ∷ []) ∷ (8 ∷ 110 ∷ 7 ∷ 1 ∷ []) ∷ (9 ∷ 111 ∷ 7 ∷ 0 ∷ []) ∷ (2000 ∷ 112 ∷ 8 ∷ 1 ∷ []) ∷ (11 ∷ 113 ∷ 9 ∷ 1 ∷ []) ∷ []))
     ∷ (fifth, ((13 ∷ 115 ∷ 9 ∷ 0 ∷ []) ∷ (14 ∷ 116 ∷ 9 ∷ 0 ∷ []) ∷ (15 ∷ 117 ∷ 9 ∷ 0 ∷ []) ∷ (16 ∷ 118 ∷ 9 ∷ 0 ∷ []) ∷ (17 ∷ 119 ∷ 9 ∷ 0 ∷ []) ∷ [], (13 ∷ 115 ∷ 9 ∷ 0 ∷ []) ∷ (14 ∷ 116 ∷ 9 ∷ 0 ∷ []) ∷ (15 ∷ 117 ∷ 9 ∷ 0 ∷ []) ∷ (16 ∷ 118 ∷ 9 ∷ 0 ∷ []) ∷ (17 ∷ 119 ∷ 9 ∷ 0 ∷ []) ∷ [])) ∷ [])
 
-abbrev pub number_of : Marked → ℕ
-number_of s = s.segment.media_sequence
+abbrev pub sequence_number : Marked → ℕ
+sequence_number s = s.segment.media_sequence
 
-abbrev pub rest_of : Rest → List ℕ × ℕ
-rest_of rest = (rest.mark.id, rest.place)
+abbrev pub rest_row : MeantRest → List ℕ × ℕ
+rest_row rest = (rest.mark.id, rest.place)
 
 abbrev pub kept_briefly : Kept → List (List ℕ) × Option (List ℕ) × List ℕ × ℕ × Option (List ℕ × ℕ) × List ℕ
 kept_briefly kept = (
@@ -173,8 +173,8 @@ kept_briefly kept = (
   kept.entered,
   kept.numbers.media_sequence ∷ kept.numbers.discontinuity_sequence ∷ kept.numbers.discontinuities ∷ [],
   kept.so_far,
-  option_map rest_of kept.rest,
-  map number_of kept.shown,
+  option_map rest_row kept.rest,
+  map sequence_number kept.shown,
 )
 
 abbrev pub kept : List Event → List (List ℕ) × Option (List ℕ) × List ℕ × ℕ × Option (List ℕ × ℕ) × List ℕ
@@ -186,7 +186,7 @@ ids = codes "w" ∷ codes "x" ∷ codes "y" ∷ codes "z" ∷ long 98 ∷ long 9
 -- the known breaks, the last one entered, the numbers of the window's first item, how long the newest run has lasted, the rest
 -- that the window starts with, and the shown segments, the newest first
 abbrev pub LongStatesAreKept : Type 0
-LongStatesAreKept = Gives kept (
+LongStatesAreKept = HasValues kept (
     (first, (ids, Some (long 98), 100 ∷ 5 ∷ 0 ∷ [], 30000000000, None, 104 ∷ 103 ∷ 102 ∷ 101 ∷ 100 ∷ []))
     ∷ (second, (ids, Some (long 98), 102 ∷ 6 ∷ 1 ∷ [], 60000000000, None, 107 ∷ 106 ∷ 105 ∷ []))
     ∷ (third, (ids, Some (long 99), 108 ∷ 6 ∷ 0 ∷ [], 0, Some (long 98, 6), 111 ∷ 110 ∷ 109 ∷ 108 ∷ []))
@@ -195,4 +195,4 @@ LongStatesAreKept = Gives kept (
 
 -- a date range is written as its line was read
 abbrev pub DateRangesAreCarried : Type 0
-DateRangesAreCarried = Gives date_range_text ((record (tag (codes "b") 1) { attributes = codes "ID=\"b\",X-A=1" }, codes "ID=\"b\",X-A=1") ∷ [])
+DateRangesAreCarried = HasValues date_range_text ((record (tag (codes "b") 1) { attributes = codes "ID=\"b\",X-A=1" }, codes "ID=\"b\",X-A=1") ∷ [])

@@ -10,9 +10,9 @@ use Rattle.pod_store.specs.declared.fault.DecisionKind.{DecisionKind}
 use Rattle.pod_store.specs.declared.fault.DecisionKind.TheVariants.{Used, Unknown}
 use Rattle.pod_store.specs.Store.{Entry, Store}
 use Rattle.pod_store.specs.Store.{decided as after_decisions}
-use Rattle.pod_store.specs.Outcome.{Outcome, fault_at, nowhere}
+use Rattle.pod_store.specs.Outcome.{DecisionOutcome, fault_at, nowhere}
 use Rattle.channel_spec.specs.Live.{Event, decided, refreshed, told, owed}
-use Rattle.worked_examples.specs.Tables.{Gives}
+use Rattle.worked_examples.specs.Tables.{HasValues}
 
 -- so many tenths of a second after noon
 abbrev pub at_tenths : ℕ → ℤ
@@ -142,10 +142,10 @@ abbrev pub b2_and_b1 : List Segment
 b2_and_b1 = at 2 1000 ∷ at 3 500 ∷ at 4 1000 ∷ at 5 100 ∷ []
 
 -- what decisions come to then
-abbrev pub outcome : List Event → Decisions → Outcome Store
+abbrev pub outcome : List Event → Decisions → DecisionOutcome Store
 outcome events decisions = after_decisions (told tolerance events).store decisions
 
-abbrev pub refused_as : DecisionKind → Outcome Store
+abbrev pub refused_as : DecisionKind → DecisionOutcome Store
 refused_as kind = Err (fault_at nowhere kind)
 
 -- b1 and b2, one after the other, of 10 s each
@@ -159,7 +159,7 @@ both_decided = decide_pod (codes "b2") (pod ((3000, 100) ∷ [])) ∷ decide_pod
 
 -- docs/OPERATING.md: a break of two ads goes through a window of three segments. Its pod leaves as a whole, once the break has left
 abbrev pub BreaksGoThrough : Type 0
-BreaksGoThrough = Gives written (
+BreaksGoThrough = HasValues written (
     (three 0 ∷ decide_b1 ∷ [], Some ((0 ∷ 0 ∷ 0 ∷ 0 ∷ []) ∷ (1000 ∷ 1 ∷ 1 ∷ 1 ∷ []) ∷ (1001 ∷ 2 ∷ 1 ∷ 0 ∷ []) ∷ []))
     ∷ (three 1 ∷ three 0 ∷ decide_b1 ∷ [], Some ((1000 ∷ 1 ∷ 1 ∷ 1 ∷ []) ∷ (1001 ∷ 2 ∷ 1 ∷ 0 ∷ []) ∷ []))
     ∷ (three 2 ∷ three 1 ∷ three 0 ∷ decide_b1 ∷ [], Some ((1000 ∷ 1 ∷ 1 ∷ 1 ∷ []) ∷ (1001 ∷ 2 ∷ 1 ∷ 0 ∷ []) ∷ (4 ∷ 3 ∷ 2 ∷ 1 ∷ []) ∷ []))
@@ -167,7 +167,7 @@ BreaksGoThrough = Gives written (
 
 -- a pod of three segments goes on with its run, a segment of it for one of the run
 abbrev pub PodsGoOnWithRuns : Type 0
-PodsGoOnWithRuns = Gives written (
+PodsGoOnWithRuns = HasValues written (
     (two b1 2 ∷ two b1 1 ∷ two b1 0 ∷ decide_pod (codes "b1") x3 ∷ [], Some ((2000 ∷ 1 ∷ 1 ∷ 1 ∷ []) ∷ (2001 ∷ 2 ∷ 1 ∷ 0 ∷ []) ∷ (2002 ∷ 3 ∷ 1 ∷ 0 ∷ []) ∷ []))
     ∷ (two b1 3 ∷ two b1 2 ∷ two b1 1 ∷ two b1 0 ∷ decide_pod (codes "b1") x3 ∷ [], Some ((2000 ∷ 1 ∷ 1 ∷ 1 ∷ []) ∷ (2001 ∷ 2 ∷ 1 ∷ 0 ∷ []) ∷ (2002 ∷ 3 ∷ 1 ∷ 0 ∷ []) ∷ (4 ∷ 4 ∷ 2 ∷ 1 ∷ []) ∷ []))
     ∷ (two b1 4 ∷ two b1 3 ∷ two b1 2 ∷ two b1 1 ∷ two b1 0 ∷ decide_pod (codes "b1") x3 ∷ [], Some ((4 ∷ 4 ∷ 2 ∷ 1 ∷ []) ∷ (5 ∷ 5 ∷ 2 ∷ 0 ∷ []) ∷ []))
@@ -179,7 +179,7 @@ PodsGoOnWithRuns = Gives written (
 
 -- segments that last nothing are shown once the run lasts longer than the pod
 abbrev pub NothingIsShownAtOnce : Type 0
-NothingIsShownAtOnce = Gives written (
+NothingIsShownAtOnce = HasValues written (
     (two b1 0 ∷ decide_pod (codes "b1") x1 ∷ [], Some ((0 ∷ 0 ∷ 0 ∷ 0 ∷ []) ∷ (2000 ∷ 1 ∷ 1 ∷ 1 ∷ []) ∷ []))
     ∷ (some_from (b1 ∷ []) 0 3 ∷ two b1 0 ∷ decide_pod (codes "b1") x1 ∷ [], Some ((0 ∷ 0 ∷ 0 ∷ 0 ∷ []) ∷ (2000 ∷ 1 ∷ 1 ∷ 1 ∷ []) ∷ (2001 ∷ 2 ∷ 1 ∷ 0 ∷ []) ∷ (2002 ∷ 3 ∷ 1 ∷ 0 ∷ []) ∷ []))
     ∷ (two b1 2 ∷ some_from (b1 ∷ []) 0 3 ∷ two b1 0 ∷ decide_pod (codes "b1") x1 ∷ [], Some ((2000 ∷ 1 ∷ 1 ∷ 1 ∷ []) ∷ (2001 ∷ 2 ∷ 1 ∷ 0 ∷ []) ∷ (2002 ∷ 3 ∷ 1 ∷ 0 ∷ []) ∷ [])) ∷ [])
@@ -187,7 +187,7 @@ NothingIsShownAtOnce = Gives written (
 -- the first segment of a break begins 100 ms after its START-DATE, or a tenth of a second later; an instant is reckoned back from
 -- the first one that is stated
 abbrev pub InstantsCount : Type 0
-InstantsCount = Gives written (
+InstantsCount = HasValues written (
     (refreshed (plays true (b1 ∷ []) (origin 0 (Some (at_tenths 0)) ∷ origin 1 (Some (at_tenths 101)) ∷ [])) ∷ decide_b1 ∷ [], Some ((0 ∷ 0 ∷ 0 ∷ 0 ∷ []) ∷ (1000 ∷ 1 ∷ 1 ∷ 1 ∷ []) ∷ (1001 ∷ 2 ∷ 1 ∷ 0 ∷ []) ∷ []))
     ∷ (refreshed (plays true (b1 ∷ []) (origin 0 (Some (at_tenths 0)) ∷ origin 1 (Some (at_tenths 102)) ∷ [])) ∷ decide_b1 ∷ [], Some ((0 ∷ 0 ∷ 0 ∷ 0 ∷ []) ∷ (1 ∷ 1 ∷ 0 ∷ 0 ∷ []) ∷ []))
     ∷ (
@@ -201,7 +201,7 @@ InstantsCount = Gives written (
 
 -- 4.3.2.6: a segment before the first stated time has its own by durations; the segments of a pod state none
 abbrev pub TimesAreReckoned : Type 0
-TimesAreReckoned = Gives times (
+TimesAreReckoned = HasValues times (
     (refreshed (plays true (b1 ∷ []) (origin 0 None ∷ origin 1 (Some (at_tenths 100)) ∷ [])) ∷ decide_b1 ∷ [], Some (Some (at_tenths 0) ∷ None ∷ None ∷ []))
     ∷ (
       refreshed (plays true [] (origin 0 None ∷ origin 1 None ∷ origin 2 None ∷ origin 3 None ∷ origin 4 None ∷ origin 5 (Some (at_tenths 500)) ∷ [])) ∷ [],
@@ -210,12 +210,12 @@ TimesAreReckoned = Gives times (
 
 -- the rest of a pod, and the pod of the break after it
 abbrev pub RestsAreWritten : Type 0
-RestsAreWritten = Gives written (
+RestsAreWritten = HasValues written (
     (some_from b1_then_b2 2 2 ∷ some_from b1_then_b2 0 2 ∷ both_decided, Some ((2001 ∷ 2 ∷ 1 ∷ 0 ∷ []) ∷ (2002 ∷ 3 ∷ 1 ∷ 0 ∷ []) ∷ (3000 ∷ 4 ∷ 2 ∷ 1 ∷ []) ∷ (3 ∷ 5 ∷ 3 ∷ 1 ∷ []) ∷ [])) ∷ [])
 
 -- a break is in use while the rest of its pod is written: its date range isn't written. Then it is
 abbrev pub DateRangesComeBack : Type 0
-DateRangesComeBack = Gives dated (
+DateRangesComeBack = HasValues dated (
     (some_from b1_then_b2 2 2 ∷ some_from b1_then_b2 0 2 ∷ both_decided, Some [])
     ∷ (some_from b1_then_b2 3 2 ∷ some_from b1_then_b2 2 2 ∷ some_from b1_then_b2 0 2 ∷ both_decided, Some (codes "b1" ∷ [])) ∷ [])
 
@@ -225,7 +225,7 @@ five_in_a_row = lasting 10 b1 ∷ lasting 10 (tag (codes "b2") 200) ∷ lasting 
 
 -- its pod is kept as long; copies of the fallback stand in the order in which their breaks were entered
 abbrev pub PodsGo : Type 0
-PodsGo = Gives stored (
+PodsGo = HasValues stored (
     (some_from b1_then_b2 2 2 ∷ some_from b1_then_b2 0 2 ∷ both_decided, codes "b1" ∷ codes "b2" ∷ [])
     ∷ (some_from b1_then_b2 3 2 ∷ some_from b1_then_b2 2 2 ∷ some_from b1_then_b2 0 2 ∷ both_decided, codes "b2" ∷ [])
     ∷ (turns b1_and_b2 ∷ falls_to 2000 ∷ [], codes "b1" ∷ codes "b2" ∷ [])
@@ -233,7 +233,7 @@ PodsGo = Gives stored (
 
 -- docs/OPERATING.md: a run keeps the fallback that it was entered with, whatever the fallback becomes
 abbrev pub FallbacksStay : Type 0
-FallbacksStay = Gives written (
+FallbacksStay = HasValues written (
     (five ∷ falls_to 3000 ∷ five ∷ falls_to 2000 ∷ [], Some ((0 ∷ 0 ∷ 0 ∷ 0 ∷ []) ∷ (2000 ∷ 1 ∷ 1 ∷ 1 ∷ []) ∷ (4 ∷ 2 ∷ 2 ∷ 1 ∷ []) ∷ []))
     ∷ (five ∷ falls_to_none ∷ falls_to_ab ∷ [], Some ((0 ∷ 0 ∷ 0 ∷ 0 ∷ []) ∷ (1 ∷ 1 ∷ 0 ∷ 0 ∷ []) ∷ (2 ∷ 2 ∷ 0 ∷ 0 ∷ []) ∷ (3 ∷ 3 ∷ 0 ∷ 0 ∷ []) ∷ (4 ∷ 4 ∷ 0 ∷ 0 ∷ []) ∷ []))
     ∷ (three 1 ∷ falls_to_none ∷ three 0 ∷ falls_to 2000 ∷ [], Some ((2000 ∷ 1 ∷ 1 ∷ 1 ∷ []) ∷ [])) ∷ [])
@@ -241,7 +241,7 @@ FallbacksStay = Gives written (
 -- two breaks with one fallback; and one that is entered again, after another one, has its copy while that is there, and the
 -- new fallback then
 abbrev pub FallbacksFillEach : Type 0
-FallbacksFillEach = Gives written (
+FallbacksFillEach = HasValues written (
     (three_of_two 0 ∷ falls_to 2000 ∷ [], Some ((0 ∷ 0 ∷ 0 ∷ 0 ∷ []) ∷ (2000 ∷ 1 ∷ 1 ∷ 1 ∷ []) ∷ (2 ∷ 2 ∷ 2 ∷ 1 ∷ []) ∷ []))
     ∷ (three_of_two 1 ∷ three_of_two 0 ∷ falls_to 2000 ∷ [], Some ((2000 ∷ 1 ∷ 1 ∷ 1 ∷ []) ∷ (2 ∷ 2 ∷ 2 ∷ 1 ∷ []) ∷ (2000 ∷ 3 ∷ 3 ∷ 1 ∷ []) ∷ []))
     ∷ (three_of_two 2 ∷ three_of_two 1 ∷ three_of_two 0 ∷ falls_to 2000 ∷ [], Some ((2 ∷ 2 ∷ 2 ∷ 1 ∷ []) ∷ (2000 ∷ 3 ∷ 3 ∷ 1 ∷ []) ∷ (4 ∷ 4 ∷ 4 ∷ 1 ∷ []) ∷ []))
@@ -251,21 +251,21 @@ FallbacksFillEach = Gives written (
 
 -- the break that was entered last isn't entered again, however long ago that was
 abbrev pub LastBreaksAreLeft : Type 0
-LastBreaksAreLeft = Gives written ((
+LastBreaksAreLeft = HasValues written ((
   refreshed (plays false (lasting 10 b1 ∷ []) (at 0 0 ∷ at 1 100 ∷ at 2 1000 ∷ at 3 2000 ∷ at 4 3000 ∷ at 5 4000 ∷ at 6 100 ∷ [])) ∷ falls_to 2000 ∷ [],
   Some ((0 ∷ 0 ∷ 0 ∷ 0 ∷ []) ∷ (2000 ∷ 1 ∷ 1 ∷ 1 ∷ []) ∷ (2 ∷ 2 ∷ 2 ∷ 1 ∷ []) ∷ (3 ∷ 3 ∷ 2 ∷ 0 ∷ []) ∷ (4 ∷ 4 ∷ 2 ∷ 0 ∷ []) ∷ (5 ∷ 5 ∷ 2 ∷ 0 ∷ []) ∷ (6 ∷ 6 ∷ 2 ∷ 0 ∷ []) ∷ []),
 ) ∷ [])
 
 -- a pod of the break's own comes first, also if it doesn't fit
 abbrev pub OwnPodsComeFirst : Type 0
-OwnPodsComeFirst = Gives written (
+OwnPodsComeFirst = HasValues written (
     (five ∷ falls_to 2000 ∷ decide_b1 ∷ [], Some ((0 ∷ 0 ∷ 0 ∷ 0 ∷ []) ∷ (1000 ∷ 1 ∷ 1 ∷ 1 ∷ []) ∷ (1001 ∷ 2 ∷ 1 ∷ 0 ∷ []) ∷ (4 ∷ 3 ∷ 2 ∷ 1 ∷ []) ∷ []))
     ∷ (five ∷ falls_to 2000 ∷ withdraw_b1 ∷ decide_b1 ∷ [], Some ((0 ∷ 0 ∷ 0 ∷ 0 ∷ []) ∷ (2000 ∷ 1 ∷ 1 ∷ 1 ∷ []) ∷ (4 ∷ 2 ∷ 2 ∷ 1 ∷ []) ∷ []))
     ∷ (five ∷ decide_long ∷ falls_to 2000 ∷ [], Some ((0 ∷ 0 ∷ 0 ∷ 0 ∷ []) ∷ (1 ∷ 1 ∷ 0 ∷ 0 ∷ []) ∷ (2 ∷ 2 ∷ 0 ∷ 0 ∷ []) ∷ (3 ∷ 3 ∷ 0 ∷ 0 ∷ []) ∷ (4 ∷ 4 ∷ 0 ∷ 0 ∷ []) ∷ [])) ∷ [])
 
 -- docs/DECISION_FILES.md: a break that was entered keeps its copy of the fallback (J9), until it is used no more (J11)
 abbrev pub UsedPodsStand : Type 0
-UsedPodsStand = Gives (λ (it : List Event × Decisions). outcome it.0 it.1) (
+UsedPodsStand = HasValues (λ (it : List Event × Decisions). outcome it.0 it.1) (
     ((five ∷ falls_to 3000 ∷ five ∷ falls_to 2000 ∷ [], Breaks ((codes "b1", ab) ∷ [])), refused_as Used)
     ∷ ((three 1 ∷ falls_to_none ∷ three 0 ∷ falls_to 2000 ∷ [], Withdraw (codes "b1")), refused_as Used)
     ∷ ((turns b2_alone ∷ turns b1_and_b2 ∷ falls_to 2000 ∷ [], Withdraw (codes "b1")), refused_as Unknown) ∷ [])

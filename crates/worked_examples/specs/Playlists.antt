@@ -18,7 +18,7 @@ use Rattle.playlist_model.specs.Reading.{reading, limited, unlimited}
 use Rattle.playlist_model.specs.Same.{same_segment, kept_parts}
 use Rattle.playlist_model.specs.Uri.{base_of}
 use Rattle.worked_examples.specs.Pods.{long}
-use Rattle.worked_examples.specs.Tables.{Gives}
+use Rattle.worked_examples.specs.Tables.{HasValues}
 
 -- each line with a line feed
 abbrev pub text : List (List ℕ) → List ℕ
@@ -51,7 +51,7 @@ under_key_1 = record { uri = codes "a:i"; byte_range = None; keys = identity (co
 -- an initialisation section has the keys in force at its own line (4.3.2.5). Keys stand in the order of their formats, a
 -- reference is resolved against the base (4.1), and of two EXTINF of a segment the last one counts
 abbrev pub WholePlaylistIsRead : Type 0
-WholePlaylistIsRead = Gives (read_by limited) ((
+WholePlaylistIsRead = HasValues (read_by limited) ((
   codes "#EXTM3U"
       ∷ codes "#EXT-X-VERSION:6"
       ∷ codes "#EXT-X-TARGETDURATION:10"
@@ -139,7 +139,7 @@ read_on lines = read_by limited (codes "#EXTM3U" ∷ codes "#EXT-X-TARGETDURATIO
 -- EXT-X-DISCONTINUITY (4.3.3.2, 4.3.3.3); a playlist of I-frames or a master playlist is none that is read. Of two faults of a line a
 -- control character is told first, then that its tag stands twice, then that it is misplaced, then that its value is wrong
 abbrev pub TagsArePlaced : Type 0
-TagsArePlaced = Gives read_on (
+TagsArePlaced = HasValues read_on (
     (codes "#EXT-X-VERSION:3" ∷ codes "#EXT-X-VERSION:3" ∷ [], refused_at 4 fault.Repeated)
     ∷ (codes "#EXT-X-TARGETDURATION:10" ∷ [], refused_at 3 fault.Repeated)
     ∷ (codes "#EXT-X-MEDIA-SEQUENCE:1" ∷ codes "#EXT-X-MEDIA-SEQUENCE:1" ∷ [], refused_at 4 fault.Repeated)
@@ -175,7 +175,7 @@ abbrev pub apart : List ℕ → List ℕ → List (List ℕ)
 apart line later = line ∷ codes "# 1" ∷ codes "# 2" ∷ codes "# 3" ∷ codes "# 4" ∷ later ∷ []
 
 abbrev pub TagsApartArePlaced : Type 0
-TagsApartArePlaced = Gives (λ (it : List ℕ × List ℕ). read_on (apart it.0 it.1)) (
+TagsApartArePlaced = HasValues (λ (it : List ℕ × List ℕ). read_on (apart it.0 it.1)) (
     ((codes "#EXT-X-VERSION:3", codes "#EXT-X-VERSION:3"), refused_at 8 fault.Repeated)
     ∷ ((codes "#", codes "#EXT-X-TARGETDURATION:10"), refused_at 8 fault.Repeated)
     ∷ ((codes "#EXT-X-MEDIA-SEQUENCE:1", codes "#EXT-X-MEDIA-SEQUENCE:1"), refused_at 8 fault.Repeated)
@@ -188,7 +188,7 @@ TagsApartArePlaced = Gives (λ (it : List ℕ × List ℕ). read_on (apart it.0 
 
 -- after a segment, and four lines
 abbrev pub TagsAfterSegmentsArePlaced : Type 0
-TagsAfterSegmentsArePlaced = Gives (λ (line : List ℕ). read_on (codes "#EXTINF:1," ∷ apart (codes "a:s") line)) (
+TagsAfterSegmentsArePlaced = HasValues (λ (line : List ℕ). read_on (codes "#EXTINF:1," ∷ apart (codes "a:s") line)) (
     (codes "#EXT-X-MEDIA-SEQUENCE:1", refused_at 9 fault.Misplaced)
     ∷ (codes "#EXT-X-DISCONTINUITY-SEQUENCE:1", refused_at 9 fault.Misplaced) ∷ [])
 
@@ -196,7 +196,7 @@ TagsAfterSegmentsArePlaced = Gives (λ (line : List ℕ). read_on (codes "#EXTIN
 -- resource (4.3.2.2), EXT-X-MAP under AES-128 needs an IV (4.3.2.5), and either all segments have an initialisation section or none has.
 -- Of two faults of a segment a missing EXTINF is told first, then its number, then its URI, then its byte range
 abbrev pub SegmentsAreChecked : Type 0
-SegmentsAreChecked = Gives read_on (
+SegmentsAreChecked = HasValues read_on (
     (codes "a:s" ∷ [], refused_at 3 fault.NoDuration)
     ∷ (codes "#EXTINF:1," ∷ codes "a:s" ∷ codes "a:t" ∷ [], refused_at 5 fault.NoDuration)
     ∷ (codes "#EXT-X-MEDIA-SEQUENCE:18446744073709551615" ∷ codes "#EXTINF:1," ∷ codes "a:s" ∷ codes "#EXTINF:1," ∷ codes "a:t" ∷ [], refused_at 7 fault.BadValue)
@@ -229,7 +229,7 @@ SegmentsAreChecked = Gives read_on (
 -- may end with CR LF. What the whole
 -- playlist lacks is told after the faults of its lines, the target duration first
 abbrev pub HeadersAreChecked : Type 0
-HeadersAreChecked = Gives (read_by limited) (
+HeadersAreChecked = HasValues (read_by limited) (
     ([], refused_at 1 fault.NoHeader)
     ∷ (codes "#EXTM3U8" ∷ [], refused_at 1 fault.NoHeader)
     ∷ (codes "" ∷ codes "#EXTM3U" ∷ [], refused_at 1 fault.NoHeader)
@@ -249,7 +249,7 @@ small = record { bytes = Some 90; attributes = Some 3; formats = Some 1; segment
 
 -- a reader's limits
 abbrev pub ReadersAreLimited : Type 0
-ReadersAreLimited = Gives (read_by small) (
+ReadersAreLimited = HasValues (read_by small) (
     (codes "#EXTM3U" ∷ codes "#EXTINF:1," ∷ codes "a:s" ∷ codes "#EXTINF:1," ∷ codes "a:t" ∷ [], refused_at 5 fault.TooMany)
     ∷ (codes "#EXTM3U" ∷ codes "#EXT-X-DATERANGE:ID=\"b\",X=1,Y=2,Z=3" ∷ [], refused_at 2 fault.BadAttributes)
     ∷ (codes "#EXTM3U" ∷ codes "#EXT-X-KEY:METHOD=A,URI=\"a:k\"" ∷ codes "#EXT-X-KEY:METHOD=A,URI=\"a:l\"" ∷ [], refused_at 0 fault.NoTarget)
@@ -266,7 +266,7 @@ limits_of r = (r.bytes, r.attributes, r.formats, r.segments)
 
 -- docs/OPERATING.md: 4,194,304 bytes, 64 attributes, 16 key formats and 10,000 segments; the denotation keeps to nothing
 abbrev pub LimitsAreStated : Type 0
-LimitsAreStated = Gives limits_of (
+LimitsAreStated = HasValues limits_of (
     (limited, (Some 4194304, Some 64, Some 16, Some 10000)) ∷ (unlimited, (None, None, None, None)) ∷ [])
 
 abbrev pub of_format : List ℕ → List ℕ → Key
@@ -274,7 +274,7 @@ of_format format resource = record { format = format; method = codes "A"; uri = 
 
 -- 4.3.2.4: of each format the last one since NONE is in force; here sorted by format. The newest line stands first
 abbrev pub KeysAreInForce : Type 0
-KeysAreInForce = Gives keys_at ((
+KeysAreInForce = HasValues keys_at ((
   key (of_format (codes "b") (codes "a:3")) ∷ key (of_format (codes "a") (codes "a:2")) ∷ key (of_format (codes "b") (codes "a:1")) ∷ [],
   of_format (codes "a") (codes "a:2") ∷ of_format (codes "b") (codes "a:3") ∷ [],
 )
@@ -294,7 +294,7 @@ KeysAreInForce = Gives keys_at ((
 -- what stands at a line after these lines, the last of which stands first: the stated numbers and what was counted since, what
 -- the next segment has of its own, and what is in force (4.3.2, 4.3.3.2, 4.3.3.3)
 abbrev pub LinesStand : Type 0
-LinesStand = Gives standing_at ((
+LinesStand = HasValues standing_at ((
   [],
   record { media_sequence = 0; discontinuity_sequence = 0; media_count = 0; discontinuity_count = 0; discontinuities = 0; duration = None; byte_range = None; program_date_time = None; keys = []; init_section = None; extent = None },
 )
@@ -317,14 +317,14 @@ LinesStand = Gives standing_at ((
 
 -- four lines of no meaning after the tags of a segment
 abbrev pub TagsStand : Type 0
-TagsStand = Gives standing_at ((
+TagsStand = HasValues standing_at ((
   nothing ∷ nothing ∷ nothing ∷ nothing ∷ said.time (pos 9) ∷ said.byte_range 50 None ∷ said.duration 6 [] ∷ said.duration 5 [] ∷ [],
   record { media_sequence = 0; discontinuity_sequence = 0; media_count = 0; discontinuity_count = 0; discontinuities = 0; duration = Some (6, []); byte_range = Some (50, None); program_date_time = Some (pos 9); keys = []; init_section = None; extent = None },
 ) ∷ [])
 
 -- 5.2: the Media Sequence Number is the IV of a key that states none; of the format `identity` alone
 abbrev pub KeysHaveTheirIvs : Type 0
-KeysHaveTheirIvs = Gives (effective_key 7) (
+KeysHaveTheirIvs = HasValues (effective_key 7) (
     (identity (codes "a:k") None, identity (codes "a:k") (Some 7))
     ∷ (identity (codes "a:k") (Some 1), identity (codes "a:k") (Some 1))
     ∷ (of_format (codes "f") (codes "a:k"), of_format (codes "f") (codes "a:k")) ∷ [])
@@ -339,7 +339,7 @@ begins it = begins_at it.0 it.1 it.2
 -- 4.3.2.6: a segment begins at the time that it states; else where the one before it ended; else back from the first time
 -- that is stated after it, as docs/CONFORMANCE.md says, within the years 1900 to 2199
 abbrev pub SegmentsBegin : Type 0
-SegmentsBegin = Gives begins (
+SegmentsBegin = HasValues begins (
     ((Some (pos 50), lasting 10 (Some (pos 70)), lasting 10 (Some (pos 90)) ∷ []), Some (pos 70))
     ∷ ((Some (pos 50), lasting 10 None, lasting 10 (Some (pos 90)) ∷ []), Some (pos 50))
     ∷ ((None, lasting 10 None, lasting 20 None ∷ lasting 40 (Some (pos 90)) ∷ lasting 10 (Some (pos 500)) ∷ []), Some (pos 60))
@@ -351,7 +351,7 @@ SegmentsBegin = Gives begins (
 -- the same of each segment of a list: a time that is stated later or anew, one that is stated nowhere, a segment that ends after
 -- the year 2199, and one that begins before 1900
 abbrev pub InstantsFollow : Type 0
-InstantsFollow = Gives instants_of (
+InstantsFollow = HasValues instants_of (
     (lasting 10 None ∷ lasting 10 (Some (pos 70)) ∷ lasting 9 None ∷ [], Some (pos 60) ∷ Some (pos 70) ∷ Some (pos 80) ∷ [])
     ∷ (lasting 10 (Some (pos 50)) ∷ lasting 10 (Some (pos 61)) ∷ [], Some (pos 50) ∷ Some (pos 61) ∷ [])
     ∷ (lasting 10 None ∷ [], None ∷ [])
@@ -362,14 +362,14 @@ InstantsFollow = Gives instants_of (
     ∷ (lasting 10 None ∷ lasting 10 (Some (negsuc 2208988799999999994)) ∷ [], None ∷ Some (negsuc 2208988799999999994) ∷ []) ∷ [])
 
 abbrev pub SegmentsEnd : Type 0
-SegmentsEnd = Gives (λ (begun : Option ℤ). ends_at begun 30) ((Some (pos 50), Some (pos 80)) ∷ (None, None) ∷ [])
+SegmentsEnd = HasValues (λ (begun : Option ℤ). ends_at begun 30) ((Some (pos 50), Some (pos 80)) ∷ (None, None) ∷ [])
 
 abbrev pub sample : Segment
 sample = record { media_sequence = 7; discontinuity_sequence = 3; discontinuities = 0; uri = codes "a:s"; byte_range = Some (record { length = 100; offset = 5 }); keys = identity (codes "a:2") (Some 7) ∷ []; init_section = Some under_key_1; duration = 9500000000; title = codes "first"; program_date_time = Some (pos 1) }
 
 -- a segment except for its title, time and steps
 abbrev pub PartsAreKept : Type 0
-PartsAreKept = Gives kept_parts ((
+PartsAreKept = HasValues kept_parts ((
   sample,
   record { media_sequence = 7; discontinuity_sequence = 3; discontinuities = 0; uri = codes "a:s"; byte_range = Some (record { length = 100; offset = 5 }); keys = identity (codes "a:2") (Some 7) ∷ []; init_section = Some under_key_1; duration = 9500000000; title = []; program_date_time = None },
 )
@@ -377,7 +377,7 @@ PartsAreKept = Gives kept_parts ((
 
 -- 6.2.1: a segment of one number doesn't change. What is looked at: numbers, resource, byte range, duration, keys and initialisation section
 abbrev pub SegmentsAreCompared : Type 0
-SegmentsAreCompared = Gives (same_segment sample) (
+SegmentsAreCompared = HasValues (same_segment sample) (
     (sample, true)
     ∷ (record sample { title = [] }, true)
     ∷ (record sample { program_date_time = None }, true)
@@ -410,7 +410,7 @@ at_line line kind = record { kind = kind; line = line }
 
 -- docs/OPERATING.md, "Faults"
 abbrev pub FaultsAreTold : Type 0
-FaultsAreTold = Gives fault_text (
+FaultsAreTold = HasValues fault_text (
     (at_line 0 fault.NotUtf8, codes "P1 NotUtf8")
     ∷ (at_line 0 fault.TooLong, codes "P2 TooLong")
     ∷ (at_line 1 fault.NoHeader, codes "P3 NoHeader line 1")

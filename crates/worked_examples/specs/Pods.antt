@@ -10,12 +10,12 @@ use Rattle.pod_store.specs.declared.fault.DecisionKind.TheVariants as fault
 use Rattle.pod_store.specs.FaultTexts.{fault_text}
 use Rattle.pod_store.specs.declared.fault.Place.{Place}
 use Rattle.spec_words.specs.Outcomes.{◌>>=◌}
-use Rattle.pod_store.specs.Outcome.{Outcome, no_memory}
-use Rattle.pod_store.specs.Pods.{PodSegment, Ad, Pod, Decision, is_id, is_uri, is_method, is_format, pod_fits, total}
+use Rattle.pod_store.specs.Outcome.{DecisionOutcome, no_memory}
+use Rattle.pod_store.specs.Pods.{PodSegment, Ad, Pod, Decision, is_id, is_uri, is_key_method, is_format, pod_fits, total}
 use Rattle.pod_store.specs.Rules.{ads_keep}
-use Rattle.pod_store.specs.Store.{Entry, Store, nothing_decided, decided, pod_for, fits, kept_in_use}
+use Rattle.pod_store.specs.Store.{Entry, Store, nothing_decided, decided, pod_for, has_fitting_pod, kept_in_use}
 use Rattle.decision_files.specs.Decided.{decisions_of, json_of, next_ad, segments_said}
-use Rattle.worked_examples.specs.Tables.{Gives}
+use Rattle.worked_examples.specs.Tables.{HasValues}
 
 -- ---- where a fault is
 
@@ -42,7 +42,7 @@ long byte = replicate 45 65 ++ byte ∷ []
 
 -- docs/DECISION_FILES.md: an ID has 1 to 255 bytes, and neither a quote nor a control character
 abbrev pub IdsAreChecked : Type 0
-IdsAreChecked = Gives is_id (
+IdsAreChecked = HasValues is_id (
     (codes "b 1", true)
     ∷ ([], false)
     ∷ (replicate 255 97, true)
@@ -62,7 +62,7 @@ IdsAreChecked = Gives is_id (
 
 -- a URI is absolute, of http or https, and of printable ASCII without spaces and quotes
 abbrev pub UrisAreChecked : Type 0
-UrisAreChecked = Gives is_uri (
+UrisAreChecked = HasValues is_uri (
     (codes "http://a", true)
     ∷ (codes "https://a/~", true)
     ∷ (codes "http://", false)
@@ -79,10 +79,10 @@ UrisAreChecked = Gives is_uri (
 
 -- RFC 8216, 4.3.2.4: METHOD is an enumerated-string; NONE is no key
 abbrev pub MethodsAreChecked : Type 0
-MethodsAreChecked = Gives is_method ((codes "AES-128", true) ∷ (codes "NONE", false) ∷ (codes "aes", false) ∷ ([], false) ∷ (long 65, true) ∷ (long 97, false) ∷ [])
+MethodsAreChecked = HasValues is_key_method ((codes "AES-128", true) ∷ (codes "NONE", false) ∷ (codes "aes", false) ∷ ([], false) ∷ (long 65, true) ∷ (long 97, false) ∷ [])
 
 abbrev pub FormatsAreChecked : Type 0
-FormatsAreChecked = Gives is_format ((codes "a b", true) ∷ ([], false) ∷ (codes "a\"", false) ∷ (long 65, true) ∷ (long 34, false) ∷ [])
+FormatsAreChecked = HasValues is_format ((codes "a b", true) ∷ ([], false) ∷ (codes "a\"", false) ∷ (long 65, true) ∷ (long 34, false) ∷ [])
 
 abbrev pub key : Option ℕ → Key
 key iv = record { format = codes "f"; method = codes "AES-128"; uri = codes "http://a/k"; iv = iv; other_attributes = [] }
@@ -113,12 +113,12 @@ abbrev pub five_ads : List Ad
 five_ads = five_ads_with (segment 20)
 
 abbrev pub PodsAreSummed : Type 0
-PodsAreSummed = Gives total ((pod (clear (segment 1 ∷ segment 20 ∷ []) ∷ ad (segment 300 ∷ []) ∷ []), 321) ∷ (pod [], 0) ∷ (pod five_ads, 500) ∷ [])
+PodsAreSummed = HasValues total ((pod (clear (segment 1 ∷ segment 20 ∷ []) ∷ ad (segment 300 ∷ []) ∷ []), 321) ∷ (pod [], 0) ∷ (pod five_ads, 500) ∷ [])
 
 -- 4.3.3.1: a segment, rounded to seconds, is at most the target duration; and an ad has an initialisation section if the origin's segments
 -- have one
 abbrev pub PodsFit : Type 0
-PodsFit = Gives (pod_fits 10 false) (
+PodsFit = HasValues (pod_fits 10 false) (
     (pod (clear (segment 10499999999 ∷ []) ∷ []), true)
     ∷ (pod (clear (segment 1 ∷ []) ∷ clear (segment 10500000000 ∷ []) ∷ []), false)
     ∷ (pod (clear (segment 1 ∷ segment 10499999999 ∷ []) ∷ clear (segment 10499999999 ∷ segment 1 ∷ []) ∷ []), true)
@@ -129,7 +129,7 @@ PodsFit = Gives (pod_fits 10 false) (
     ∷ (pod (five_ads_with (segment 10500000000)), false) ∷ [])
 
 abbrev pub PodsWithInitSectionsFit : Type 0
-PodsWithInitSectionsFit = Gives (pod_fits 10 true) (
+PodsWithInitSectionsFit = HasValues (pod_fits 10 true) (
     (pod (ad (segment 1 ∷ []) ∷ []), true) ∷ (pod (clear (segment 1 ∷ []) ∷ []), false) ∷ (pod (ad (segment 1 ∷ []) ∷ clear (segment 1 ∷ []) ∷ []), false) ∷ [])
 
 -- docs/DECISION_FILES.md: how many segments a pod has at most
@@ -139,7 +139,7 @@ most_of_a_pod = 500
 -- docs/DECISION_FILES.md: an ad has a segment, and at most one key, which has an IV of 128 bits; a byte range ends below 2^64,
 -- a segment lasts less than 1,000,000 s, and a pod has no more segments than it may
 abbrev pub RulesAreKept : Type 0
-RulesAreKept = Gives ads_keep (
+RulesAreKept = HasValues ads_keep (
     (ad (segment 999999999999999 ∷ []) ∷ [], true)
     ∷ ([], false)
     ∷ (clear [] ∷ [], false)
@@ -196,7 +196,7 @@ ab = record { entries = unused (codes "a") 1 ∷ used (codes "b") 2 ∷ []; fall
 -- docs/DECISION_FILES.md: a break gets its pod, in the place of one that it had; a used break's pod is neither changed nor taken
 -- away (J9); a break without a pod can't be withdrawn (J11); a fallback takes the place of the one before
 abbrev pub DecisionsAreTaken : Type 0
-DecisionsAreTaken = Gives (decided ab) (
+DecisionsAreTaken = HasValues (decided ab) (
     (Breaks ((codes "c", short 3) ∷ (codes "a", short 4) ∷ []), Ok (record { entries = unused (codes "a") 4 ∷ used (codes "b") 2 ∷ unused (codes "c") 3 ∷ []; fallback = None }))
     ∷ (Breaks ((codes "c", short 3) ∷ (codes "b", short 4) ∷ []), Err (fault_at nowhere fault.Used))
     ∷ (Withdraw (codes "a"), Ok (record { entries = used (codes "b") 2 ∷ []; fallback = None }))
@@ -210,7 +210,7 @@ abbrev pub alike : Store
 alike = record { entries = unused (long 98) 1 ∷ unused (long 99) 2 ∷ unused (long 100) 3 ∷ used (long 101) 4 ∷ unused (long 102) 5 ∷ []; fallback = None }
 
 abbrev pub LongIdsAreApart : Type 0
-LongIdsAreApart = Gives (decided alike) (
+LongIdsAreApart = HasValues (decided alike) (
     (Breaks ((long 99, short 9) ∷ (long 103, short 7) ∷ []), Ok (record { entries = unused (long 98) 1 ∷ unused (long 99) 9 ∷ unused (long 100) 3 ∷ used (long 101) 4 ∷ unused (long 102) 5 ∷ unused (long 103) 7 ∷ []; fallback = None }))
     ∷ (
       Breaks ((codes "1", short 1) ∷ (codes "2", short 2) ∷ (codes "3", short 3) ∷ (codes "4", short 4) ∷ (codes "5", short 5) ∷ []),
@@ -227,7 +227,7 @@ abbrev pub breaks : ℕ → List Decision
 breaks zero = []
 breaks (suc n) = (n ∷ [], short 1) ∷ breaks n
 
-abbrev pub fault_of : Outcome Store → Option DecisionKind
+abbrev pub fault_of : DecisionOutcome Store → Option DecisionKind
 fault_of (Ok store) = None
 fault_of (Err fault) = Some fault.kind
 
@@ -237,7 +237,7 @@ fault_of_breaks it = fault_of (decided it.0 (Breaks (breaks it.1)))
 -- at most 256 breaks have pods that decisions gave them (J10); one that had one counts once, and a copy of the fallback doesn't.
 -- That a break is used (J9) comes first
 abbrev pub StoreIsLimited : Type 0
-StoreIsLimited = Gives fault_of_breaks (
+StoreIsLimited = HasValues fault_of_breaks (
     ((nothing_decided, 256), None)
     ∷ ((nothing_decided, 257), Some fault.Full)
     ∷ ((record { entries = unused (codes "ab") 1 ∷ []; fallback = None }, 256), Some fault.Full)
@@ -249,29 +249,29 @@ StoreIsLimited = Gives fault_of_breaks (
     ∷ ((alike, 252), Some fault.Full) ∷ [])
 
 abbrev pub LongIdsCountOnce : Type 0
-LongIdsCountOnce = Gives (λ (n : ℕ). fault_of (decided alike (Breaks ((long 98, short 1) ∷ breaks n)))) ((251, None) ∷ (252, Some fault.Full) ∷ [])
+LongIdsCountOnce = HasValues (λ (n : ℕ). fault_of (decided alike (Breaks ((long 98, short 1) ∷ breaks n)))) ((251, None) ∷ (252, Some fault.Full) ∷ [])
 
 -- a break is filled with the pod of its own, else with the fallback
 abbrev pub PodsAreFound : Type 0
-PodsAreFound = Gives (pod_for (record ab { fallback = Some (short 9) })) (
+PodsAreFound = HasValues (pod_for (record ab { fallback = Some (short 9) })) (
     (codes "a", Some (short 1)) ∷ (codes "b", Some (short 2)) ∷ (codes "c", Some (short 9)) ∷ [])
 
 -- a fallback that doesn't fit isn't another's place: the break's own pod counts
 abbrev pub OwnPodsFit : Type 0
-OwnPodsFit = Gives (λ (id : List ℕ). fits (record { entries = unused (codes "a") 10500000000 ∷ []; fallback = Some (short 1) }) id 10 false) (
+OwnPodsFit = HasValues (λ (id : List ℕ). has_fitting_pod (record { entries = unused (codes "a") 10500000000 ∷ []; fallback = Some (short 1) }) id 10 false) (
     (codes "a", false) ∷ (codes "b", true) ∷ [])
 
 abbrev pub LongIdsAreFound : Type 0
-LongIdsAreFound = Gives (pod_for alike) ((long 98, Some (short 1)) ∷ (long 102, Some (short 5)) ∷ (long 104, None) ∷ [])
+LongIdsAreFound = HasValues (pod_for alike) ((long 98, Some (short 1)) ∷ (long 102, Some (short 5)) ∷ (long 104, None) ∷ [])
 
 -- a break that has no pod, and no fallback, has none that fits
 abbrev pub StoresFit : Type 0
-StoresFit = Gives (λ (it : Store × List ℕ). fits it.0 it.1 10 false) (
+StoresFit = HasValues (λ (it : Store × List ℕ). has_fitting_pod it.0 it.1 10 false) (
     ((nothing_decided, codes "a"), false) ∷ ((ab, codes "a"), true) ∷ ((alike, long 102), true) ∷ ((alike, long 104), false) ∷ [])
 
 -- without a fallback there is nothing to copy
 abbrev pub NothingIsCopied : Type 0
-NothingIsCopied = Gives (λ (ids : List (List ℕ)). kept_in_use ids alike) (
+NothingIsCopied = HasValues (λ (ids : List (List ℕ)). kept_in_use ids alike) (
     (long 101 ∷ codes "z" ∷ [], alike)
     ∷ (codes "w" ∷ codes "x" ∷ codes "y" ∷ codes "z" ∷ long 101 ∷ [], alike)
     ∷ (codes "z" ∷ [], record { entries = unused (long 98) 1 ∷ unused (long 99) 2 ∷ unused (long 100) 3 ∷ unused (long 102) 5 ∷ []; fallback = None }) ∷ [])
@@ -279,7 +279,7 @@ NothingIsCopied = Gives (λ (ids : List (List ℕ)). kept_in_use ids alike) (
 -- of the used breaks those that aren't in use any more go, each break in use is used, and one without a pod of its own keeps a copy
 -- of the fallback
 abbrev pub UsedPodsStay : Type 0
-UsedPodsStay = Gives (λ (ids : List (List ℕ)). kept_in_use ids (record { entries = unused (codes "a") 1 ∷ used (codes "b") 2 ∷ copy (codes "c") 3 ∷ []; fallback = Some (short 9) })) (
+UsedPodsStay = HasValues (λ (ids : List (List ℕ)). kept_in_use ids (record { entries = unused (codes "a") 1 ∷ used (codes "b") 2 ∷ copy (codes "c") 3 ∷ []; fallback = Some (short 9) })) (
     ([], record { entries = unused (codes "a") 1 ∷ []; fallback = Some (short 9) })
     ∷ (codes "a" ∷ codes "c" ∷ [], record { entries = used (codes "a") 1 ∷ copy (codes "c") 3 ∷ []; fallback = Some (short 9) })
     ∷ (codes "b" ∷ codes "d" ∷ codes "d" ∷ [], record { entries = unused (codes "a") 1 ∷ used (codes "b") 2 ∷ copy (codes "d") 9 ∷ []; fallback = Some (short 9) })
@@ -290,14 +290,14 @@ UsedPodsStay = Gives (λ (ids : List (List ℕ)). kept_in_use ids (record { entr
 
 -- ---- decision files
 
-abbrev pub refused : ℕ → ℕ → ℕ → DecisionKind → Outcome Decisions
+abbrev pub refused : ℕ → ℕ → ℕ → DecisionKind → DecisionOutcome Decisions
 refused pod ad segment kind = Err (fault_at (in_segment pod ad segment) kind)
 
 -- docs/DECISION_FILES.md: one of `breaks`, `withdraw` and `fallback`, and each of their members. RFC 8259: the bytes 91 and 93 are
 -- brackets; of a member that comes twice the last counts, and `serde_json` reads 127 levels, no number past the doubles and no lone
 -- surrogate
 abbrev pub FilesAreRead : Type 0
-FilesAreRead = Gives decisions_of ((
+FilesAreRead = HasValues decisions_of ((
   codes "{\"breaks\":[{\"id\":\"b\",\"ads\":[{\"map\":{\"uri\":\"http://a/i\",\"offset\":1,\"length\":9},\"key\":{\"method\":\"AES-128\",\"uri\":\"http://a/k\",\"iv\":\"0x1F\",\"format\":\"f\"},\"segments\":[{\"uri\":\"http://a/s\",\"duration\":\"9.5\",\"offset\":5,\"length\":100}]}]}]}",
   Ok (Breaks ((codes "b", pod (ad (segment 9500000000 ∷ []) ∷ [])) ∷ [])),
 )
@@ -351,7 +351,7 @@ FilesAreRead = Gives decisions_of ((
 
 -- their first faults, with their places
 abbrev pub BreaksAreChecked : Type 0
-BreaksAreChecked = Gives decisions_of (
+BreaksAreChecked = HasValues decisions_of (
     (codes "{\"breaks\":[{\"ads\":[]}]}", Err (fault_at (in_break 0) fault.Shape))
     ∷ (codes "{\"breaks\":[{\"id\":\"\",\"ads\":[]}]}", Err (fault_at (in_break 0) fault.Shape))
     ∷ (codes "{\"breaks\":[{\"id\":\"b\"}]}", Err (fault_at (in_break 0) fault.Shape))
@@ -375,7 +375,7 @@ with_ad text = codes "{\"breaks\":[{\"id\":\"b\",\"ads\":[" ++ (text ++ codes "]
 
 -- of two faults that in the map is told before that in the key, and this before those in the segments
 abbrev pub AdsAreChecked : Type 0
-AdsAreChecked = Gives (λ (text : List ℕ). decisions_of (with_ad text)) (
+AdsAreChecked = HasValues (λ (text : List ℕ). decisions_of (with_ad text)) (
     (codes "{\"map\":7}", Err (fault_at (in_ad 0 0) fault.Shape))
     ∷ (codes "{\"map\":null}", Err (fault_at (in_ad 0 0) fault.Shape))
     ∷ (codes "{\"segments\":[]}", Err (fault_at (in_ad 0 0) fault.EmptyPod))
@@ -413,18 +413,18 @@ AdsAreChecked = Gives (λ (text : List ℕ). decisions_of (with_ad text)) (
     ∷ (codes "{\"segments\":[{\"uri\":\"http://a\",\"duration\":\"1\",\"offset\":18446744073709551615,\"length\":1}]}", refused 0 0 0 fault.Shape) ∷ [])
 
 -- the segments of an ad, if so many stand in the ads before (J7)
-abbrev pub said_after : ℕ → Outcome (List PodSegment)
+abbrev pub said_after : ℕ → DecisionOutcome (List PodSegment)
 said_after before = json_of (codes "{\"segments\":[{\"uri\":\"http://a/s\",\"duration\":\"0.000000001\",\"offset\":5,\"length\":100}]}") >>= segments_said (in_ad 0 1) before
 
 abbrev pub SegmentsAreCounted : Type 0
-SegmentsAreCounted = Gives said_after ((most_of_a_pod - 1, Ok (segment 1 ∷ [])) ∷ (most_of_a_pod, Err (fault_at (in_segment 0 1 0) fault.TooMany)) ∷ [])
+SegmentsAreCounted = HasValues said_after ((most_of_a_pod - 1, Ok (segment 1 ∷ [])) ∷ (most_of_a_pod, Err (fault_at (in_segment 0 1 0) fault.TooMany)) ∷ [])
 
 -- an ad of two segments after these ads
-abbrev pub said_after_ads : List Ad → Outcome Ad
+abbrev pub said_after_ads : List Ad → DecisionOutcome Ad
 said_after_ads done = json_of (codes "{\"segments\":[{\"uri\":\"http://a/s\",\"duration\":\"0.000000001\",\"offset\":5,\"length\":100},{\"uri\":\"http://a/s\",\"duration\":\"0.000000002\",\"offset\":5,\"length\":100}]}") >>= next_ad (in_break 7) done
 
 abbrev pub AdsAreCounted : Type 0
-AdsAreCounted = Gives said_after_ads (
+AdsAreCounted = HasValues said_after_ads (
     (clear (replicate (most_of_a_pod - 2) (segment 1)) ∷ [], Ok (clear (segment 1 ∷ segment 2 ∷ [])))
     ∷ (clear (replicate (most_of_a_pod - 1) (segment 1)) ∷ [], Err (fault_at (in_segment 7 1 1) fault.TooMany))
     ∷ (clear (replicate most_of_a_pod (segment 1)) ∷ [], Err (fault_at (in_segment 7 1 0) fault.TooMany))
@@ -432,16 +432,16 @@ AdsAreCounted = Gives said_after_ads (
     ∷ (clear (segment 1 ∷ []) ∷ clear (segment 1 ∷ []) ∷ clear (segment 1 ∷ []) ∷ clear (segment 1 ∷ []) ∷ clear (replicate (most_of_a_pod - 5) (segment 1)) ∷ [], Err (fault_at (in_segment 7 5 1) fault.TooMany)) ∷ [])
 
 -- five segments after these
-abbrev pub said_five_after : ℕ → Outcome (List PodSegment)
+abbrev pub said_five_after : ℕ → DecisionOutcome (List PodSegment)
 said_five_after before = json_of (codes "{\"segments\":[{\"uri\":\"http://a/s\",\"duration\":\"0.000000001\",\"offset\":5,\"length\":100},{\"uri\":\"http://a/s\",\"duration\":\"0.000000002\",\"offset\":5,\"length\":100},{\"uri\":\"http://a/s\",\"duration\":\"0.000000003\",\"offset\":5,\"length\":100},{\"uri\":\"http://a/s\",\"duration\":\"0.000000004\",\"offset\":5,\"length\":100},{\"uri\":\"http://a/s\",\"duration\":\"0.000000005\",\"offset\":5,\"length\":100}]}") >>= segments_said (in_ad 0 1) before
 
 abbrev pub ManySegmentsAreCounted : Type 0
-ManySegmentsAreCounted = Gives said_five_after (
+ManySegmentsAreCounted = HasValues said_five_after (
     (most_of_a_pod - 5, Ok (segment 1 ∷ segment 2 ∷ segment 3 ∷ segment 4 ∷ segment 5 ∷ [])) ∷ (most_of_a_pod - 4, Err (fault_at (in_segment 0 1 4) fault.TooMany)) ∷ [])
 
 -- docs/OPERATING.md, "Faults"
 abbrev pub FaultsOfFilesAreTold : Type 0
-FaultsOfFilesAreTold = Gives fault_text (
+FaultsOfFilesAreTold = HasValues fault_text (
     (fault_at nowhere fault.NotJson, codes "J1 NotJson")
     ∷ (fault_at (in_break 1) fault.Shape, codes "J2 Shape break 1")
     ∷ (fault_at (in_segment 1 2 3) fault.BadUri, codes "J3 BadUri break 1 ad 2 segment 3")
@@ -456,4 +456,4 @@ FaultsOfFilesAreTold = Gives fault_text (
 
 -- memory that ran out is no fault of a place in the file
 abbrev pub LackOfMemoryHasNoPlace : Type 0
-LackOfMemoryHasNoPlace = Gives (λ (fault : DecisionFault). fault) ((no_memory, fault_at nowhere fault.OutOfMemory) ∷ [])
+LackOfMemoryHasNoPlace = HasValues (λ (fault : DecisionFault). fault) ((no_memory, fault_at nowhere fault.OutOfMemory) ∷ [])

@@ -5,15 +5,14 @@ use Rattle.playlist_model.specs.declared.Key.{Key}
 use Rattle.playlist_model.specs.declared.InitSection.{InitSection}
 use Rattle.playlist_model.specs.declared.KeyTag.{KeyTag}
 use Rattle.playlist_model.specs.declared.KeyTag.TheVariants.{End, Set}
-use Rattle.pod_store.specs.Marks.{Mark, Marked}
-use Rattle.stitcher.specs.Stitched.{Piece, Item, pod_pieces, fits}
+use Rattle.pod_store.specs.Marks.{Mark, Marked, mark_in}
+use Rattle.stitcher.specs.Stitched.{Piece, Item, pod_pieces, can_be_numbered}
 use Rattle.stitcher.specs.Paced.{due, due_list, rest_pieces}
-use Rattle.stitcher.specs.StitchedSegments.{mark_in}
 use Rattle.stitcher.specs.Written.{written_item}
 use Rattle.stitcher.specs.Making.{is_same_run}
 use Rattle.stitcher.specs.KeyTags.{transition}
 use Rattle.worked_examples.specs.Pods as pods
-use Rattle.worked_examples.specs.Tables.{Gives}
+use Rattle.worked_examples.specs.Tables.{HasValues}
 
 -- ---- what a pod is
 
@@ -51,7 +50,7 @@ of_second_ad = record {
 -- docs/DECISION_FILES.md: the segments of a pod stand in their order, each with its own byte range and its ad's keys and initialisation section,
 -- which has the ad's keys too (RFC 8216, 4.3.2.5)
 abbrev pub PodsStandInOrder : Type 0
-PodsStandInOrder = Gives pod_pieces ((two_ads, of_first_ad true 8 ∷ of_first_ad false 9 ∷ of_second_ad ∷ []) ∷ [])
+PodsStandInOrder = HasValues pod_pieces ((two_ads, of_first_ad true 8 ∷ of_first_ad false 9 ∷ of_second_ad ∷ []) ∷ [])
 
 -- a break of this ID with a pod of clear ads, each segment of which has this URI and lasts so long
 abbrev pub break : List ℕ → List (List (ℕ × ℕ)) → Mark
@@ -65,7 +64,7 @@ abbrev pub first_uris : List Piece → List ℕ
 first_uris pieces = map (λ (p : Piece). slice_index p.segment.uri 0) pieces
 
 abbrev pub LargePodsStand : Type 0
-LargePodsStand = Gives (λ (place : ℕ). first_uris (rest_pieces (Some (record { mark = large; place = place })))) (
+LargePodsStand = HasValues (λ (place : ℕ). first_uris (rest_pieces (Some (record { mark = large; place = place })))) (
     (0, 1008 ∷ 1007 ∷ 1006 ∷ 1005 ∷ 1004 ∷ 1003 ∷ 1002 ∷ 1001 ∷ 1000 ∷ []) ∷ (2, 1008 ∷ 1007 ∷ 1006 ∷ 1005 ∷ 1004 ∷ 1003 ∷ 1002 ∷ []) ∷ (9, []) ∷ [])
 
 abbrev pub of_format : List ℕ → ℕ → Key
@@ -83,12 +82,12 @@ keys_of_piece p = (p.segment.keys, p.segment.init_section)
 
 -- a segment of an ad has all of its keys, and its initialisation section has them
 abbrev pub AdsHaveTheirKeys : Type 0
-AdsHaveTheirKeys = Gives (λ (keys : List Key). map keys_of_piece (pod_pieces (under_keys keys))) (
+AdsHaveTheirKeys = HasValues (λ (keys : List Key). map keys_of_piece (pod_pieces (under_keys keys))) (
     ([], ([], Some (pods.init_section [])) ∷ []) ∷ (four_keys, (four_keys, Some (pods.init_section four_keys)) ∷ []) ∷ [])
 
 -- the rest of a pod from a place on, the newest first
 abbrev pub RestsAreLeft : Type 0
-RestsAreLeft = Gives (λ (place : ℕ). rest_pieces (Some (record { mark = two_ads; place = place }))) (
+RestsAreLeft = HasValues (λ (place : ℕ). rest_pieces (Some (record { mark = two_ads; place = place }))) (
     (0, of_second_ad ∷ of_first_ad false 9 ∷ of_first_ad true 8 ∷ []) ∷ (1, of_second_ad ∷ of_first_ad false 9 ∷ []) ∷ (3, []) ∷ [])
 
 -- ---- what stands in the list
@@ -111,7 +110,7 @@ c = break (codes "c") (((2000, 10) ∷ []) ∷ ((2001, 10) ∷ []) ∷ [])
 
 -- a segment goes on the run of the one before it if both have a mark, of one break
 abbrev pub RunsGoOn : Type 0
-RunsGoOn = Gives (λ (marks : Option (List ℕ) × Option (List ℕ)). is_same_run marks.0 marks.1) (
+RunsGoOn = HasValues (λ (marks : Option (List ℕ) × Option (List ℕ)). is_same_run marks.0 marks.1) (
     ((Some (codes "b"), Some (codes "b")), true)
     ∷ ((Some (codes "b"), Some (codes "c")), false)
     ∷ ((Some (codes "b"), None), false)
@@ -140,7 +139,7 @@ other n = marked (break (codes "b") (((3000, 10) ∷ []) ∷ [])) (stepped n 0 0
 -- discontinuity stands before each ad, and one where the origin comes back; else the origin's own (4.3.3.3). The newest
 -- segment of a history stands first
 abbrev pub RunsAreReplaced : Type 0
-RunsAreReplaced = Gives listed (
+RunsAreReplaced = HasValues listed (
     ((false, []), [])
     ∷ (
       (false, unmarked (stepped 2 0 0) ∷ marked b (stepped 1 0 0) ∷ unmarked (stepped 0 0 0) ∷ []),
@@ -201,7 +200,7 @@ due_of it = length (due it.0 (map (λ (nanos : ℕ). record of_second_ad { segme
 
 -- docs/CONFORMANCE.md: of an open run's pod the fewest segments, one at least, that last as long as the run
 abbrev pub PodsKeepPace : Type 0
-PodsKeepPace = Gives due_of (
+PodsKeepPace = HasValues due_of (
     ((0, 10 ∷ 20 ∷ 30 ∷ []), 1)
     ∷ ((10, 10 ∷ 20 ∷ 30 ∷ []), 1)
     ∷ ((11, 10 ∷ 20 ∷ 30 ∷ []), 2)
@@ -216,12 +215,12 @@ with_numbers media discontinuity = record { piece = of_second_ad; numbers = reco
 
 -- 4.2: a playlist states numbers below 2^64
 abbrev pub NumbersFit : Type 0
-NumbersFit = Gives fits (
+NumbersFit = HasValues can_be_numbered (
     (with_numbers 18446744073709551615 18446744073709551615, true) ∷ (with_numbers 18446744073709551616 0, false) ∷ (with_numbers 0 18446744073709551616, false) ∷ [])
 
 -- an item is written with its own numbers and instant
 abbrev pub ItemsAreWritten : Type 0
-ItemsAreWritten = Gives written_item ((
+ItemsAreWritten = HasValues written_item ((
   record { piece = record { segment = stepped 5 3 0; instant = Some (pos 9); mark = None; first_of_ad = false }; numbers = record { media_sequence = 8; discontinuity_sequence = 6; discontinuities = 1 } },
   record { segment = stepped 5 3 0; media_sequence = 8; discontinuity_sequence = 6; discontinuities = 1; program_date_time = Some (pos 9) },
 )
@@ -232,7 +231,7 @@ ItemsAreWritten = Gives written_item ((
 
 -- the mark of a break is the break with the pod that it has in the store
 abbrev pub MarksAreFound : Type 0
-MarksAreFound = Gives (mark_in (record pods.ab { entries = pods.unused (pods.long 98) 7 ∷ pods.ab.entries; fallback = Some (pods.short 9) })) (
+MarksAreFound = HasValues (mark_in (record pods.ab { entries = pods.unused (pods.long 98) 7 ∷ pods.ab.entries; fallback = Some (pods.short 9) })) (
     (None, None)
     ∷ (Some (pods.long 98), Some (record { id = pods.long 98; pod = pods.short 7 }))
     ∷ (Some (codes "a"), Some (record { id = codes "a"; pod = pods.short 1 }))
@@ -245,7 +244,7 @@ tags it = transition it.0 it.1
 
 -- RFC 8216, 4.3.2.4: a key is in force until another one of its format, or NONE, which ends all
 abbrev pub KeysChange : Type 0
-KeysChange = Gives tags (
+KeysChange = HasValues tags (
     (([], []), [])
     ∷ (([], of_format (codes "f") 1 ∷ []), Set (of_format (codes "f") 1) ∷ [])
     ∷ ((of_format (codes "f") 1 ∷ [], of_format (codes "f") 1 ∷ []), [])

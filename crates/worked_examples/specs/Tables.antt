@@ -2,5 +2,5 @@
 use Rattle.std.specs.Prelude.{◌≡◌, List, map}
 
 -- the definition gives the value of each row
-abbrev pub Gives : {A B : Type 0} → (A → B) → List (A × B) → Type 0
-Gives {A} {B} definition rows = map (λ (row : A × B). definition row.0) rows ≡ map (λ (row : A × B). row.1) rows
+abbrev pub HasValues : {A B : Type 0} → (A → B) → List (A × B) → Type 0
+HasValues {A} {B} definition rows = map (λ (row : A × B). definition row.0) rows ≡ map (λ (row : A × B). row.1) rows

@@ -8,11 +8,11 @@ use Rattle.attr_list.specs.Attributes.{Pair, is_value, attributes_of, attributes
 use Rattle.attr_list.specs.Numbers.{decimal_of, hex_of}
 use Rattle.date_times.specs.Instant.{instant_of}
 use Rattle.date_times.specs.Times.{time_text}
-use Rattle.worked_examples.specs.Tables.{Gives}
+use Rattle.worked_examples.specs.Tables.{HasValues}
 
 -- RFC 8216, 4.2 and 4.3.2.1: a decimal-floating-point number of seconds, here in nanoseconds and below 1,000,000 s
 abbrev pub DurationsAreRead : Type 0
-DurationsAreRead = Gives duration_of (
+DurationsAreRead = HasValues duration_of (
     (codes "10", Ok 10000000000)
     ∷ (codes "9.5", Ok 9500000000)
     ∷ (codes "0.000000001", Ok 1)
@@ -36,16 +36,16 @@ DurationsAreRead = Gives duration_of (
 
 -- the same written, with no zero at the end of a fraction
 abbrev pub DurationsAreWritten : Type 0
-DurationsAreWritten = Gives duration_text (
+DurationsAreWritten = HasValues duration_text (
     (0, codes "0") ∷ (10000000000, codes "10") ∷ (9500000000, codes "9.5") ∷ (1, codes "0.000000001") ∷ (12000000120, codes "12.00000012") ∷ (1000000000, codes "1") ∷ [])
 
 -- 4.3.3.1: EXTINF is rounded to the nearest integer
 abbrev pub DurationsAreRounded : Type 0
-DurationsAreRounded = Gives rounded_seconds_of (
+DurationsAreRounded = HasValues rounded_seconds_of (
     (9499999999, 9) ∷ (9500000000, 10) ∷ (10499999999, 10) ∷ (0, 0) ∷ (499999999, 0) ∷ (500000000, 1) ∷ [])
 
-abbrev pub plain : List ℕ → List ℕ → Pair
-plain name value = record { name = name; value = value; quoted = false }
+abbrev pub plain_pair : List ℕ → List ℕ → Pair
+plain_pair name value = record { name = name; value = value; quoted = false }
 
 -- 45 times `A`
 abbrev pub letters : List ℕ
@@ -56,9 +56,9 @@ in_quotes name value = record { name = name; value = value; quoted = true }
 
 -- 4.2: pairs of AttributeName=AttributeValue, separated by commas and with no whitespace; a name stands once
 abbrev pub AttributesAreRead : Type 0
-AttributesAreRead = Gives (attributes_of None) (
-    (codes "A=1,B-2=\"x, y\",C=\"\"", Ok (plain (codes "A") (codes "1") ∷ in_quotes (codes "B-2") (codes "x, y") ∷ in_quotes (codes "C") [] ∷ []))
-    ∷ (codes "A=0x1F=", Ok (plain (codes "A") (codes "0x1F=") ∷ []))
+AttributesAreRead = HasValues (attributes_of None) (
+    (codes "A=1,B-2=\"x, y\",C=\"\"", Ok (plain_pair (codes "A") (codes "1") ∷ in_quotes (codes "B-2") (codes "x, y") ∷ in_quotes (codes "C") [] ∷ []))
+    ∷ (codes "A=0x1F=", Ok (plain_pair (codes "A") (codes "0x1F=") ∷ []))
     ∷ (codes "", Err BadName)
     ∷ (codes "a=1", Err BadName)
     ∷ (codes "A=1,", Err BadName)
@@ -70,20 +70,20 @@ AttributesAreRead = Gives (attributes_of None) (
     ∷ (codes "A=\"1\"2", Err BadValue)
     ∷ (codes "A=\"1", Err OpenQuote)
     ∷ (codes "A=1,A=2", Err Twice)
-    ∷ (codes "A=1,B=2,C=3,D=4,E=5", Ok (plain (codes "A") (codes "1") ∷ plain (codes "B") (codes "2") ∷ plain (codes "C") (codes "3") ∷ plain (codes "D") (codes "4") ∷ plain (codes "E") (codes "5") ∷ []))
+    ∷ (codes "A=1,B=2,C=3,D=4,E=5", Ok (plain_pair (codes "A") (codes "1") ∷ plain_pair (codes "B") (codes "2") ∷ plain_pair (codes "C") (codes "3") ∷ plain_pair (codes "D") (codes "4") ∷ plain_pair (codes "E") (codes "5") ∷ []))
     ∷ (codes "A=1,B=2,C=3,D=4,D=5", Err Twice)
-    ∷ (letters ++ codes "=1", Ok (plain letters (codes "1") ∷ []))
+    ∷ (letters ++ codes "=1", Ok (plain_pair letters (codes "1") ∷ []))
     ∷ (letters ++ codes "=\"1\"", Ok (in_quotes letters (codes "1") ∷ []))
     ∷ (letters ++ codes "a=1", Err BadName)
     ∷ (letters ++ (codes "=1," ++ (letters ++ codes "=2")), Err Twice)
-    ∷ (codes "A=" ++ letters, Ok (plain (codes "A") letters ∷ []))
+    ∷ (codes "A=" ++ letters, Ok (plain_pair (codes "A") letters ∷ []))
     ∷ (codes "A=" ++ (letters ++ codes "\""), Err BadValue)
     ∷ (codes "A=\"" ++ (letters ++ codes "\""), Ok (in_quotes (codes "A") letters ∷ []))
     ∷ (codes "A=\"" ++ (letters ++ codes "\"2"), Err BadValue) ∷ [])
 
 -- of two faults of a pair that comes first: too many, its name, its `=`, its name once more, its value
 abbrev pub PairFaultsAreOrdered : Type 0
-PairFaultsAreOrdered = Gives (attributes_of (Some 2)) (
+PairFaultsAreOrdered = HasValues (attributes_of (Some 2)) (
     (codes "A=1,B=2,c", Err TooMany)
     ∷ (codes "A=1,B=2,A=", Err TooMany)
     ∷ (codes "a", Err BadName)
@@ -94,14 +94,14 @@ PairFaultsAreOrdered = Gives (attributes_of (Some 2)) (
 
 -- of at most so many
 abbrev pub AttributesAreLimited : Type 0
-AttributesAreLimited = Gives (attributes_of (Some 4)) (
-    (codes "A=1,B=2", Ok (plain (codes "A") (codes "1") ∷ plain (codes "B") (codes "2") ∷ []))
-    ∷ (codes "A=1,B=2,C=3,D=4", Ok (plain (codes "A") (codes "1") ∷ plain (codes "B") (codes "2") ∷ plain (codes "C") (codes "3") ∷ plain (codes "D") (codes "4") ∷ []))
+AttributesAreLimited = HasValues (attributes_of (Some 4)) (
+    (codes "A=1,B=2", Ok (plain_pair (codes "A") (codes "1") ∷ plain_pair (codes "B") (codes "2") ∷ []))
+    ∷ (codes "A=1,B=2,C=3,D=4", Ok (plain_pair (codes "A") (codes "1") ∷ plain_pair (codes "B") (codes "2") ∷ plain_pair (codes "C") (codes "3") ∷ plain_pair (codes "D") (codes "4") ∷ []))
     ∷ (codes "A=1,B=2,C=3,D=4,E=5", Err TooMany) ∷ [])
 
 -- whether a text can be a value, between quotes or without: no quote between them; else not empty, and no comma, quote or space
 abbrev pub ValuesAreChecked : Type 0
-ValuesAreChecked = Gives (λ (it : Bool × List ℕ). is_value it.0 it.1) (
+ValuesAreChecked = HasValues (λ (it : Bool × List ℕ). is_value it.0 it.1) (
     ((true, []), true)
     ∷ ((true, codes "1, 2"), true)
     ∷ ((true, codes "1\"2"), false)
@@ -115,15 +115,15 @@ ValuesAreChecked = Gives (λ (it : Bool × List ℕ). is_value it.0 it.1) (
     ∷ ((false, letters ++ codes ","), false) ∷ [])
 
 abbrev pub AttributesAreWritten : Type 0
-AttributesAreWritten = Gives attributes_text (
+AttributesAreWritten = HasValues attributes_text (
     ([], [])
-    ∷ (plain (codes "A") (codes "1") ∷ in_quotes (codes "B") (codes "x, y") ∷ [], codes "A=1,B=\"x, y\"")
-    ∷ (plain (codes "A") (codes "1") ∷ plain (codes "B") (codes "2") ∷ plain (codes "C") (codes "3") ∷ plain (codes "D") letters ∷ [], codes "A=1,B=2,C=3,D=" ++ letters)
+    ∷ (plain_pair (codes "A") (codes "1") ∷ in_quotes (codes "B") (codes "x, y") ∷ [], codes "A=1,B=\"x, y\"")
+    ∷ (plain_pair (codes "A") (codes "1") ∷ plain_pair (codes "B") (codes "2") ∷ plain_pair (codes "C") (codes "3") ∷ plain_pair (codes "D") letters ∷ [], codes "A=1,B=2,C=3,D=" ++ letters)
     ∷ (in_quotes (codes "A") letters ∷ [], codes "A=\"" ++ (letters ++ codes "\"")) ∷ [])
 
 -- 4.2: decimal-integer, from 0 to 2^64-1, of 1 to 20 digits
 abbrev pub DecimalsAreRead : Type 0
-DecimalsAreRead = Gives decimal_of (
+DecimalsAreRead = HasValues decimal_of (
     (codes "0", Some 0)
     ∷ (codes "00000000000000000012", Some 12)
     ∷ (codes "000000000000000000012", None)
@@ -135,7 +135,7 @@ DecimalsAreRead = Gives decimal_of (
 
 -- 4.2: hexadecimal-sequence; an IV has 128 bits (4.3.2.4)
 abbrev pub SequencesAreRead : Type 0
-SequencesAreRead = Gives hex_of (
+SequencesAreRead = HasValues hex_of (
     (codes "0x1F", Some 31)
     ∷ (codes "0Xff", Some 255)
     ∷ (codes "0xffffffffffffffffffffffffffffffff", Some (2 ^ 128 - 1))
@@ -152,7 +152,7 @@ SequencesAreRead = Gives hex_of (
 
 -- 4.3.2.6: a date and time of ISO 8601, here in nanoseconds from 1970 on, of the years 1900 to 2199
 abbrev pub InstantsAreRead : Type 0
-InstantsAreRead = Gives instant_of (
+InstantsAreRead = HasValues instant_of (
     (codes "1970-01-01T00:00:00Z", Some (pos 0))
     ∷ (codes "1969-12-31T23:59:59.5Z", Some (negsuc 499999999))
     ∷ (codes "2024-05-01T12:00:00.000000001Z", Some (pos 1714564800000000001))
@@ -193,12 +193,12 @@ InstantsAreRead = Gives instant_of (
 
 -- April, June, September and November have 30 days
 abbrev pub MonthsEnd : Type 0
-MonthsEnd = Gives instant_of (
+MonthsEnd = HasValues instant_of (
     (codes "2024-04-31T00:00:00Z", None) ∷ (codes "2024-06-31T00:00:00Z", None) ∷ (codes "2024-09-31T00:00:00Z", None) ∷ [])
 
 -- each place of the form has its digit or its sign
 abbrev pub FormsAreChecked : Type 0
-FormsAreChecked = Gives instant_of (
+FormsAreChecked = HasValues instant_of (
     (codes "2024-05-01T12:00:0", None)
     ∷ (codes "202a-05-01T12:00:00Z", None)
     ∷ (codes "2024-0a-01T12:00:00Z", None)
@@ -218,7 +218,7 @@ FormsAreChecked = Gives instant_of (
 
 -- `Z` alone, or `hh:mm`, `hhmm` or `hh` after a sign
 abbrev pub OffsetsAreRead : Type 0
-OffsetsAreRead = Gives instant_of (
+OffsetsAreRead = HasValues instant_of (
     (codes "2024-05-01T12:00:00+23:00", Some (pos 1714482000000000000))
     ∷ (codes "2024-05-01T12:00:00+00:59", Some (pos 1714561260000000000))
     ∷ (codes "2024-05-01T12:00:00Z0", None)
@@ -235,7 +235,7 @@ OffsetsAreRead = Gives instant_of (
 
 -- in UTC, with three decimals, or nine if three would lose something
 abbrev pub InstantsAreWritten : Type 0
-InstantsAreWritten = Gives time_text (
+InstantsAreWritten = HasValues time_text (
     (pos 1714564800000000000, codes "2024-05-01T12:00:00.000Z")
     ∷ (pos 1714564810250000000, codes "2024-05-01T12:00:10.250Z")
     ∷ (pos 1714564810250000001, codes "2024-05-01T12:00:10.250000001Z")

@@ -12,7 +12,7 @@ use Rattle.playlist_write.specs.declared.OutPlaylist.{OutPlaylist}
 use Rattle.worked_examples.specs.Playlists.{text, identity}
 use Rattle.playlist_model.specs.declared.InitSection.{InitSection}
 use Rattle.worked_examples.specs.Pods.{long}
-use Rattle.worked_examples.specs.Tables.{Gives}
+use Rattle.worked_examples.specs.Tables.{HasValues}
 
 abbrev pub drm : Key
 drm = record { format = codes "f"; method = codes "SAMPLE-AES"; uri = codes "skd://k"; iv = None; other_attributes = codes ",KEYFORMATVERSIONS=\"1\"" }
@@ -37,7 +37,7 @@ four_key_lines = long_key_line 97 ∷ long_key_line 98 ∷ long_key_line 99 ∷ 
 
 -- RFC 8216, 4.1 and 4.3: one line each
 abbrev pub LinesAreSpelled : Type 0
-LinesAreSpelled = Gives spelled (
+LinesAreSpelled = HasValues spelled (
     (nothing, [])
     ∷ (version 6, codes "#EXT-X-VERSION:6")
     ∷ (target 10, codes "#EXT-X-TARGETDURATION:10")
@@ -80,7 +80,7 @@ nobody = record { version = 6; target_duration = 10; playlist_type = None; indep
 -- own EXT-X-DISCONTINUITY (4.3.3.3), an initialisation section has a line where it changes, under its keys (4.3.2.5), and a key where it
 -- changes (4.3.2.4)
 abbrev pub PlaylistsAreWritten : Type 0
-PlaylistsAreWritten = Gives playlist_text ((
+PlaylistsAreWritten = HasValues playlist_text ((
   record {
     version = 6;
     target_duration = 10;
@@ -129,13 +129,13 @@ out s = record { segment = s; media_sequence = 5; discontinuity_sequence = 6; di
 
 -- 4.3.2.4 and 4.3.2.5: the keys of the last segment, and the last initialisation section that a segment has
 abbrev pub WrittenLinesAreInForce : Type 0
-WrittenLinesAreInForce = Gives (after_segments none_yet) (
+WrittenLinesAreInForce = HasValues (after_segments none_yet) (
     ([], record { keys = []; init_section = None })
     ∷ (out first ∷ [], record { keys = first.keys; init_section = first.init_section })
     ∷ (out first ∷ out (record first { keys = []; init_section = None }) ∷ [], record { keys = []; init_section = first.init_section }) ∷ [])
 
 abbrev pub WrittenTextsTellWhatIsInForce : Type 0
-WrittenTextsTellWhatIsInForce = Gives current_of ((
+WrittenTextsTellWhatIsInForce = HasValues current_of ((
   record { text = codes "x"; from = 0; till = 1; count = 1; keys = first.keys; init_section = first.init_section },
   record { keys = first.keys; init_section = first.init_section },
 ) ∷ [])
@@ -166,7 +166,7 @@ its_lines = codes "#EXTINF:10," ∷ (codes "a:" ++ long 98) ∷ []
 
 -- five date ranges and six segments: under five keys, four, which takes an end of all, and five again, with two initialisation sections
 abbrev pub LargePlaylistsAreWritten : Type 0
-LargePlaylistsAreWritten = Gives playlist_text ((
+LargePlaylistsAreWritten = HasValues playlist_text ((
   large,
   text (
       (codes "#EXTM3U" ∷ codes "#EXT-X-VERSION:6" ∷ codes "#EXT-X-TARGETDURATION:10" ∷ codes "#EXT-X-MEDIA-SEQUENCE:7" ∷ codes "#EXT-X-DISCONTINUITY-SEQUENCE:0" ∷ [])
@@ -180,6 +180,6 @@ LargePlaylistsAreWritten = Gives playlist_text ((
 ) ∷ [])
 
 abbrev pub LargeListsAreInForce : Type 0
-LargeListsAreInForce = Gives (after_segments none_yet) (
+LargeListsAreInForce = HasValues (after_segments none_yet) (
     (large.segments, record { keys = five_keys; init_section = other })
     ∷ (large.segments ++ plain_out (under four_keys one) ∷ [], record { keys = four_keys; init_section = one }) ∷ [])

@@ -4,7 +4,7 @@ use Rattle.std.specs.Prelude.{◌≡◌, ℕ, Bool, true, false, not, List, [], 
 use Rattle.spec_words.specs.Bytes.{equals}
 use Rattle.attr_list.specs.declared.AttrFault.{AttrFault}
 use Rattle.attr_list.specs.declared.AttrFault.TheVariants.{BadName, NoEquals}
-use Rattle.attr_list.specs.Attributes.{Pair, is_comma, is_quote, is_name, is_value, is_pair, pair_spelling, piece_name, has_equals, value_spelling, value_of}
+use Rattle.attr_list.specs.Attributes.{Pair, is_comma, is_quote, is_name, is_value, is_pair, pair_spelling, piece_name, has_equals, value_spelling, pair_of_value}
 
 -- a pair may end before this text: it is empty or begins with a comma
 abbrev pub ends_pair : List ℕ → Bool
@@ -16,8 +16,8 @@ begins_quoted [] = false
 begins_quoted (b ∷ bytes) = is_quote b
 
 -- the text is a name, `=` and the rest
-abbrev pub IsNamed : List ℕ → List ℕ → List ℕ → Type 0
-IsNamed text name rest = IsTrue (is_name name) × (text ≡ name ++ equals ∷ rest)
+abbrev pub StartsWithName : List ℕ → List ℕ → List ℕ → Type 0
+StartsWithName text name rest = IsTrue (is_name name) × (text ≡ name ++ equals ∷ rest)
 
 -- what is wrong with a piece before its value
 abbrev pub name_fault : List ℕ → Option AttrFault
@@ -32,7 +32,7 @@ IsValued text quoted value after =
 
 -- no value begins the text, and this is why
 abbrev pub HasValueFault : List ℕ → AttrFault → Type 0
-HasValueFault text fault = (name : List ℕ) → value_of name (first_piece text) ≡ Err fault
+HasValueFault text fault = (name : List ℕ) → pair_of_value name (first_piece text) ≡ Err fault
 
 -- the text is a pair's spelling and what follows it
 pub record StartsWithPair (text : List ℕ) (pair : Pair) (after : List ℕ) : Type 0 where

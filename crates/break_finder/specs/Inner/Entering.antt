@@ -1,8 +1,8 @@
 -- What proofs and inner functions say with the definitions of `Entering`.
-use Rattle.break_finder.specs.Entering.{is_inside, EntryLimits, entered, mark_of}
+use Rattle.break_finder.specs.Entering.{is_inside, EntryLimits, entered}
 use Rattle.std.specs.Prelude.{List, ℤ, Option, Some, None, if◌then◌else◌}
 use Rattle.playlist_model.specs.LookBack.{or_earlier}
-use Rattle.pod_store.specs.Marks.{Mark}
+use Rattle.pod_store.specs.Marks.{Mark, mark_in}
 use Rattle.pod_store.specs.Store.{Store}
 use Rattle.break_finder.specs.Breaks.{Break}
 
@@ -16,4 +16,4 @@ continued m breaks instant (Some mark) = if is_inside breaks mark.id instant m.t
 -- a segment's mark, from that of the segment before
 abbrev pub next_mark : EntryLimits → Store → List Break → Option ℤ → Option Mark → Option Mark
 next_mark m store breaks instant before =
-    or_earlier (continued m breaks instant before) (mark_of store (entered m store breaks instant))
+    or_earlier (continued m breaks instant before) (mark_in store (entered m store breaks instant))

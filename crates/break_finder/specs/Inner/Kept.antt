@@ -6,14 +6,14 @@ use Rattle.break_finder.specs.Breaks.{nothing_said}
 use Rattle.pod_store.specs.Store.{is_one_of}
 use Rattle.break_finder.specs.Known.{is_this}
 
-abbrev pub Pairs : Type 0
-Pairs = List (List ℕ × Described)
+abbrev pub BreaksById : Type 0
+BreaksById = List (List ℕ × Described)
 
-abbrev pub is_key : List ℕ → List ℕ → Bool
-is_key id key = bytes_eq id key
+abbrev pub is_break_key : List ℕ → List ℕ → Bool
+is_break_key id key = bytes_eq id key
 
-abbrev pub kept_for : List ℕ → Pairs → Option Described
-kept_for id kept = lookup (is_key id) kept
+abbrev pub break_kept_for : List ℕ → BreaksById → Option Described
+break_kept_for id kept = lookup (is_break_key id) kept
 
 abbrev pub said_or_nothing : Option Described → Described
 said_or_nothing None = nothing_said

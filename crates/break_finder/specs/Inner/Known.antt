@@ -1,11 +1,11 @@
 -- What proofs and inner functions say with the definitions of `Known`.
-use Rattle.break_finder.specs.Known.{Accepted, stands_in, break_said}
+use Rattle.break_finder.specs.Known.{Accepted, is_tagged_or_carried, break_said}
 use Rattle.std.specs.Prelude.{◌≡◌, ℕ, Bool, List, [], ◌∷◌, filter, fold, Option, bytes_eq, if◌then◌else◌}
 use Rattle.playlist_model.specs.declared.DateRange.{DateRange}
 use Rattle.break_finder.specs.Breaks.{Break, and_tag}
 
 abbrev pub break_stands : List DateRange → Option (List ℕ) → Break → Bool
-break_stands date_ranges carried b = stands_in date_ranges carried b.id
+break_stands date_ranges carried b = is_tagged_or_carried date_ranges carried b.id
 
 -- ---- the same, tag by tag
 
@@ -21,8 +21,8 @@ walked refresh breaks = fold with_tag (filter (break_stands refresh.playlist.dat
 -- ---- tags that say nothing new
 
 -- there is one tag for each break, in their order, which says nothing of it that isn't said already
-abbrev pub AreSaid : List Break → List DateRange → Type 0
-AreSaid [] [] = Unit {0}
-AreSaid [] (tag ∷ tags) = ⊥
-AreSaid (b ∷ breaks) [] = ⊥
-AreSaid (b ∷ breaks) (tag ∷ tags) = (b.id ≡ tag.id) × (and_tag b.said tag ≡ b.said) × AreSaid breaks tags
+abbrev pub TagsSayNothingNew : List Break → List DateRange → Type 0
+TagsSayNothingNew [] [] = Unit {0}
+TagsSayNothingNew [] (tag ∷ tags) = ⊥
+TagsSayNothingNew (b ∷ breaks) [] = ⊥
+TagsSayNothingNew (b ∷ breaks) (tag ∷ tags) = (b.id ≡ tag.id) × (and_tag b.said tag ≡ b.said) × TagsSayNothingNew breaks tags

@@ -34,7 +34,7 @@ is_among (Some times) None = false
 is_among (Some times) (Some instant) = is_within times.from times.to instant
 
 -- the terms are those of the run; its break, if any, is the last one entered; and no break is entered after that at the quiet instants
-pub record IsRun (m : Moment) (run : Run) : Type 0 where
+pub record HasItsTerms (m : Moment) (run : Run) : Type 0 where
   pub terms : AreTerms m run.before run.terms
   pub entered : or_earlier run.before run.entered ≡ run.entered
   pub quiet : (instant : Option ℤ) → is_among run.quiet instant ≡ true → entering.entered (limits m run.entered) m.store m.breaks instant ≡ None

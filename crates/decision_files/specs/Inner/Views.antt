@@ -2,5 +2,5 @@
 use Rattle.decision_files.specs.declared.keys.Part.{Part}
 use Rattle.decision_files.specs.Decided as said
 
-abbrev pub part_of : Part → said.Part
-part_of part = (part.uri, part.byte_range)
+abbrev pub view_of_part : Part → said.Part
+view_of_part part = (part.uri, part.byte_range)

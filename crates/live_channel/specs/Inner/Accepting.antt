@@ -5,7 +5,7 @@ use Rattle.playlist_model.specs.declared.Playlist.{Playlist}
 use Rattle.channel_spec.specs.declared.heading.Heading.{Heading}
 use Rattle.playlist_model.specs.LookBack.{or_earlier}
 use Rattle.pod_store.specs.Marks.{Marked}
-use Rattle.stitcher.specs.Stitched.{Item, fits}
+use Rattle.stitcher.specs.Stitched.{Item, can_be_numbered}
 use Rattle.pod_store.specs.Store.{kept_in_use}
 use Rattle.pod_store.specs.Inner.Store.{NameTheSame}
 use Rattle.stitcher.specs.StitchedSegments.{AreDecided, KnowRuns, rest_in}
@@ -31,7 +31,7 @@ use Rattle.channel_spec.specs.Kept.{Kept, kept_succession, shown_from, head_numb
 use Rattle.live_channel.specs.declared.next.NextState.{NextState}
 use Rattle.live_channel.specs.declared.next.NextWindow.{NextWindow}
 use Rattle.live_channel.specs.declared.next.ShownRefresh.{ShownRefresh}
-use Rattle.channel_window.specs.Marking.{so_far}
+use Rattle.channel_window.specs.Marking.{history_in}
 use Rattle.channel_window.specs.Showing.{AreKept, IsLastEntered, kept_before, kept_in}
 use Rattle.channel_window.specs.Listed.{AreRising, IsRestDecided, RisesOn, segments_in}
 use Rattle.channel_window.specs.ListEnd.{IsEndingOf, IsLastEnding}
@@ -53,10 +53,10 @@ text_with_window p breaks window = playlist_text (out_playlist p (map date_range
 -- what a channel comes to if these breaks are known, and these segments are shown, which mean this list, the newest run of which
 -- has lasted so long, and so many of which weren't shown before: each number of the stitched list fits
 pub record IsNext (kept : Kept) (p : Playlist) (known : List Break) (held : List Held) (list : List Marked) (so_long fresh : ℕ) (next : NextState) : Type 0 where
-  pub fit : list_all fits (items_on kept p list so_long) ≡ true
+  pub fit : list_all can_be_numbered (items_on kept p list so_long) ≡ true
   pub within : next.gone ≤ length held
   pub breaks : next.shown.knowledge ≡ known
-  pub shown : so_far kept.store (drop next.gone held) ≡ shown_from (first_number p.segments) list
+  pub shown : history_in kept.store (drop next.gone held) ≡ shown_from (first_number p.segments) list
   pub decided : AreDecided kept.store (drop next.gone held)
   pub runs : KnowRuns None (drop next.gone held)
   pub entered : next.shown.entered ≡ or_earlier (last_entered list) kept.entered
@@ -73,7 +73,7 @@ pub record IsNext (kept : Kept) (p : Playlist) (known : List Break) (held : List
 -- the window of the stitched list of these segments, the newest run of which has lasted so long: its text is written, and each number
 -- of the list fits
 pub record IsWindow (kept : Kept) (p : Playlist) (list : List Marked) (so_long : ℕ) (w : NextWindow) : Type 0 where
-  pub fit : list_all fits (items_on kept p list so_long) ≡ true
+  pub fit : list_all can_be_numbered (items_on kept p list so_long) ≡ true
   pub in_use : NameTheSame w.in_use.items (breaks_after kept p list)
   pub numbers : w.numbers ≡ head_numbers (window_on kept p list so_long)
   pub count : w.count ≡ length (window_on kept p list so_long)
@@ -86,18 +86,18 @@ pub record IsWindow (kept : Kept) (p : Playlist) (list : List Marked) (so_long :
 -- what holds when the window of these segments is to be written: some of them stood in the last text, this break was entered last, and the
 -- newest run has lasted so long
 pub record IsReady (state : ChannelState) (written : Option WrittenText) (p : Playlist) (held : List Held) (entered : Option (List ℕ)) (lasted : ℕ) : Type 0 where
-  pub stood : StoodIn (kept_in state) (items_on (kept_in state) p (so_far state.store held) lasted) written
+  pub stood : StoodIn (kept_in state) (items_on (kept_in state) p (history_in state.store held) lasted) written
   pub stands : take (length state.list) held ≡ state.list
   pub decided : AreDecided state.store held
   pub runs : KnowRuns None held
   pub rising : AreRising held
-  pub entered_is : entered ≡ or_earlier (last_entered (so_far state.store held)) state.shown.entered
+  pub entered_is : entered ≡ or_earlier (last_entered (history_in state.store held)) state.shown.entered
   pub rest : IsRestDecided state.store state.shown.rest
   pub ending : IsLastEnding (kept_in state) state.shown.ending
 
 -- the same of a refresh whose segments are shown
 abbrev pub refresh_shown : ShownRefresh → List Marked
-refresh_shown r = so_far (kept_before r.before.now).store r.list.now
+refresh_shown r = history_in (kept_before r.before.now).store r.list.now
 
 abbrev pub refresh_items : ShownRefresh → List Item
 refresh_items r = items_on (kept_in (kept_before r.before.now)) (playlist_in r.read.now) (refresh_shown r) r.lasted
@@ -116,7 +116,7 @@ IsAccepted tolerance kept p held next =
 -- ---- a refresh, from its bytes on
 
 -- the playlist may follow the last one, and no number passes its range
-pub record Follows (tolerance : ℕ) (kept : Kept) (p : Playlist) (held : List Held) (next : NextState) : Type 0 where
+pub record FollowsLastPlaylist (tolerance : ℕ) (kept : Kept) (p : Playlist) (held : List Held) (next : NextState) : Type 0 where
   pub succeeds : kept_succession kept p ≡ None
   pub accepted : IsAccepted tolerance kept p held next
 
@@ -125,15 +125,10 @@ abbrev pub RisesNext : ChannelState → Playlist → Type 0
 RisesNext state p = kept_succession (kept_in state) p ≡ None → RisesOn state.list p.segments
 
 -- the bytes are read as this playlist
-pub record IsRead (base : Parts) (bytes : List ℕ) (p : Playlist) : Type 0 where
+pub record BytesAreReadAs (base : Parts) (bytes : List ℕ) (p : Playlist) : Type 0 where
   pub read : reading limited base bytes ≡ Ok p
   pub texts : list_all uris_are_text p.segments ≡ true
   pub numbers : AreContiguous p.segments
-
--- some bytes are
-pub record WasRead (base : Parts) (p : Playlist) : Type 0 where
-  pub bytes : List ℕ
-  pub is_read : IsRead base bytes p
 
 -- the fault is the one that is owed, a failed allocation apart
 abbrev pub RefusesNext : RefreshFault → Option RefreshFault → Type 0
@@ -176,7 +171,7 @@ HasGrown old new = (come : List Held) × (new ≡ record old { list = old.list +
 pub record Accepts (tolerance : ℕ) (old : ChannelState) (p : Playlist) (new : ChannelState) (written : Option WrittenText) (done : Refreshed) : Type 0 where
   pub held : List Held
   pub next : NextState
-  pub follows : Follows tolerance (kept_in old) p held next
+  pub follows : FollowsLastPlaylist tolerance (kept_in old) p held next
   pub state_is : new ≡ accepted_state (record old { list = held }) p next
   pub written_is : written ≡ Some next.written
   pub done_is : done ≡ next.refreshed

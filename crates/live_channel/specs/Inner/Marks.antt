@@ -3,16 +3,16 @@ use Rattle.std.specs.Prelude.{◌≡◌, ℕ, true, nat_le, List, [], ◌∷◌,
 use Rattle.stitcher.specs.declared.marked.MarkedSegment.{MarkedSegment}
 use Rattle.stitcher.specs.declared.ends.Rest.{Rest}
 use Rattle.pod_store.specs.Store.{is_one_of}
-use Rattle.channel_spec.specs.Live.{ids_in}
+use Rattle.channel_spec.specs.Live.{ids_of_option}
 
 -- the break of this mark, if there is one, is one of these
-abbrev pub IsNamed : List (List ℕ) → Option (List ℕ) → Type 0
-IsNamed marks None = Unit {0}
-IsNamed marks (Some id) = is_one_of marks id ≡ true
+abbrev pub IsAmongMarks : List (List ℕ) → Option (List ℕ) → Type 0
+IsAmongMarks marks None = Unit {0}
+IsAmongMarks marks (Some id) = is_one_of marks id ≡ true
 
 -- the break that marks a segment, if it is numbered from this number on
 abbrev pub mark_held : ℕ → MarkedSegment → List (List ℕ)
-mark_held first m = if nat_le first m.segment.media_sequence then ids_in m.mark else []
+mark_held first m = if nat_le first m.segment.media_sequence then ids_of_option m.mark else []
 
 -- the breaks that mark the segments from a number on, the oldest first
 abbrev pub marks_held : ℕ → List MarkedSegment → List (List ℕ)
@@ -21,7 +21,7 @@ marks_held first (m ∷ later) = mark_held first m ++ marks_held first later
 
 -- and then this one, which was entered last
 abbrev pub marks_and_last : ℕ → List MarkedSegment → Option (List ℕ) → List (List ℕ)
-marks_and_last first held last = marks_held first held ++ ids_in last
+marks_and_last first held last = marks_held first held ++ ids_of_option last
 
 abbrev pub rest_held : Option Rest → List (List ℕ)
 rest_held None = []

@@ -4,9 +4,9 @@ use Rattle.playlist_model.specs.declared.FaultKind.{FaultKind}
 use Rattle.playlist_model.specs.declared.FaultKind.TheVariants.{OutOfMemory}
 use Rattle.playlist_model.specs.Reading.{Fault}
 
-abbrev pub line_of : FaultKind → ℕ → ℕ
-line_of OutOfMemory line = 0
-line_of _ line = line
+abbrev pub line_of_fault : FaultKind → ℕ → ℕ
+line_of_fault OutOfMemory line = 0
+line_of_fault _ line = line
 
 abbrev pub fault_at : FaultKind → ℕ → Fault
-fault_at kind line = record { kind = kind; line = line_of kind line }
+fault_at kind line = record { kind = kind; line = line_of_fault kind line }

@@ -6,14 +6,14 @@ use Rattle.playlist_model.specs.Said.{date_range, date_range_said}
 use Rattle.playlist_model.specs.Reading.{limited}
 
 -- the date range is what its attributes say
-abbrev pub IsSaid : DateRange → Type 0
-IsSaid one = date_range_said limited one.attributes ≡ Ok (date_range one)
+abbrev pub IsSaidByAttributes : DateRange → Type 0
+IsSaidByAttributes one = date_range_said limited one.attributes ≡ Ok (date_range one)
 
-abbrev pub AreSaid : List DateRange → Type 0
-AreSaid list = AllByRecursion IsSaid list
+abbrev pub AreSaidByAttributes : List DateRange → Type 0
+AreSaidByAttributes list = AllByRecursion IsSaidByAttributes list
 
 -- the one at this place has these attributes
-pub record StandsAt (list : List DateRange) (place : ℕ) (rest : List ℕ) : Type 0 where
+pub record HasAttributesAt (list : List DateRange) (place : ℕ) (rest : List ℕ) : Type 0 where
   pub one : DateRange
   pub here : slice_get list place ≡ Some one
   pub same : one.attributes ≡ rest

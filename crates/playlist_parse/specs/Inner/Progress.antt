@@ -7,7 +7,7 @@ use Rattle.playlist_model.specs.declared.FaultKind.TheVariants.{OutOfMemory, NoT
 use Rattle.playlist_model.specs.declared.DateRange.{DateRange}
 use Rattle.playlist_model.specs.declared.Segment.{Segment}
 use Rattle.playlist_model.specs.declared.Playlist.{Playlist}
-use Rattle.playlist_model.specs.Refusals.{Refuses}
+use Rattle.playlist_model.specs.Refusals.{RefusesByPlaylistFault}
 use Rattle.playlist_model.specs.Said.{Said, Name, Outcome}
 use Rattle.playlist_model.specs.LookBack.{Standing, standing_at, segments_of, date_ranges_of, with_said}
 use Rattle.playlist_model.specs.Lines.{has_control}
@@ -42,7 +42,7 @@ TakesLine outcome old new result =
     (before : List Said) → old ≡ progress_at old.base before →
     MatchResult result
     (λ _. IsOk (outcome old.base before) × (new ≡ progress_at old.base (with_said before (outcome old.base before))))
-    (λ e. Refuses e (outcome old.base before))
+    (λ e. RefusesByPlaylistFault e (outcome old.base before))
 
 -- the same of the tag of this name, with this after its colon
 abbrev pub TakesTag : Name → List ℕ → Progress → Progress → Result (Unit {0}) FaultKind → Type 0
@@ -88,7 +88,7 @@ playlist_from p target = record {
 }
 
 -- the whole text's own fault, a failed allocation apart, or the playlist
-abbrev pub Ends : Progress → Result Read FaultKind → Type 0
-Ends progress result =
+abbrev pub EndsIn : Progress → Result Read FaultKind → Type 0
+EndsIn progress result =
     (before : List Said) → progress ≡ progress_at progress.base before →
     MatchResult result (λ read. (whole_fault before ≡ None) × (playlist_in read ≡ playlist_of before)) (λ e. e ≢ OutOfMemory → whole_fault before ≡ Some e)

@@ -83,8 +83,8 @@ ComesToTell base progress number left result new =
     (tail : List (List ℕ)) (fault : Fault) → Telling base progress number (left ++ tail) fault
     → MatchResult result (λ _. Telling base new.progress new.number (left_in new ++ tail) fault) (λ e. e ≡ fault)
 
-abbrev pub Tells : {A : Type 0} → Parts → Reading → Result A Fault → Reading → Type 0
-Tells base old result new = ComesToTell base old.progress old.number (left_in old) result new
+abbrev pub TellsFault : {A : Type 0} → Parts → Reading → Result A Fault → Reading → Type 0
+TellsFault base old result new = ComesToTell base old.progress old.number (left_in old) result new
 
 abbrev pub TellsLine : {A : Type 0} → Parts → List ℕ → Reading → Result A Fault → Reading → Type 0
 TellsLine base line old result new = ComesToTell base old.progress old.number (line ∷ left_in old) result new

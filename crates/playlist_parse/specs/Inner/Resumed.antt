@@ -61,7 +61,7 @@ pub record Resumed (reader : Reader) (base : Parts) (old new : List Said) (lines
   pub lines_read : length said ≡ length new + length lines
   pub old_lines_read : length all ≡ length old + length lines
 
-abbrev pub GoesOn : Type 0
-GoesOn =
+abbrev pub ReadingGoesOn : Type 0
+ReadingGoesOn =
     (reader : Reader) (base : Parts) (old new : List Said) (lines : List (List ℕ)) (all : List Said) → Alike old new
     → said_from (said_by reader base) old lines ≡ Ok all → Resumed reader base old new lines all

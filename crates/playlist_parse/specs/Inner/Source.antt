@@ -9,10 +9,10 @@ use Rattle.playlist_model.specs.declared.Segment.{Segment}
 use Rattle.playlist_model.specs.Inner.Heading.{Heading}
 use Rattle.segment_state.specs.Continued.{Stop, IsStop, stopped_at}
 use Rattle.playlist_parse.specs.Inner.Progress.{Progress}
-use Rattle.playlist_kept.specs.KeptLines.{WasRead}
+use Rattle.playlist_kept.specs.KeptLines.{LinesWereRead}
 use Rattle.playlist_kept.specs.declared.source.KeptLines.{KeptLines}
 use Rattle.playlist_parse.specs.Inner.HeadingView.{heading_view}
-use Rattle.playlist_kept.specs.declared.source.Source.{Source}
+use Rattle.playlist_kept.specs.declared.source.LastPlaylist.{LastPlaylist}
 use Rattle.playlist_parse.specs.Inner.Reached.{Reached, left_in, LeadsTo}
 use Rattle.playlist_parse.specs.declared.reading.Reading.{Reading}
 
@@ -33,7 +33,7 @@ gone_to p heading stop date_ranges segments = record {
 
 -- what is read here, and what is read there, go on alike: after the same segment, under the same heading, and after no more
 -- segments
-pub record Agree (p q : Progress) : Type 0 where
+pub record GoOnAlike (p q : Progress) : Type 0 where
   pub stop : Stop
   pub here : IsStop p.standing stop
   pub there : IsStop q.standing stop
@@ -42,14 +42,14 @@ pub record Agree (p q : Progress) : Type 0 where
   pub fewer : length p.segments ≤ length q.segments
 
 -- what is read here with what a source has after what is read there
-abbrev pub gone_after : Progress → Progress → Source → Progress
+abbrev pub gone_after : Progress → Progress → LastPlaylist → Progress
 gone_after p q source =
     gone_to p (heading_view source.lines.heading) source.lines.stop (drop (length q.date_ranges) (take source.lines.date_ranges source.date_ranges)) (drop (length q.segments) (take source.lines.segments source.segments.items))
 
 -- if a front of a source's lines is read there, what is read here goes on: it leads to the same
-abbrev pub TakesOver : Reading → Source → Reading → Reading → Type 0
+abbrev pub TakesOver : Reading → LastPlaylist → Reading → Reading → Type 0
 TakesOver front source old new =
-    (base : Parts) → WasRead base source.lines source.segments.items source.date_ranges
+    (base : Parts) → LinesWereRead base source.lines source.segments.items source.date_ranges
     → Reached base front.progress front.number (left_in front) (lines source.lines.text) → LeadsTo base old new
 
 -- this is what is kept of a text, all of whose lines are read so

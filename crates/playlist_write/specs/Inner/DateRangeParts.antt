@@ -6,9 +6,9 @@ use Rattle.date_times.specs.Instant.{instant_of}
 use Rattle.writable.specs.Fitting.{if_some}
 
 -- an ID in quotes
-abbrev pub is_id : Option Pair → Bool
-is_id None = false
-is_id (Some pair) = pair.quoted
+abbrev pub is_quoted_id : Option Pair → Bool
+is_quoted_id None = false
+is_quoted_id (Some pair) = pair.quoted
 
 abbrev pub says_time : Pair → Bool
 says_time pair = is_some (instant_of pair.value)
@@ -18,7 +18,7 @@ says_duration pair = is_ok (duration_of pair.value)
 
 abbrev pub is_date_range : List Pair → Bool
 is_date_range pairs =
-    is_id (attribute pairs (codes "ID"))
+    is_quoted_id (attribute pairs (codes "ID"))
     && (if_some says_time (attribute pairs (codes "START-DATE"))
     && (if_some says_time (attribute pairs (codes "END-DATE"))
     && (if_some says_duration (attribute pairs (codes "DURATION"))

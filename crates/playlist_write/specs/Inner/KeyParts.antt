@@ -6,8 +6,8 @@ use Rattle.playlist_model.specs.Carried.{after_commas}
 use Rattle.playlist_write.specs.Spelling.{iv_pairs, format_pairs}
 
 -- what stands after the URI
-abbrev pub rest_of : Key → List ℕ
-rest_of k = (quote ∷ after_commas (iv_pairs k.iv)) ++ (after_commas (format_pairs k.format) ++ (k.other_attributes ++ line_feed ∷ []))
+abbrev pub text_after_uri : Key → List ℕ
+text_after_uri k = (quote ∷ after_commas (iv_pairs k.iv)) ++ (after_commas (format_pairs k.format) ++ (k.other_attributes ++ line_feed ∷ []))
 
 -- the key has the format that goes without saying
 abbrev pub is_identity : Key → Bool

@@ -1,5 +1,5 @@
 -- What proofs and inner functions say with the definitions of `Owed`.
-use Rattle.playlist_write.specs.Owed.{line_of}
+use Rattle.playlist_write.specs.Owed.{line_saying}
 use Rattle.std.specs.Prelude.{ℕ, List, map}
 use Rattle.playlist_model.specs.declared.Key.{Key}
 use Rattle.playlist_model.specs.declared.InitSection.{InitSection}
@@ -15,7 +15,7 @@ set_tags keys = map key_tag_said (map Set keys)
 -- ---- the whole
 
 abbrev pub key_line : Key → List ℕ
-key_line k = line_of (key k)
+key_line k = line_saying (key k)
 
 abbrev pub init_section_line : InitSection → List ℕ
-init_section_line s = line_of (init_section s.uri s.byte_range)
+init_section_line s = line_saying (init_section s.uri s.byte_range)

@@ -3,5 +3,5 @@ use Rattle.std.specs.Prelude.{◌≡◌, ℕ, List, ◌++◌, Ok}
 use Rattle.playlist_model.specs.Said.{duration, duration_said}
 
 -- whatever follows the front is the title, and the duration is this
-abbrev pub IsFront : List ℕ → ℕ → Type 0
-IsFront front nanos = (title : List ℕ) → duration_said (front ++ title) ≡ Ok (duration nanos title)
+abbrev pub IsDurationFront : List ℕ → ℕ → Type 0
+IsDurationFront front nanos = (title : List ℕ) → duration_said (front ++ title) ≡ Ok (duration nanos title)

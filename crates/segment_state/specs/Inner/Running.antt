@@ -24,8 +24,8 @@ segment_from s uri byte_range own = record {
 }
 
 -- what stands after a URI line: the tags of its segment stand no more
-abbrev pub after_segment : Running → Option Extent → Running
-after_segment old last = record old {
+abbrev pub after_uri_line : Running → Option Extent → Running
+after_uri_line old last = record old {
   standing = record old.standing {
     media_count = old.standing.media_count + 1;
     discontinuities = 0;

@@ -1,5 +1,5 @@
 -- What proofs and inner functions say with the definitions of `Making`.
-use Rattle.stitcher.specs.Making.{is_same_run, plain, pod_with}
+use Rattle.stitcher.specs.Making.{is_same_run, unmarked_piece, pod_with}
 use Rattle.std.specs.Prelude.{◌≡◌, ℕ, ◌+◌, ◌-◌, ◌^◌, ◌==◌, Bool, true, false, not, ◌&&◌, ◌||◌, nat_le, nat_lt, List, [], ◌∷◌, ◌++◌, map, take, drop, ℤ, Option, Some, None, is_some, if◌then◌else◌}
 use Rattle.std.specs.List.{list_all}
 use Rattle.playlist_model.specs.declared.Segment.{Segment}
@@ -13,7 +13,7 @@ use Rattle.stitcher.specs.declared.ends.Ends.{Ends}
 use Rattle.stitcher.specs.declared.making.Part.{Part}
 use Rattle.stitcher.specs.StitchedSegments.{item_fits}
 use Rattle.stitcher.specs.Written.{written_item}
-use Rattle.stitcher.specs.Stretches.{kept_items, numbers_on}
+use Rattle.stitcher.specs.Stretches.{segment_items, numbers_on}
 
 -- ---- the list so far
 
@@ -27,8 +27,8 @@ abbrev pub numbers_fit : Numbers → Bool
 numbers_fit n = nat_lt n.media_sequence (2 ^ 64) && nat_lt n.discontinuity_sequence (2 ^ 64)
 
 -- the origin's discontinuity number, of a piece that is kept
-abbrev pub origin_of : Piece → Option ℕ
-origin_of p = if is_kept p then Some p.segment.discontinuity_sequence else None
+abbrev pub origin_discontinuity : Piece → Option ℕ
+origin_discontinuity p = if is_kept p then Some p.segment.discontinuity_sequence else None
 
 -- the steps to a kept segment of this discontinuity number, from the piece before it
 abbrev pub steps_back : Option ℕ → ℕ → ℕ
@@ -63,11 +63,11 @@ pushed made s time n origin = record {
 }
 
 abbrev pub last_of : Piece → Numbers → Last
-last_of p n = record { numbers = n; origin = origin_of p }
+last_of p n = record { numbers = n; origin = origin_discontinuity p }
 
 -- the list with kept segments more, of which the first has these numbers
 abbrev pub kept_on : Made → List MarkedSegment → Numbers → Last → Made
-kept_on made kept n last = record { first = made.first; last = Some last; items = made.items ++ kept_items n kept }
+kept_on made kept n last = record { first = made.first; last = Some last; items = made.items ++ segment_items n kept }
 
 -- the last of kept segments that follow each other, the first of which has these numbers
 abbrev pub last_of_run : Numbers → MarkedSegment → List MarkedSegment → Last
@@ -86,7 +86,7 @@ abbrev pub comes_to : Made → List Piece → List OutSegment
 comes_to made pieces = made.items ++ map written_item (counted made.first made.last pieces)
 
 -- these pieces were put after it: it comes to the same, and its numbers fit if they did
-pub record Puts (old new : Made) (pieces : List Piece) : Type 0 where
+pub record PutsPieces (old new : Made) (pieces : List Piece) : Type 0 where
   pub first : new.first ≡ old.first
   pub comes : (later : List Piece) → comes_to old (pieces ++ later) ≡ comes_to new later
   pub fit : list_all item_fits old.items ≡ true → list_all item_fits new.items ≡ true
@@ -113,9 +113,9 @@ part_after_one part duration =
 abbrev pub part_here : Part → Piece → List Piece
 part_here part p = if shows_next part then p ∷ [] else []
 
-abbrev pub part_of : Part → List Piece → List Piece
-part_of part [] = []
-part_of part (p ∷ later) = part_here part p ++ part_of (part_after_one part p.segment.duration) later
+abbrev pub pieces_in_part : Part → List Piece → List Piece
+pieces_in_part part [] = []
+pieces_in_part part (p ∷ later) = part_here part p ++ pieces_in_part (part_after_one part p.segment.duration) later
 
 abbrev pub part_after : Part → List Piece → Part
 part_after part [] = part
@@ -144,8 +144,8 @@ abbrev pub part_at : Option ℕ → Option (List ℕ) → List MarkedSegment →
 part_at so_far mark later = if goes_on_to_last mark later then part_due so_far else whole_from 0
 
 abbrev pub begun_with : Store → Part → MarkedSegment → Option (List ℕ) → List Piece
-begun_with store part m None = plain m ∷ []
-begun_with store part m (Some id) = part_of part (pod_with id (pod_for store id))
+begun_with store part m None = unmarked_piece m ∷ []
+begun_with store part m (Some id) = pieces_in_part part (pod_with id (pod_for store id))
 
 -- what stands for a segment after one of this mark, before these
 abbrev pub pieces_at : Store → Option ℕ → Option (List ℕ) → MarkedSegment → List MarkedSegment → List Piece
@@ -162,8 +162,8 @@ unmarked_front (m ∷ later) = if is_some m.mark then 0 else unmarked_front late
 
 -- what stands for the first of segments, and, if it has no mark, for those without one that follow it
 abbrev pub begun_in : Store → Part → List MarkedSegment → Option (List ℕ) → List Piece
-begun_in store part segments None = map plain (take (unmarked_front segments) segments)
-begun_in store part segments (Some id) = part_of part (pod_with id (pod_for store id))
+begun_in store part segments None = map unmarked_piece (take (unmarked_front segments) segments)
+begun_in store part segments (Some id) = pieces_in_part part (pod_with id (pod_for store id))
 
 abbrev pub front_pieces : Store → Option ℕ → Option (List ℕ) → List MarkedSegment → List Piece
 front_pieces store so_far previous [] = []
@@ -178,10 +178,10 @@ abbrev pub after_front : List MarkedSegment → List MarkedSegment
 after_front [] = []
 after_front (m ∷ later) = after_begun (m ∷ later) later m.mark
 
-abbrev pub rest_on : Store → Option Rest → List Piece
-rest_on store None = []
-rest_on store (Some rest) = part_of (whole_from rest.place) (pod_with rest.id (pod_for store rest.id))
+abbrev pub pieces_of_rest : Store → Option Rest → List Piece
+pieces_of_rest store None = []
+pieces_of_rest store (Some rest) = pieces_in_part (whole_from rest.place) (pod_with rest.id (pod_for store rest.id))
 
 -- all of them, in order
 abbrev pub pieces_between : Store → Ends → List MarkedSegment → List Piece
-pieces_between store ends marked = rest_on store ends.rest ++ pieces_on store ends.so_far None marked
+pieces_between store ends marked = pieces_of_rest store ends.rest ++ pieces_on store ends.so_far None marked

@@ -18,7 +18,7 @@ use Rattle.vod_run.specs.Inner.Vod.{IsOfReading}
 -- ---- the decision file
 
 -- the channel of a base, which was given the decision file, if there is one
-pub record IsDecided (text : List ℕ) (file : Option (List ℕ)) (c : Channel) : Type 0 where
+pub record IsGivenFile (text : List ℕ) (file : Option (List ℕ)) (c : Channel) : Type 0 where
   pub base : base_of text ≡ Some c.base
   pub tolerance : c.tolerance ≡ default_tolerance
   pub said : events_of file ≡ Ok (channel.events_of c.base (given_by file))
@@ -56,8 +56,8 @@ RefusesRefresh OutOfMemory old bytes given = Unit {0}
 RefusesRefresh _ old bytes given = ⊥
 
 -- whatever the file was
-abbrev pub Refreshes : Channel → List ℕ → Channel → Type 0
-Refreshes old bytes new = (file : Option (List ℕ)) → Represents old (given_by file) → IsRefreshed old bytes (given_by file) new
+abbrev pub RefreshesWhateverFile : Channel → List ℕ → Channel → Type 0
+RefreshesWhateverFile old bytes new = (file : Option (List ℕ)) → Represents old (given_by file) → IsRefreshed old bytes (given_by file) new
 
 abbrev pub RefusesBytes : VodFault → Channel → List ℕ → Type 0
 RefusesBytes e old bytes = (file : Option (List ℕ)) → Represents old (given_by file) → RefusesRefresh e old bytes (given_by file)
@@ -68,7 +68,7 @@ RefusesBytes e old bytes = (file : Option (List ℕ)) → Represents old (given_
 pub record RefreshesFrom (source_old source_new : SourceStand) (old new : Channel) : Type 0 where
   pub input : List ℕ
   pub given : GaveAll source_old source_new input
-  pub refreshed : Refreshes old input new
+  pub refreshed : RefreshesWhateverFile old input new
 
 -- the source gave an input to its end, which has this fault
 pub record RefusesInput (e : VodFault) (source_old source_new : SourceStand) (old : Channel) : Type 0 where

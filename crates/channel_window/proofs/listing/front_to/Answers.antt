@@ -2,7 +2,7 @@ use Rattle.std.proofs.Common.{◌≡◌, ◌-◌, length, ap, sym, ◌∙◌, ar
 use Rattle.std.specs.Prelude.{Some, slice_get}
 use Rattle.std.specs.Option.{option_copied}
 use Rattle.playlist_model.specs.declared.Segment.{Segment}
-use Rattle.channel_window.specs.Marking.{so_far}
+use Rattle.channel_window.specs.Marking.{history_in}
 use Rattle.channel_window.proofs.Rising.{first_is, up_at}
 use Rattle.channel_window.proofs.listing.front_to.Goals as goal
 
@@ -11,7 +11,7 @@ returns-then-number-deref-clause-seen c store =
     let list = c.args.list.now in
     let at : slice_get list 0 ≡ Some c.in-Some.first.now = sym c.first.ensures.value ∙ ap option_copied c.in-Some.is in
     let first = ap (λ (s : Segment). s.media_sequence) c.deref.ensures ∙ first_is c.requires.0 list c.in-Some.first.now c.requires.1 at in
-    ap (so_far store) c.split_at.ensures.front ∙ up_at store list c.requires.0 c.args.number c.requires.1 0 (omega (arith, first, c.if-number-deref.true))
+    ap (history_in store) c.split_at.ensures.front ∙ up_at store list c.requires.0 c.args.number c.requires.1 0 (omega (arith, first, c.if-number-deref.true))
 
 pub returns-clause-seen : goal.returns-clause-seen
 returns-clause-seen c store =
@@ -19,5 +19,5 @@ returns-clause-seen c store =
     let at : slice_get list 0 ≡ Some c.in-Some.first.now = sym c.first.ensures.value ∙ ap option_copied c.in-Some.is in
     let first = ap (λ (s : Segment). s.media_sequence) c.deref.ensures ∙ first_is c.requires.0 list c.in-Some.first.now c.requires.1 at in
     let place = c.place_of_number-place.ensures.place c.requires.0 c.requires.1 in
-    ap (so_far store) c.split_at-2.ensures.front
+    ap (history_in store) c.split_at-2.ensures.front
     ∙ up_at store list c.requires.0 c.args.number c.requires.1 (length list - c.saturating_sub-later.result) (omega (arith, first, place, c.if-number-deref.false, c.saturating_sub-later.ensures, c.saturating_sub.ensures))

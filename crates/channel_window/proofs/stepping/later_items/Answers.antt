@@ -4,7 +4,7 @@ use Rattle.stitcher.specs.Paced.{due_with}
 use Rattle.stitcher.specs.StitchedSegments.{KnowRuns}
 use Rattle.stitcher.proofs.Known.{known_later}
 use Rattle.playlist_kept.specs.Kept.{playlist_in}
-use Rattle.channel_window.specs.Marking.{so_far}
+use Rattle.channel_window.specs.Marking.{history_in}
 use Rattle.channel_window.specs.Showing.{kept_before}
 use Rattle.channel_window.specs.Inner.NewItems.{out_of}
 use Rattle.channel_window.proofs.NewItems.{is_later, held_long}
@@ -25,7 +25,7 @@ returns c =
     let later : c.split_at.result.1.now ≡ drop c.in-Some.begin held = c.split_at.ensures.back ∙ ap (λ n. drop n held) place in
     let items = c.in-Some-2.items in
     let are = rw c.in-Some-2.is at c.in_ok-items.ensures in
-    let made : items ≡ out_of e.numbers (due_with p.end_list c.args.lasted (so_far s.store (drop c.in-Some.begin held))) =
-    are.0 ∙ ap (λ xs. out_of e.numbers (due_with p.end_list c.args.lasted (so_far s.store xs))) later in
+    let made : items ≡ out_of e.numbers (due_with p.end_list c.args.lasted (history_in s.store (drop c.in-Some.begin held))) =
+    are.0 ∙ ap (λ xs. out_of e.numbers (due_with p.end_list c.args.lasted (history_in s.store xs))) later in
     is_later s p held c.args.lasted c.args.stood e c.requires.stands c.in-Some.begin c.in-Some-checked_add.count items c.requires.stood (omega (arith, c.in-Some-checked_sub.ensures)) c.requires.goes_on c.requires.ending begin_is made are.1
     (omega (arith, c.in-Some-checked_add.ensures, c.in-Some-checked_sub.ensures, c.count.ensures)) (omega (arith, c.in-Some-checked_add.ensures))

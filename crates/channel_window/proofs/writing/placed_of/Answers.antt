@@ -3,7 +3,7 @@ use Rattle.std.specs.List.{list_all}
 use Rattle.stitcher.specs.StitchedSegments.{item_fits}
 use Rattle.channel_spec.specs.Kept.{numbers_on}
 use Rattle.playlist_kept.specs.Kept.{playlist_in}
-use Rattle.channel_window.specs.Marking.{so_far}
+use Rattle.channel_window.specs.Marking.{history_in}
 use Rattle.channel_window.specs.Showing.{kept_before}
 use Rattle.channel_window.proofs.Starting.{handed_on, fit_is, whole_is, window_left, has_room, room_left}
 use Rattle.channel_window.proofs.writing.placed_of.Goals as goal
@@ -12,7 +12,7 @@ pub returns-in_err-first-clause-err : goal.returns-in_err-first-clause-err
 returns-in_err-first-clause-err c =
     let s = kept_before c.args.before.now in
     let list = c.args.list.now in
-    let same = fit_is s (playlist_in c.args.read.now) list c.args.lasted c.in_ok-ends.ends (numbers_on s.last s.shown.numbers (so_far s.store list)) c.requires.decided (c.in_ok-ends.ensures s.store) refl in
+    let same = fit_is s (playlist_in c.args.read.now) list c.args.lasted c.in_ok-ends.ends (numbers_on s.last s.shown.numbers (history_in s.store list)) c.requires.decided (c.in_ok-ends.ensures s.store) refl in
     handed_on c.from_residual-in_err-first.result c.in_err-first.field-0.0 c.from_residual-in_err-first.ensures.1 c.in_err-first.ensures.err (λ h. sym same ∙ h)
 
 pub returns-in_err-whole-clause-err : goal.returns-in_err-whole-clause-err

@@ -1,10 +1,10 @@
 use Rattle.std.proofs.Common.{◌+◌, ◌≡◌, min, sym, ap, ◌∙◌}
 use Rattle.stitcher.specs.StitchedSegments.{rest_in}
-use Rattle.channel_spec.specs.Live.{place_of, rest_over}
+use Rattle.channel_spec.specs.Live.{item_place, rest_over}
 use Rattle.channel_spec.specs.Successor.{first_number}
 use Rattle.channel_spec.specs.Kept.{listed}
 use Rattle.playlist_kept.specs.Kept.{playlist_in}
-use Rattle.channel_window.specs.Marking.{so_far}
+use Rattle.channel_window.specs.Marking.{history_in}
 use Rattle.channel_window.specs.Listed.{segments_in}
 use Rattle.channel_window.specs.Inner.Placing.{rest_count}
 use Rattle.channel_window.specs.Showing.{kept_before, kept_in}
@@ -42,7 +42,7 @@ returns-clause-place c =
     let k = c.first_shown.ensures ∙ first_here s in
     let other = not_equal (first_number p.segments) (first_number (listed (kept_in s).shown)) (λ e. c.if-number-first_shown.false (n ∙ (e ∙ sym k))) in
     start_later s (first_number p.segments) list c.in-Some.field-0 c.args.stood c.in_ok-later_start.field-0.place c.in-Some.is other c.requires.stood
-    (c.in_ok-later_start.ensures.place ∙ ap (λ m. min (place_of m (so_far s.store list) + rest_count s.store s.shown.rest) c.args.stood) n)
+    (c.in_ok-later_start.ensures.place ∙ ap (λ m. min (item_place m (history_in s.store list) + rest_count s.store s.shown.rest) c.args.stood) n)
 
 pub returns-clause-rest : goal.returns-clause-rest
 returns-clause-rest c =
@@ -54,4 +54,4 @@ returns-clause-rest c =
     let k = c.first_shown.ensures ∙ first_here s in
     let other = not_equal (first_number p.segments) (first_number (listed (kept_in s).shown)) (λ e. c.if-number-first_shown.false (n ∙ (e ∙ sym k))) in
     c.in_ok-later_start.ensures.rest
-    ∙ (ap (λ m. rest_over (rest_count s.store s.shown.rest) start m (so_far s.store list)) n ∙ rest_later s (first_number p.segments) list c.in-Some.field-0 start c.in-Some.is other)
+    ∙ (ap (λ m. rest_over (rest_count s.store s.shown.rest) start m (history_in s.store list)) n ∙ rest_later s (first_number p.segments) list c.in-Some.field-0 start c.in-Some.is other)

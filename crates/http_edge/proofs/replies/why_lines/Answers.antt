@@ -2,10 +2,10 @@ use Rattle.std.proofs.Common.{◌≡◌, ◌+◌, ◌++◌, ◌∙◌, sym, ap, 
 use Rattle.std.specs.Prelude.{string_bytes}
 use Rattle.std.specs.List.{flat_map}
 use Rattle.std.proofs.lemmas.Grind.{common_steps}
-use Rattle.break_finder.specs.Entering.{id_of}
+use Rattle.break_finder.specs.Entering.{id_of_break}
 use Rattle.channel_api.specs.FaultTexts.{why_word}
 use Rattle.live_channel.specs.Channel.{explained}
-use Rattle.channel_api.specs.Replies.{why_line, line_of}
+use Rattle.channel_api.specs.Replies.{why_line, id_line}
 use Rattle.channel_api.proofs.Lines.{one_more, no_more}
 use Rattle.http_edge.proofs.replies.why_lines.Goals as goal
 
@@ -18,9 +18,9 @@ loop-id-preserved c =
     record {
       within = omega (arith, more.within, next);
       lines = c.in_ok-push_line.ensures
-          ∙ ap (λ w. string_bytes c.loop-id.lines ++ line_of id (why_word w)) c.explain.ensures.why
+          ∙ ap (λ w. string_bytes c.loop-id.lines ++ id_line id (why_word w)) c.explain.ensures.why
           ∙ ap (λ l. l ++ why_line (explained kept) id) c.loop-id.invariant.lines ∙ sym more.lines
-          ∙ ap (λ n. flat_map (why_line (explained kept)) (map id_of (take n kept.breaks))) (sym next);
+          ∙ ap (λ n. flat_map (why_line (explained kept)) (map id_of_break (take n kept.breaks))) (sym next);
     }
 
 pub returns-clause-lines : goal.returns-clause-lines

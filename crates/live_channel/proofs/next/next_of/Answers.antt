@@ -1,7 +1,7 @@
 use Rattle.std.proofs.Common.{rules, refl, None, ◌∙◌, ap}
 use Rattle.stitcher.proofs.Known.{known_later}
 use Rattle.channel_spec.specs.Kept.{shown_from}
-use Rattle.channel_window.specs.Marking.{so_far}
+use Rattle.channel_window.specs.Marking.{history_in}
 use Rattle.channel_window.specs.Showing.{kept_before}
 use Rattle.live_channel.proofs.Accepting.{decided_later}
 use Rattle.live_channel.proofs.next.next_of.Goals as goal
@@ -10,7 +10,7 @@ pub returns-clause-ok : goal.returns-clause-ok
 returns-clause-ok c =
     let s = kept_before c.args.before.now in
     let held = c.args.list.now in
-    let seen = so_far s.store held in
+    let seen = history_in s.store held in
     let gone = c.place_of_number.result in
     let w = c.in_ok-window.ensures.ok in
     record {

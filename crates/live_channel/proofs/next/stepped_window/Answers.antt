@@ -14,8 +14,8 @@ use Rattle.channel_spec.specs.Live.{date_range_text, date_ranges_left}
 use Rattle.channel_spec.specs.Marking.{last_entered}
 use Rattle.channel_spec.specs.Successor.{first_number}
 use Rattle.stitcher.specs.Written.{written_item}
-use Rattle.channel_window.specs.Listed.{head_of, states_time}
-use Rattle.channel_window.specs.Marking.{so_far}
+use Rattle.channel_window.specs.Listed.{head_of, writes_time}
+use Rattle.channel_window.specs.Marking.{history_in}
 use Rattle.channel_window.specs.Showing.{kept_before, kept_in}
 use Rattle.channel_window.specs.Stepped.{IsStepped, written_items, written_window}
 use Rattle.live_channel.specs.Inner.Accepting.{breaks_after}
@@ -32,7 +32,7 @@ returns c =
     let p = playlist_in c.args.refresh.now.read.now in
     let n = c.args.refresh.now.lasted in
     let held = c.args.refresh.now.list.now in
-    let seen = so_far s.store held in
+    let seen = history_in s.store held in
     let last = c.in-Some.last in
     let stepped = c.in-Some-2.stepped in
     let st : IsStepped s p held n last.count stepped = rw c.in-Some-2.is at c.in_ok-stepped.ensures in
@@ -49,19 +49,19 @@ returns c =
     let breaks : NameTheSame ids (breaks_after (kept_in s) p seen) =
     subst (λ xs. NameTheSame ids xs) (breaks_seen s (kept_in s) p held entered (or_earlier (last_entered seen) s.shown.entered) stepped.rest c.requires.decided c.requires.entered_is st.rest_is st.left) breaks_are in
     let out = c.in_ok-out.out in
-    let out_is : out ≡ out_playlist p (map date_range_text (date_ranges_left (list_any states_time first) ids p.date_ranges)) first = search rules in
+    let out_is : out ≡ out_playlist p (map date_range_text (date_ranges_left (list_any writes_time first) ids p.date_ranges)) first = search rules in
     let segments : out.segments ≡ drop stepped.start stepped.front = ap (λ (o : OutPlaylist). o.segments) out_is ∙ first_is in
     let written = c.in-Some-4.written in
     let made = rw c.in-Some-4.is at c.in_ok-written.ensures in
     let text = made window (has_ends whole stepped.front st.tail window stepped.start st.first st.inside st.window out last len (last.count - stepped.start) stepped.count stepped.fresh segments stood st.standing refl front st.new st.counted) in
     let times = c.tells_times.ensures c.if-not-tells_times.false in
-    let more : list_any states_time first ≡ true → list_any states_time window ≡ true = λ h. timed_too whole stepped.front st.tail window stepped.start st.first st.inside st.window (sym (ap (list_any states_time) first_is) ∙ h) in
+    let more : list_any writes_time first ≡ true → list_any writes_time window ≡ true = λ h. timed_too whole stepped.front st.tail window stepped.start st.first st.inside st.window (sym (ap (list_any writes_time) first_is) ∙ h) in
     let same = dates_same first window ids p.date_ranges times more in
     record {
       fit = st.fit;
       in_use = breaks;
-      numbers = numbers_seen s p held n window c.head_of-numbers.result refl
-          (c.head_of-numbers.ensures ∙ (ap head_of first_is ∙ head_same whole stepped.front st.tail window stepped.start st.first st.inside st.window));
+      numbers = numbers_seen s p held n window c.head_numbers-numbers.result refl
+          (c.head_numbers-numbers.ensures ∙ (ap head_of first_is ∙ head_same whole stepped.front st.tail window stepped.start st.first st.inside st.window));
       count = st.counted ∙ length-map (window_on (kept_in s) p seen n) written_item;
       rest = st.rest_is;
       rest_decided = st.left;

@@ -9,7 +9,7 @@ use Rattle.channel_spec.specs.Kept.{shown_from, window_on}
 use Rattle.channel_spec.specs.Marking.{last_entered}
 use Rattle.channel_spec.specs.Successor.{first_number}
 use Rattle.channel_window.proofs.NewItems.{end_of}
-use Rattle.channel_window.specs.Marking.{so_far}
+use Rattle.channel_window.specs.Marking.{history_in}
 use Rattle.channel_window.specs.Showing.{kept_before, kept_in}
 use Rattle.live_channel.specs.Inner.Accepting.{breaks_after}
 use Rattle.live_channel.specs.Inner.LastText.{Stood}
@@ -18,8 +18,8 @@ use Rattle.live_channel.proofs.Accepting.{numbers_seen, text_seen}
 use Rattle.live_channel.proofs.Marks.{breaks_seen}
 use Rattle.live_channel.proofs.next.whole_window.Goals as goal
 
-pub standing-requires : goal.standing-requires
-standing-requires c = subst (λ xs. Stood xs c.args.refresh.now.written.now) (sym c.in_ok-whole.ensures.whole) c.requires.stood.stood
+pub lines_again-requires : goal.lines_again-requires
+lines_again-requires c = subst (λ xs. Stood xs c.args.refresh.now.written.now) (sym c.in_ok-whole.ensures.whole) c.requires.stood.stood
 
 pub returns-clause-ok : goal.returns-clause-ok
 returns-clause-ok c =
@@ -27,7 +27,7 @@ returns-clause-ok c =
     let p = playlist_in c.args.refresh.now.read.now in
     let n = c.args.refresh.now.lasted in
     let held = c.args.refresh.now.list.now in
-    let seen = so_far s.store held in
+    let seen = history_in s.store held in
     let whole = c.in_ok-whole.field-0.whole in
     let start = c.in_ok-whole.field-0.start in
     let items = c.leave_out.new.self in
@@ -43,12 +43,12 @@ returns-clause-ok c =
     record {
       fit = c.in_ok-whole.ensures.fit;
       in_use = breaks;
-      numbers = numbers_seen s p held n items c.head_of-numbers.result window c.head_of-numbers.ensures;
+      numbers = numbers_seen s p held n items c.head_numbers-numbers.result window c.head_numbers-numbers.ensures;
       count = c.count-count.ensures ∙ (ap length window ∙ length-map (window_on (kept_in s) p seen n) written_item);
       rest = c.in_ok-whole.ensures.rest;
       rest_decided = c.in_ok-whole.ensures.left;
-      text = text_seen s p held n items ids c.in_ok-text_of.field-0.text window breaks (search rules);
-      laid = subst (λ xs. IsLaid xs c.in_ok-text_of.field-0) window (search rules);
+      text = text_seen s p held n items ids c.in_ok-lay_text.field-0.text window breaks (search rules);
+      laid = subst (λ xs. IsLaid xs c.in_ok-lay_text.field-0) window (search rules);
       ending = end_of s p held n [] whole whole (map written_item (window_on (kept_in s) p seen n)) start c.place_of_number-gone.result c.count-count.result c.in_ok-end.end c.end_within.result c.in_ok-end.ensures c.end_within.ensures
           (c.place_of_number-gone.ensures.seen s.store ∙ number) refl (sym c.in_ok-whole.ensures.window) c.place_of_number-gone.ensures.within long;
     }

@@ -1,13 +1,13 @@
 use Rattle.std.proofs.Common.{◌≡◌, ◌∙◌, ◌++◌, List, false, ap, subst, sym}
 use Rattle.std.specs.Prelude.{IfErr, IfOk}
 use Rattle.std.specs.List.{list_all}
-use Rattle.stitcher.specs.Stitched.{fits}
+use Rattle.stitcher.specs.Stitched.{can_be_numbered}
 use Rattle.stitcher.specs.declared.marked.MarkedSegment.{MarkedSegment as Held}
 use Rattle.channel_spec.specs.Kept.{items_on}
 use Rattle.playlist_kept.specs.Kept.{playlist_in}
 use Rattle.channel_window.specs.declared.state.ChannelState.{ChannelState}
 use Rattle.channel_window.specs.Listed.{RefusesList}
-use Rattle.channel_window.specs.Marking.{so_far}
+use Rattle.channel_window.specs.Marking.{history_in}
 use Rattle.channel_window.specs.Showing.{kept_before, kept_in}
 use Rattle.live_channel.specs.Inner.Accepting.{IsAccepted}
 use Rattle.live_channel.proofs.Accepting.{accepted_as, before_is, items_kept, ready}
@@ -45,7 +45,7 @@ returns-clause-err c =
     let list = c.as_slice-list.result.now in
     let list_is : list ≡ s.list ++ come = c.as_slice-list.ensures ∙ c.in_ok-append.ensures.ok in
     let before : kept_before c.before-before.result ≡ s = before_is s (kept_before c.before-before.result) come c.append.new.self c.len-stood.result c.len-stood.ensures c.in_ok-append.ensures.ok c.before-before.ensures in
-    subst (λ items. IfErr c.next_of.result (λ e. RefusesList e (list_all fits items ≡ false)))
-    (ap (λ (x : ChannelState). items_on (kept_in x) p (so_far x.store list) long) before
-    ∙ (ap (λ (xs : List Held). items_on (kept_in s) p (so_far s.store xs) long) list_is ∙ items_kept c.args.tolerance s p (s.list ++ come) showing c.in_ok-showing.ensures))
+    subst (λ items. IfErr c.next_of.result (λ e. RefusesList e (list_all can_be_numbered items ≡ false)))
+    (ap (λ (x : ChannelState). items_on (kept_in x) p (history_in x.store list) long) before
+    ∙ (ap (λ (xs : List Held). items_on (kept_in s) p (history_in s.store xs) long) list_is ∙ items_kept c.args.tolerance s p (s.list ++ come) showing c.in_ok-showing.ensures))
     c.next_of.ensures.err

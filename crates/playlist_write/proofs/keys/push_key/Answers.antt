@@ -4,21 +4,21 @@ use Rattle.playlist_model.specs.Carried.{after_commas}
 use Rattle.playlist_write.specs.Spelling.{iv_pairs, format_pairs}
 use Rattle.date_times.proofs.Chains.{grown3, as_text}
 use Rattle.playlist_model.specs.declared.Key.{Key}
-use Rattle.playlist_write.specs.Inner.KeyParts.{rest_of}
+use Rattle.playlist_write.specs.Inner.KeyParts.{text_after_uri}
 use Rattle.playlist_write.specs.Inner.Owed.{key_line}
 use Rattle.playlist_write.proofs.TagLines.{key_parts}
 use Rattle.playlist_write.proofs.keys.push_key.Goals as goal
 
 -- the line in the pieces in which it is written
-key_pieces : (k : Key) → (codes "#EXT-X-KEY:METHOD=" ++ (k.method ++ codes ",URI=\"")) ++ (k.uri ++ rest_of k) ≡ key_line k
+key_pieces : (k : Key) → (codes "#EXT-X-KEY:METHOD=" ++ (k.method ++ codes ",URI=\"")) ++ (k.uri ++ text_after_uri k) ≡ key_line k
 key_pieces k =
     let rest = after_commas (iv_pairs k.iv) ++ (after_commas (format_pairs k.format) ++ (k.other_attributes ++ 10 ∷ [])) in
-    ap (λ t. codes "#EXT-X-KEY:METHOD=" ++ t) (append_assoc k.method (codes ",URI=\"") (k.uri ++ rest_of k))
+    ap (λ t. codes "#EXT-X-KEY:METHOD=" ++ t) (append_assoc k.method (codes ",URI=\"") (k.uri ++ text_after_uri k))
     ∙ ap (λ t. codes "#EXT-X-KEY:METHOD=" ++ (k.method ++ (codes ",URI=\"" ++ t))) (sym (append_assoc k.uri (34 ∷ []) rest)) ∙ key_parts k
 
 pub returns : goal.returns
 returns c =
     let s = string_bytes c.args.out.now in
     let key = c.args.key.now in
-    as_text s (grown3 s (codes "#EXT-X-KEY:METHOD=" ++ (key.method ++ codes ",URI=\"")) key.uri (rest_of key)
+    as_text s (grown3 s (codes "#EXT-X-KEY:METHOD=" ++ (key.method ++ codes ",URI=\"")) key.uri (text_after_uri key)
     (rw c.method.ensures at c.in_ok-push_method.ensures) (rw c.uri.ensures.text at c.in_ok-push_str.ensures.bytes) c.in_ok-push_short_rest.ensures) (key_pieces key)

@@ -1,12 +1,12 @@
 use Rattle.std.proofs.Common.{◌≡◌, ℕ, List, [], ◌∷◌, length, ap, arith}
-use Rattle.scte35_codec.specs.Layout.{Field, Is, bytes_of}
+use Rattle.scte35_codec.specs.Layout.{BitField, Is, bytes_of}
 use Rattle.scte35_codec.proofs.Appends.{Appends-then, Appends-is}
 use Rattle.scte35_codec.proofs.writing.put_tail.Goals as goal
 
 pub returns : goal.returns
 returns c =
     let info = c.args.info.now in
-    let word : ℕ → List Field = λ n. (16, Is n) ∷ [] in
+    let word : ℕ → List BitField = λ n. (16, Is n) ∷ [] in
     let len : c.len.result ≡ length info.descriptors.items = omega (arith, c.len.ensures, info.descriptors.ok.0) in
     let count = Appends-is (ap word len) c.in_ok-put_u16.ensures in
     let descriptors = Appends-is (ap bytes_of c.deref.ensures.value) c.in_ok-put_bytes.ensures in

@@ -4,7 +4,7 @@ use Rattle.std.specs.List.{list_all}
 use Rattle.stitcher.specs.Stitched.{Numbers, Piece}
 use Rattle.stitcher.specs.declared.marked.MarkedSegment.{MarkedSegment}
 use Rattle.stitcher.specs.StitchedSegments.{item_fits, KnowRuns}
-use Rattle.stitcher.specs.Inner.Making.{Made, Passes, after_front, front_pieces, numbers_fit, pieces_between, pieces_on, rest_on}
+use Rattle.stitcher.specs.Inner.Making.{Made, Passes, after_front, front_pieces, numbers_fit, pieces_between, pieces_on, pieces_of_rest}
 use Rattle.stitcher.proofs.Kept.{pieces_front_at}
 use Rattle.stitcher.proofs.Known.{known_after_front}
 use Rattle.stitcher.proofs.Outcomes.{handed_on, if_ok}
@@ -19,7 +19,7 @@ pub returns-in_err-put_rest-clause-err : goal.returns-in_err-put_rest-clause-err
 returns-in_err-put_rest-clause-err c =
     let store = c.args.store.now in
     let ends = c.args.ends.now in
-    let rest = rest_on store ends.rest in
+    let rest = pieces_of_rest store ends.rest in
     handed_on c.from_residual.result c.in_err-put_rest.field-0.0 c.from_residual.ensures.1 c.in_err-put_rest.ensures.err
     (λ p. ap (list_all item_fits) (in_order store c.args.first ends c.args.marked.now c.requires.decided)
     ∙ subst (λ (m : Made). Passes m rest) c.new-stitching.ensures p (pieces_on store ends.so_far None c.args.marked.now))

@@ -2,7 +2,7 @@ use Rattle.std.proofs.Common.{ap, sym, subst}
 use Rattle.std.specs.Prelude.{Some, is_some}
 use Rattle.std.specs.Option.{option_copied}
 use Rattle.vod_run.specs.Events.{events_of, fault_of_decisions}
-use Rattle.vod_run.specs.Inner.Given.{IsDecided, IsOfBeginning}
+use Rattle.vod_run.specs.Inner.Given.{IsGivenFile, IsOfBeginning}
 use Rattle.vod_run.specs.Vod.{IsInOrder}
 use Rattle.vod_run.proofs.Given.{has_decided, undecided, in_decisions, after_base}
 use Rattle.vod_run.proofs.WholeRun.{handed_on}
@@ -27,5 +27,5 @@ returns-in_err-decide-clause-order c =
 pub returns-clause-ok : goal.returns-clause-ok
 returns-clause-ok c =
     let made = c.in_ok-channel.ensures.ok in
-    subst (λ file. IsDecided c.args.base.now (option_copied file) c.decide.new.self) (sym c.in-Some.is)
+    subst (λ file. IsGivenFile c.args.base.now (option_copied file) c.decide.new.self) (sym c.in-Some.is)
     (has_decided c.in-Some.file.now c.in_ok-channel.channel c.decide.new.self made.3 c.args.base.now made.0 made.1 c.in_ok-decide.ensures.changes c.in_ok-decide.ensures.stands)

@@ -2,7 +2,7 @@ use Rattle.std.proofs.Common.{rules, ◌≡◌, ◌∷◌, ◌++◌, ap, sym, su
 use Rattle.channel_spec.specs.Marking.{Moment}
 use Rattle.stitcher.specs.Making.{is_same_run}
 use Rattle.channel_window.specs.Marking.{next_id, mark_on}
-use Rattle.channel_window.specs.Inner.Terms.{IsExtended, IsRun}
+use Rattle.channel_window.specs.Inner.Terms.{IsExtended, HasItsTerms}
 use Rattle.channel_window.proofs.Extended.{one_more}
 use Rattle.channel_window.proofs.marking.Marker.all.Goals as goal
 
@@ -26,6 +26,6 @@ loop-segment-preserved c =
       done = ap (λ xs. xs ++ rest) put ∙ (append_assoc c.loop-segment.done.items (here ∷ []) rest ∙ (ap (λ xs. c.loop-segment.done.items ++ xs) (sym more.list) ∙ inv.done));
       entered = more.entered ∙ inv.entered;
       so_far = more.so_far ∙ inv.so_far;
-      run = subst (λ (x : Moment). IsRun x new) inv.kept c.in_ok-next.ensures.run;
+      run = subst (λ (x : Moment). HasItsTerms x new) inv.kept c.in_ok-next.ensures.run;
       kept = c.in_ok-next.ensures.kept ∙ inv.kept;
     }

@@ -1,7 +1,7 @@
 use Rattle.std.proofs.Common.{◌≡◌, ◌++◌, length}
 use Rattle.channel_window.specs.Marking.{mark_on, length_after}
 use Rattle.channel_window.specs.Inner.Terms.{entered_after}
-use Rattle.channel_window.specs.Inner.Terms.{IsRun}
+use Rattle.channel_window.specs.Inner.Terms.{HasItsTerms}
 use Rattle.channel_window.proofs.marking.Marker.all.Given as goal
 
 abbrev pub invariant-loop-segment : goal.invariant-loop-segment
@@ -11,7 +11,7 @@ invariant-loop-segment l = record {
       ≡ entered_after l.fn.run.entered (mark_on l.fn.self l.fn.run.before l.fn.run.entered l.fn.segments l.fn.instants);
   so_far : length_after l.fn.self.store l.run.before l.run.so_far (mark_on l.fn.self l.run.before l.run.entered l.segments l.instants)
       ≡ length_after l.fn.self.store l.fn.run.before l.fn.run.so_far (mark_on l.fn.self l.fn.run.before l.fn.run.entered l.fn.segments l.fn.instants);
-  run : IsRun l.fn.self l.run;
+  run : HasItsTerms l.fn.self l.run;
   kept : l.self ≡ l.fn.self;
 }
 

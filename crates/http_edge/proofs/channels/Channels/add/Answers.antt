@@ -4,7 +4,7 @@ use Rattle.std.specs.declared.alloc.AllocError.{AllocError}
 use Rattle.channel_api.specs.declared.named.Naming.{Naming}
 use Rattle.channel_api.specs.declared.named.Naming.TheVariants as naming
 use Rattle.channel_api.specs.Named.{PutsNamed}
-use Rattle.http_edge.specs.Edges.{Stands}
+use Rattle.http_edge.specs.Edges.{AreGiven}
 use Rattle.http_edge.proofs.Turns.{is_taken, is_full, is_added}
 use Rattle.http_edge.proofs.channels.Channels.add.Goals as goal
 use Rattle.http_edge.proofs.channels.Channels.add.Goals.{in-Done, in-Taken, in-Full}
@@ -15,7 +15,7 @@ returns c table s =
     let channel = c.args.channel in
     let before = c.self.inside.by_name.entries in
     let after = c.put_named.new.values.entries in
-    let seen = subst (λ k. Stands k table) (sym c.self.view_is) s in
+    let seen = subst (λ k. AreGiven k table) (sym c.self.view_is) s in
     let put_as : (n : Naming) → c.in_ok-put_named.field-0 ≡ n → PutsNamed {E = AllocError} 64 name channel before (Ok n) after =
     λ n e. subst (λ m. PutsNamed {E = AllocError} 64 name channel before (Ok m) after) e c.in_ok-put_named.ensures in
     elim c.match-branch-2.branch [

@@ -5,8 +5,8 @@ use Rattle.channel_window.specs.Checked.{AreContiguous}
 use Rattle.channel_window.specs.Listed.{segments_in}
 use Rattle.channel_window.specs.Showing.{AreKept, kept_in}
 use Rattle.channel_window.specs.declared.state.ChannelState.{ChannelState}
-use Rattle.playlist_kept.specs.Kept.{IsAfter, IsKept, playlist_in}
-use Rattle.live_channel.specs.Channel.{Channel, IsListed, Refreshes, Stands, channel_with, text_in}
+use Rattle.playlist_kept.specs.Kept.{IsAfter, IsKeptUnderBase, playlist_in}
+use Rattle.live_channel.specs.Channel.{Channel, IsListed, Refreshes, WasGivenSomething, channel_with, text_in}
 use Rattle.live_channel.specs.Inner.Accepting.{Refused, RefusesNext}
 use Rattle.live_channel.specs.LastText.{IsLast}
 use Rattle.live_channel.proofs.Refreshing.{stays, stays_next}
@@ -34,8 +34,8 @@ invariant_of-self c =
     let i = c.self.inside in
     let state : c.accept.new.state ≡ i.state = c.in_err-refreshed.ensures.state in
     let written = c.in_err-refreshed.ensures.written in
-    subst (λ w. Stands (channel_with i.base i.tolerance c.accept.new.state (text_in w)) × AreKept c.accept.new.state.store c.accept.new.state × (IsListed i.source c.accept.new.state.list × AreContiguous (segments_in c.accept.new.state.list)) × IsLast c.accept.new.state w × IsKept i.base i.source) (sym written)
-    (subst (λ (s : ChannelState). Stands (channel_with i.base i.tolerance s (text_in i.written)) × AreKept s.store s × (IsListed i.source s.list × AreContiguous (segments_in s.list)) × IsLast s i.written × IsKept i.base i.source) (sym state)
+    subst (λ w. WasGivenSomething (channel_with i.base i.tolerance c.accept.new.state (text_in w)) × AreKept c.accept.new.state.store c.accept.new.state × (IsListed i.source c.accept.new.state.list × AreContiguous (segments_in c.accept.new.state.list)) × IsLast c.accept.new.state w × IsKeptUnderBase i.base i.source) (sym written)
+    (subst (λ (s : ChannelState). WasGivenSomething (channel_with i.base i.tolerance s (text_in i.written)) × AreKept s.store s × (IsListed i.source s.list × AreContiguous (segments_in s.list)) × IsLast s i.written × IsKeptUnderBase i.base i.source) (sym state)
     (c.self.invariant.0, c.self.invariant.1, c.self.invariant.2, c.self.invariant.3, c.self.invariant.4))
 
 pub returns-in_err-refreshed : goal.returns-in_err-refreshed

@@ -5,9 +5,9 @@ use Rattle.channel_window.specs.Checked.{AreContiguous}
 use Rattle.channel_window.specs.Listed.{segments_in}
 use Rattle.channel_window.specs.Showing.{AreKept, kept_in}
 use Rattle.channel_window.specs.declared.state.ChannelState.{ChannelState}
-use Rattle.playlist_kept.specs.Kept.{IsKept, playlist_in}
-use Rattle.live_channel.specs.Channel.{Channel, IsListed, Refreshes, Stands, channel_with, text_in}
-use Rattle.live_channel.specs.Inner.Accepting.{IsRead, Refused, RefusesNext}
+use Rattle.playlist_kept.specs.Kept.{IsKeptUnderBase, playlist_in}
+use Rattle.live_channel.specs.Channel.{Channel, IsListed, Refreshes, WasGivenSomething, channel_with, text_in}
+use Rattle.live_channel.specs.Inner.Accepting.{BytesAreReadAs, Refused, RefusesNext}
 use Rattle.live_channel.specs.LastText.{IsLast}
 use Rattle.live_channel.proofs.Refreshing.{stays, stays_next}
 use Rattle.live_channel.proofs.Listing.{nothing_taken}
@@ -26,7 +26,7 @@ accept-requires c =
     let i = c.self.inside in
     let bytes = c.args.bytes.items in
     let same : c.as_slice.result.now ≡ bytes = search rules in
-    let here : IsRead i.base bytes (playlist_in c.in_ok-read.read) = subst (λ b. IsRead i.base b (playlist_in c.in_ok-read.read)) same c.in_ok-read.ensures.ok in
+    let here : BytesAreReadAs i.base bytes (playlist_in c.in_ok-read.read) = subst (λ b. BytesAreReadAs i.base b (playlist_in c.in_ok-read.read)) same c.in_ok-read.ensures.ok in
     let read = c.in_ok-read.read in
     let sound : IsSound i.base i.tolerance i.state i.written = record { stands = c.self.invariant.0; kept = c.self.invariant.1; contiguous = c.self.invariant.2.1; laid = c.self.invariant.3 } in
     judged i.base i.tolerance i.state i.written bytes read sound here (nothing_taken _ read.taken.now c.in_ok-read.ensures.taken) c.in_ok-read.ensures.front
@@ -36,8 +36,8 @@ invariant_of-self c =
     let i = c.self.inside in
     let state : c.accept.new.state ≡ i.state = c.in_err-refreshed.ensures.state in
     let written = c.in_err-refreshed.ensures.written in
-    subst (λ w. Stands (channel_with i.base i.tolerance c.accept.new.state (text_in w)) × AreKept c.accept.new.state.store c.accept.new.state × (IsListed i.source c.accept.new.state.list × AreContiguous (segments_in c.accept.new.state.list)) × IsLast c.accept.new.state w × IsKept i.base i.source) (sym written)
-    (subst (λ (s : ChannelState). Stands (channel_with i.base i.tolerance s (text_in i.written)) × AreKept s.store s × (IsListed i.source s.list × AreContiguous (segments_in s.list)) × IsLast s i.written × IsKept i.base i.source) (sym state)
+    subst (λ w. WasGivenSomething (channel_with i.base i.tolerance c.accept.new.state (text_in w)) × AreKept c.accept.new.state.store c.accept.new.state × (IsListed i.source c.accept.new.state.list × AreContiguous (segments_in c.accept.new.state.list)) × IsLast c.accept.new.state w × IsKeptUnderBase i.base i.source) (sym written)
+    (subst (λ (s : ChannelState). WasGivenSomething (channel_with i.base i.tolerance s (text_in i.written)) × AreKept s.store s × (IsListed i.source s.list × AreContiguous (segments_in s.list)) × IsLast s i.written × IsKeptUnderBase i.base i.source) (sym state)
     (c.self.invariant.0, c.self.invariant.1, c.self.invariant.2, c.self.invariant.3, c.self.invariant.4))
 
 pub returns-in_err-refreshed : goal.returns-in_err-refreshed
@@ -45,7 +45,7 @@ returns-in_err-refreshed c =
     let i = c.self.inside in
     let bytes = c.args.bytes.items in
     let same : c.as_slice.result.now ≡ bytes = search rules in
-    let here : IsRead i.base bytes (playlist_in c.in_ok-read.read) = subst (λ b. IsRead i.base b (playlist_in c.in_ok-read.read)) same c.in_ok-read.ensures.ok in
+    let here : BytesAreReadAs i.base bytes (playlist_in c.in_ok-read.read) = subst (λ b. BytesAreReadAs i.base b (playlist_in c.in_ok-read.read)) same c.in_ok-read.ensures.ok in
     let p = playlist_in c.in_ok-read.read in
     let result = c.from_residual-in_err-refreshed.result in
     let state : c.accept.new.state ≡ i.state = c.in_err-refreshed.ensures.state in
@@ -61,7 +61,7 @@ invariant_of-self-2 c =
     let i = c.self.inside in
     let bytes = c.args.bytes.items in
     let same : c.as_slice.result.now ≡ bytes = search rules in
-    let here : IsRead i.base bytes (playlist_in c.in_ok-read.read) = subst (λ b. IsRead i.base b (playlist_in c.in_ok-read.read)) same c.in_ok-read.ensures.ok in
+    let here : BytesAreReadAs i.base bytes (playlist_in c.in_ok-read.read) = subst (λ b. BytesAreReadAs i.base b (playlist_in c.in_ok-read.read)) same c.in_ok-read.ensures.ok in
     let read = c.in_ok-read.read in
     let new = c.accept.new.state in
     let text = c.accept.new.written in
@@ -74,7 +74,7 @@ returns c =
     let i = c.self.inside in
     let bytes = c.args.bytes.items in
     let same : c.as_slice.result.now ≡ bytes = search rules in
-    let here : IsRead i.base bytes (playlist_in c.in_ok-read.read) = subst (λ b. IsRead i.base b (playlist_in c.in_ok-read.read)) same c.in_ok-read.ensures.ok in
+    let here : BytesAreReadAs i.base bytes (playlist_in c.in_ok-read.read) = subst (λ b. BytesAreReadAs i.base b (playlist_in c.in_ok-read.read)) same c.in_ok-read.ensures.ok in
     let read = c.in_ok-read.read in
     let new = c.accept.new.state in
     let text = c.accept.new.written in

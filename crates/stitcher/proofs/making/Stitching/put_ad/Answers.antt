@@ -3,7 +3,7 @@ use Rattle.pod_store.specs.Marks.{Mark}
 use Rattle.pod_store.specs.Pods.{Ad, PodSegment}
 use Rattle.stitcher.specs.Stitched.{ad_piece, ad_pieces}
 use Rattle.stitcher.specs.declared.making.Part.{Part}
-use Rattle.stitcher.specs.Inner.Making.{Passes, numbers_fit, part_here, part_of, part_after, part_after_one}
+use Rattle.stitcher.specs.Inner.Making.{Passes, numbers_fit, part_here, pieces_in_part, part_after, part_after_one}
 use Rattle.stitcher.proofs.Outcomes.{handed_on}
 use Rattle.stitcher.proofs.Putting.{Walks, walks_none, walks_on, walked, passes_there, passes_longer, none_left}
 use Rattle.stitcher.proofs.making.Stitching.put_ad.Goals as goal
@@ -18,8 +18,8 @@ returns-in_err-left-clause-err c =
     let segment = c.in-Some.first.now in
     let parts = sym (ap (λ (a : Ad). a.segments) c.ad.view_is) ∙ (sym c.as_slice.ensures ∙ c.in-Some.ensures.cases.0) in
     handed_on c.from_residual.result c.in_err-left.field-0.0 c.from_residual.ensures.1 c.in_err-left.ensures.err
-    (λ p mark. subst (λ (ss : List PodSegment). Passes c.args.self.now (part_of part (ad_pieces mark ad ss))) (sym parts)
-    (passes_longer c.args.self.now (part_here part (ad_piece mark true ad segment)) (part_of (part_after_one part segment.duration) (map (ad_piece mark false ad) c.in-Some.later.now)) (p mark)))
+    (λ p mark. subst (λ (ss : List PodSegment). Passes c.args.self.now (pieces_in_part part (ad_pieces mark ad ss))) (sym parts)
+    (passes_longer c.args.self.now (part_here part (ad_piece mark true ad segment)) (pieces_in_part (part_after_one part segment.duration) (map (ad_piece mark false ad) c.in-Some.later.now)) (p mark)))
 
 pub loop-segment-init : goal.loop-segment-init
 loop-segment-init c =
@@ -31,10 +31,10 @@ loop-segment-init c =
     let parts = sym (ap (λ (a : Ad). a.segments) c.ad.view_is) ∙ (sym c.as_slice.ensures ∙ c.in-Some.ensures.cases.0) in
     record {
       fits = ap numbers_fit (put any_mark).first ∙ c.requires;
-      walks = λ mark. subst (λ (ss : List PodSegment). Walks c.args.self.now c.offer.new.self (part_of part (ad_pieces mark ad ss)) (part_of c.in_ok-left.left (map (ad_piece mark false ad) later))) (sym parts)
-          (subst (λ (left : Part). Walks c.args.self.now c.offer.new.self (part_of part (ad_pieces mark ad (segment ∷ later))) (part_of left (map (ad_piece mark false ad) later))) (sym c.in_ok-left.ensures.part)
-          (walks_on c.args.self.now c.args.self.now c.offer.new.self (part_of part (ad_pieces mark ad (segment ∷ later))) (part_here part (ad_piece mark true ad segment)) (part_of (part_after_one part segment.duration) (map (ad_piece mark false ad) later))
-          (walks_none c.args.self.now (part_of part (ad_pieces mark ad (segment ∷ later)))) (put mark)));
+      walks = λ mark. subst (λ (ss : List PodSegment). Walks c.args.self.now c.offer.new.self (pieces_in_part part (ad_pieces mark ad ss)) (pieces_in_part c.in_ok-left.left (map (ad_piece mark false ad) later))) (sym parts)
+          (subst (λ (left : Part). Walks c.args.self.now c.offer.new.self (pieces_in_part part (ad_pieces mark ad (segment ∷ later))) (pieces_in_part left (map (ad_piece mark false ad) later))) (sym c.in_ok-left.ensures.part)
+          (walks_on c.args.self.now c.args.self.now c.offer.new.self (pieces_in_part part (ad_pieces mark ad (segment ∷ later))) (part_here part (ad_piece mark true ad segment)) (pieces_in_part (part_after_one part segment.duration) (map (ad_piece mark false ad) later))
+          (walks_none c.args.self.now (pieces_in_part part (ad_pieces mark ad (segment ∷ later)))) (put mark)));
       after = λ mark. ap (λ (ss : List PodSegment). part_after part (ad_pieces mark ad ss)) parts ∙ ap (λ left. part_after left (map (ad_piece mark false ad) later)) (sym c.in_ok-left.ensures.part);
     }
 
@@ -44,8 +44,8 @@ returns-in_err-left-2-clause-err c =
     let part = c.loop-segment.left in
     let segment = c.in-Some-split_first.segment.now in
     handed_on c.from_residual-in_err-left-2.result c.in_err-left-2.field-0.0 c.from_residual-in_err-left-2.ensures.1 c.in_err-left-2.ensures.err
-    (λ p mark. passes_there c.args.self.now c.loop-segment.self (part_of c.args.part (ad_pieces mark ad ad.segments)) (part_here part (ad_piece mark false ad segment)) (part_of (part_after_one part segment.duration) (map (ad_piece mark false ad) c.in-Some-split_first.later.now))
-    (subst (λ (ss : List PodSegment). Walks c.args.self.now c.loop-segment.self (part_of c.args.part (ad_pieces mark ad ad.segments)) (part_of part (map (ad_piece mark false ad) ss))) c.in-Some-split_first.ensures.cases.0 (c.loop-segment.invariant.walks mark)) (p mark))
+    (λ p mark. passes_there c.args.self.now c.loop-segment.self (pieces_in_part c.args.part (ad_pieces mark ad ad.segments)) (part_here part (ad_piece mark false ad segment)) (pieces_in_part (part_after_one part segment.duration) (map (ad_piece mark false ad) c.in-Some-split_first.later.now))
+    (subst (λ (ss : List PodSegment). Walks c.args.self.now c.loop-segment.self (pieces_in_part c.args.part (ad_pieces mark ad ad.segments)) (pieces_in_part part (map (ad_piece mark false ad) ss))) c.in-Some-split_first.ensures.cases.0 (c.loop-segment.invariant.walks mark)) (p mark))
 
 pub loop-segment-preserved : goal.loop-segment-preserved
 loop-segment-preserved c =
@@ -56,17 +56,17 @@ loop-segment-preserved c =
     let later = c.in-Some-split_first.later.now in
     record {
       fits = ap numbers_fit (put any_mark).first ∙ c.loop-segment.invariant.fits;
-      walks = λ mark. subst (λ (left : Part). Walks c.args.self.now c.offer-in-Some-split_first.new.self (part_of c.args.part (ad_pieces mark ad ad.segments)) (part_of left (map (ad_piece mark false ad) later))) (sym c.in_ok-left-2.ensures.part)
-          (walks_on c.args.self.now c.loop-segment.self c.offer-in-Some-split_first.new.self (part_of c.args.part (ad_pieces mark ad ad.segments)) (part_here part (ad_piece mark false ad segment)) (part_of (part_after_one part segment.duration) (map (ad_piece mark false ad) later))
-          (subst (λ (ss : List PodSegment). Walks c.args.self.now c.loop-segment.self (part_of c.args.part (ad_pieces mark ad ad.segments)) (part_of part (map (ad_piece mark false ad) ss))) c.in-Some-split_first.ensures.cases.0 (c.loop-segment.invariant.walks mark)) (put mark));
+      walks = λ mark. subst (λ (left : Part). Walks c.args.self.now c.offer-in-Some-split_first.new.self (pieces_in_part c.args.part (ad_pieces mark ad ad.segments)) (pieces_in_part left (map (ad_piece mark false ad) later))) (sym c.in_ok-left-2.ensures.part)
+          (walks_on c.args.self.now c.loop-segment.self c.offer-in-Some-split_first.new.self (pieces_in_part c.args.part (ad_pieces mark ad ad.segments)) (part_here part (ad_piece mark false ad segment)) (pieces_in_part (part_after_one part segment.duration) (map (ad_piece mark false ad) later))
+          (subst (λ (ss : List PodSegment). Walks c.args.self.now c.loop-segment.self (pieces_in_part c.args.part (ad_pieces mark ad ad.segments)) (pieces_in_part part (map (ad_piece mark false ad) ss))) c.in-Some-split_first.ensures.cases.0 (c.loop-segment.invariant.walks mark)) (put mark));
       after = λ mark. c.loop-segment.invariant.after mark ∙ (ap (λ (ss : List PodSegment). part_after part (map (ad_piece mark false ad) ss)) c.in-Some-split_first.ensures.cases.0 ∙ ap (λ left. part_after left (map (ad_piece mark false ad) later)) (sym c.in_ok-left-2.ensures.part));
     }
 
 pub returns-clause-ok : goal.returns-clause-ok
 returns-clause-ok c mark =
     let ad = c.args.ad.now in
-    walked c.args.self.now c.loop-segment.self (part_of c.args.part (ad_pieces mark ad ad.segments))
-    (subst (λ (ss : List PodSegment). Walks c.args.self.now c.loop-segment.self (part_of c.args.part (ad_pieces mark ad ad.segments)) (part_of c.loop-segment.left (map (ad_piece mark false ad) ss))) (none_left c.loop-segment.rest.now c.in_default-split_first.ensures.cases) (c.loop-segment.invariant.walks mark))
+    walked c.args.self.now c.loop-segment.self (pieces_in_part c.args.part (ad_pieces mark ad ad.segments))
+    (subst (λ (ss : List PodSegment). Walks c.args.self.now c.loop-segment.self (pieces_in_part c.args.part (ad_pieces mark ad ad.segments)) (pieces_in_part c.loop-segment.left (map (ad_piece mark false ad) ss))) (none_left c.loop-segment.rest.now c.in_default-split_first.ensures.cases) (c.loop-segment.invariant.walks mark))
 
 pub returns-clause-part : goal.returns-clause-part
 returns-clause-part c mark =

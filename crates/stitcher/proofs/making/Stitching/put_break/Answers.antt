@@ -3,7 +3,7 @@ use Rattle.std.specs.Prelude.{Option}
 use Rattle.std.specs.Option.{option_copied}
 use Rattle.pod_store.specs.Pods.{Pod}
 use Rattle.stitcher.specs.Making.{pod_with}
-use Rattle.stitcher.specs.Inner.Making.{Puts, part_of}
+use Rattle.stitcher.specs.Inner.Making.{PutsPieces, pieces_in_part}
 use Rattle.stitcher.proofs.Outcomes.{on_ok}
 use Rattle.stitcher.proofs.making.Stitching.put_break.Goals as goal
 
@@ -12,4 +12,4 @@ returns-in-Some-clause-ok c =
     let id = c.args.id.now in
     let found = sym c.pod_for.ensures ∙ ap option_copied c.in-Some.is in
     on_ok c.put_pod.result c.put_pod.ensures.ok (λ p.
-    subst (λ (o : Option Pod). Puts c.args.self.now c.put_pod.new.self (part_of c.args.part (pod_with id o))) (sym found) (p (record { id = id; pod = c.in-Some.pod.now })))
+    subst (λ (o : Option Pod). PutsPieces c.args.self.now c.put_pod.new.self (pieces_in_part c.args.part (pod_with id o))) (sym found) (p (record { id = id; pod = c.in-Some.pod.now })))

@@ -3,7 +3,7 @@ use Rattle.pod_store.specs.Marks.{Mark}
 use Rattle.pod_store.specs.Pods.{Ad}
 use Rattle.stitcher.specs.Stitched.{Piece, ad_pieces, pieces_of_ads}
 use Rattle.stitcher.specs.declared.making.Part.{Part}
-use Rattle.stitcher.specs.Inner.Making.{numbers_fit, part_of, part_after}
+use Rattle.stitcher.specs.Inner.Making.{numbers_fit, pieces_in_part, part_after}
 use Rattle.stitcher.proofs.Outcomes.{handed_on}
 use Rattle.stitcher.proofs.Parts.{part_append, done_of}
 use Rattle.stitcher.proofs.Putting.{Walks, walks_none, walks_on, walked, passes_there, none_left}
@@ -16,13 +16,13 @@ pub loop-ad-init : goal.loop-ad-init
 loop-ad-init c =
     record {
       fits = c.requires;
-      walks = λ mark. subst (λ (ads : List Ad). Walks c.args.self.now c.args.self.now (part_of c.args.part (pieces_of_ads mark c.args.pod.now.ads)) (part_of c.args.part (pieces_of_ads mark ads))) (sym c.ads-rest.ensures.value)
-          (walks_none c.args.self.now (part_of c.args.part (pieces_of_ads mark c.args.pod.now.ads)));
+      walks = λ mark. subst (λ (ads : List Ad). Walks c.args.self.now c.args.self.now (pieces_in_part c.args.part (pieces_of_ads mark c.args.pod.now.ads)) (pieces_in_part c.args.part (pieces_of_ads mark ads))) (sym c.ads-rest.ensures.value)
+          (walks_none c.args.self.now (pieces_in_part c.args.part (pieces_of_ads mark c.args.pod.now.ads)));
     }
 
 pub returns-then-left-clause-ok : goal.returns-then-left-clause-ok
 returns-then-left-clause-ok c mark =
-    let all = part_of c.args.part (pieces_of_ads mark c.args.pod.now.ads) in
+    let all = pieces_in_part c.args.part (pieces_of_ads mark c.args.pod.now.ads) in
     walked c.args.self.now c.loop-ad.self all
     (subst (λ (ps : List Piece). Walks c.args.self.now c.loop-ad.self all ps) (done_of c.loop-ad.left (pieces_of_ads mark c.loop-ad.rest.now) c.if-left.true) (c.loop-ad.invariant.walks mark))
 
@@ -34,10 +34,10 @@ returns-in_err-left-clause-err c =
     handed_on c.from_residual.result c.in_err-left.field-0.0 c.from_residual.ensures.1 c.in_err-left.ensures.err
     (λ p mark.
     let here = ad_pieces mark ad ad.segments in
-    let all = part_of c.args.part (pieces_of_ads mark c.args.pod.now.ads) in
-    passes_there c.args.self.now c.loop-ad.self all (part_of part here) (part_of (part_after part here) (pieces_of_ads mark later))
+    let all = pieces_in_part c.args.part (pieces_of_ads mark c.args.pod.now.ads) in
+    passes_there c.args.self.now c.loop-ad.self all (pieces_in_part part here) (pieces_in_part (part_after part here) (pieces_of_ads mark later))
     (subst (λ (ps : List Piece). Walks c.args.self.now c.loop-ad.self all ps) (part_append part here (pieces_of_ads mark later))
-    (subst (λ (ads : List Ad). Walks c.args.self.now c.loop-ad.self all (part_of part (pieces_of_ads mark ads))) c.in-Some.ensures.cases.0 (c.loop-ad.invariant.walks mark))) (p mark))
+    (subst (λ (ads : List Ad). Walks c.args.self.now c.loop-ad.self all (pieces_in_part part (pieces_of_ads mark ads))) c.in-Some.ensures.cases.0 (c.loop-ad.invariant.walks mark))) (p mark))
 
 pub loop-ad-preserved : goal.loop-ad-preserved
 loop-ad-preserved c =
@@ -49,15 +49,15 @@ loop-ad-preserved c =
       fits = ap numbers_fit (put any_mark).first ∙ c.loop-ad.invariant.fits;
       walks = λ mark.
           let here = ad_pieces mark ad ad.segments in
-          let all = part_of c.args.part (pieces_of_ads mark c.args.pod.now.ads) in
-          subst (λ (left : Part). Walks c.args.self.now c.put_ad.new.self all (part_of left (pieces_of_ads mark later))) (sym (c.in_ok-left.ensures.part mark))
-          (walks_on c.args.self.now c.loop-ad.self c.put_ad.new.self all (part_of part here) (part_of (part_after part here) (pieces_of_ads mark later))
+          let all = pieces_in_part c.args.part (pieces_of_ads mark c.args.pod.now.ads) in
+          subst (λ (left : Part). Walks c.args.self.now c.put_ad.new.self all (pieces_in_part left (pieces_of_ads mark later))) (sym (c.in_ok-left.ensures.part mark))
+          (walks_on c.args.self.now c.loop-ad.self c.put_ad.new.self all (pieces_in_part part here) (pieces_in_part (part_after part here) (pieces_of_ads mark later))
           (subst (λ (ps : List Piece). Walks c.args.self.now c.loop-ad.self all ps) (part_append part here (pieces_of_ads mark later))
-          (subst (λ (ads : List Ad). Walks c.args.self.now c.loop-ad.self all (part_of part (pieces_of_ads mark ads))) c.in-Some.ensures.cases.0 (c.loop-ad.invariant.walks mark))) (put mark));
+          (subst (λ (ads : List Ad). Walks c.args.self.now c.loop-ad.self all (pieces_in_part part (pieces_of_ads mark ads))) c.in-Some.ensures.cases.0 (c.loop-ad.invariant.walks mark))) (put mark));
     }
 
 pub returns-clause-ok : goal.returns-clause-ok
 returns-clause-ok c mark =
-    let all = part_of c.args.part (pieces_of_ads mark c.args.pod.now.ads) in
+    let all = pieces_in_part c.args.part (pieces_of_ads mark c.args.pod.now.ads) in
     walked c.args.self.now c.loop-ad.self all
-    (subst (λ (ads : List Ad). Walks c.args.self.now c.loop-ad.self all (part_of c.loop-ad.left (pieces_of_ads mark ads))) (none_left c.loop-ad.rest.now c.in_default.ensures.cases) (c.loop-ad.invariant.walks mark))
+    (subst (λ (ads : List Ad). Walks c.args.self.now c.loop-ad.self all (pieces_in_part c.loop-ad.left (pieces_of_ads mark ads))) (none_left c.loop-ad.rest.now c.in_default.ensures.cases) (c.loop-ad.invariant.walks mark))

@@ -1,7 +1,7 @@
 use Rattle.std.proofs.Common.{◌≡◌, ◌++◌, map}
 use Rattle.break_finder.specs.Kept.{break_at}
 use Rattle.break_finder.specs.Entrances.{entrances_in}
-use Rattle.break_finder.proofs.entering.listed.Given as goal
+use Rattle.break_finder.proofs.entering.list_entrances.Given as goal
 
 abbrev pub invariant-loop-id : goal.invariant-loop-id
 invariant-loop-id l =

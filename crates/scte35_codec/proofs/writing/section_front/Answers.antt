@@ -3,7 +3,7 @@ use Rattle.scte35_codec.specs.Section.{section_of}
 use Rattle.scte35_codec.specs.Writing.{has_section}
 use Rattle.scte35_codec.specs.Inner.Writing.{front_fields, Appends}
 use Rattle.scte35_codec.proofs.Fits.{kept}
-use Rattle.scte35_codec.proofs.writing.front_of.Goals as goal
+use Rattle.scte35_codec.proofs.writing.section_front.Goals as goal
 
 pub section_length-section_length-requires : goal.section_length-section_length-requires
 section_length-section_length-requires c =

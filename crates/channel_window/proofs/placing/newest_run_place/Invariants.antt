@@ -2,7 +2,7 @@ use Rattle.std.proofs.Common.{◌≡◌, ◌+◌, ◌≤◌, length}
 use Rattle.std.specs.Prelude.{None}
 use Rattle.channel_window.specs.Marking.{place_on}
 use Rattle.stitcher.specs.StitchedSegments.{KnowRuns}
-use Rattle.channel_window.proofs.placing.place_of.Given as goal
+use Rattle.channel_window.proofs.placing.newest_run_place.Given as goal
 
 abbrev pub invariant-loop-here : goal.invariant-loop-here
 invariant-loop-here l = record {

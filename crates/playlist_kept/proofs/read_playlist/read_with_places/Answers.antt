@@ -1,6 +1,6 @@
 use Rattle.std.proofs.Common.{rules, ◌≡◌, true}
 use Rattle.playlist_kept.proofs.Parts.{taken_there}
-use Rattle.playlist_kept.proofs.read_playlist.placed.Goals as goal
+use Rattle.playlist_kept.proofs.read_playlist.read_with_places.Goals as goal
 
 pub returns-then-are_of-clause-taken : goal.returns-then-are_of-clause-taken
 returns-then-are_of-clause-taken c = λ old a.

@@ -3,18 +3,18 @@ use Rattle.std.specs.Option.{option_copied}
 use Rattle.break_finder.specs.declared.described.Described.{Described}
 use Rattle.break_finder.specs.Kept.{break_at}
 use Rattle.break_finder.specs.Inner.Kept.{is_kept_with}
-use Rattle.break_finder.specs.Known.{stands_in, is_this}
+use Rattle.break_finder.specs.Known.{is_tagged_or_carried, is_this}
 use Rattle.break_finder.specs.Inner.Known.{break_stands}
 use Rattle.break_finder.proofs.KeptLaws.{filtered, cloned}
 use Rattle.break_finder.proofs.TagIds.{filter_same}
-use Rattle.break_finder.proofs.carry.standing.Goals as goal
+use Rattle.break_finder.proofs.carry.copy_standing.Goals as goal
 
 pub returns-clause-standing : goal.returns-clause-standing
 returns-clause-standing c =
     let date_ranges = c.args.date_ranges.now in
     let carried = option_copied c.args.carried in
     let es = c.in_ok-kept.kept.entries in
-    let same = filter_same (is_kept_with c.in_ok-ids.ids carried) (λ (e : List ℕ × Described). stands_in date_ranges carried e.0)
+    let same = filter_same (is_kept_with c.in_ok-ids.ids carried) (λ (e : List ℕ × Described). is_tagged_or_carried date_ranges carried e.0)
     (λ e. ap (λ b. b || is_this e.0 carried) (c.in_ok-ids.ensures e.0)) es in
     ap (map break_at) (c.keep_standing.ensures.standing ∙ same) ∙ filtered date_ranges carried es
     ∙ ap (filter (break_stands date_ranges carried)) (cloned c.args.breaks.now.entries es c.in_ok-kept.ensures.cases)

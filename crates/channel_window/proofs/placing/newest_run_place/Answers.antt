@@ -2,7 +2,7 @@ use Rattle.std.proofs.Common.{◌+◌, List, sym, ap, ◌∙◌, arith}
 use Rattle.stitcher.specs.declared.marked.MarkedSegment.{MarkedSegment}
 use Rattle.channel_window.specs.Marking.{place_on}
 use Rattle.channel_window.proofs.Runs.{begun_anew}
-use Rattle.channel_window.proofs.placing.place_of.Goals as goal
+use Rattle.channel_window.proofs.placing.newest_run_place.Goals as goal
 
 pub overflow_add-start : goal.overflow_add-start
 overflow_add-start c =

@@ -4,7 +4,7 @@ use Rattle.std.proofs.lemmas.List.{append-nil}
 use Rattle.playlist_parse.specs.Inner.LineViews.{line_text}
 use Rattle.playlist_parse.specs.Inner.Reached.{Reached, left_in}
 use Rattle.playlist_parse.proofs.Reached.{begun_at}
-use Rattle.playlist_parse.proofs.source.front_of.Goals as goal
+use Rattle.playlist_parse.proofs.source.read_source_front.Goals as goal
 
 pub returns-in-Ok : goal.returns-in-Ok
 returns-in-Ok c =

@@ -1,6 +1,6 @@
 use Rattle.std.proofs.Common.{arith}
 use Rattle.live_channel.proofs.LastText.{stand_again}
-use Rattle.live_channel.proofs.next.standing.Goals as goal
+use Rattle.live_channel.proofs.next.lines_again.Goals as goal
 
 pub returns : goal.returns
 returns c =

@@ -3,10 +3,10 @@ use Rattle.std.specs.Prelude.{None, ℕ}
 use Rattle.playlist_model.specs.Numbering.{segment_numbers}
 use Rattle.playlist_model.specs.declared.Segment.{Segment}
 use Rattle.stitcher.specs.Stitched.{ad_piece}
-use Rattle.stitcher.specs.Inner.Making.{Made, Puts, ad_steps, numbers_with, pushed}
+use Rattle.stitcher.specs.Inner.Making.{Made, PutsPieces, ad_steps, numbers_with, pushed}
 use Rattle.stitcher.proofs.Outcomes.{on_ok}
 use Rattle.stitcher.proofs.Putting.{puts_one}
-use Rattle.stitcher.proofs.making.Stitching.put.Goals as goal
+use Rattle.stitcher.proofs.making.Stitching.put_segment.Goals as goal
 
 steps_are : (first : Bool) (n : ℕ) → n ≡ mir.Val.bool_byte first → n ≡ ad_steps first
 steps_are true n h = h
@@ -19,6 +19,6 @@ returns-clause-ok c =
     on_ok c.push_ad.result c.push_ad.ensures.ok (λ e mark.
     let s = c.new.ensures in
     let p = ad_piece mark c.args.first c.args.ad.now c.args.segment.now in
-    subst (λ (m : Made). Puts made m (p ∷ [])) (ap (λ (x : Segment). pushed made x None (segment_numbers x) None) (sym s) ∙ sym e)
+    subst (λ (m : Made). PutsPieces made m (p ∷ [])) (ap (λ (x : Segment). pushed made x None (segment_numbers x) None) (sym s) ∙ sym e)
     (puts_one made p c.in_ok-numbers.numbers
     (c.in_ok-numbers.ensures.ok.0 ∙ ap (numbers_with made.first made.last) steps) c.in_ok-numbers.ensures.ok.1))

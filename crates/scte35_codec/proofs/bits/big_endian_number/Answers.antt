@@ -1,6 +1,6 @@
 use Rattle.std.proofs.Common.{arith}
 use Rattle.scte35_codec.proofs.Numbers.{number_below, take_whole, number_below_take, more_fits, product_fits}
-use Rattle.scte35_codec.proofs.bits.number.Goals as goal
+use Rattle.scte35_codec.proofs.bits.big_endian_number.Goals as goal
 
 pub overflow_mul-number : goal.overflow_mul-number
 overflow_mul-number c =

@@ -13,7 +13,7 @@ use Rattle.playlist_kept.specs.Kept.{AreKeptLines, kept_segments, playlist_in}
 use Rattle.playlist_parse.proofs.Light.{none_read, told_at, told_after}
 use Rattle.playlist_parse.proofs.Reached.{begun_at, none_more, unread}
 use Rattle.playlist_parse.proofs.GoingTo.{few_reached, plain_front, plain_after, kept_source, taken_on}
-use Rattle.playlist_parse.proofs.reader.read_body.Goals as goal
+use Rattle.playlist_parse.proofs.reader.read_lines.Goals as goal
 
 -- what is left at first, with the lines of the tail, is the whole body
 whole_is : (old : Reading) (front tail body : List (List ℕ)) → left_in old ≡ front → body ≡ front ++ tail → left_in old ++ tail ≡ body
@@ -80,11 +80,11 @@ read_tail-requires-clause-plain c = λ plain.
     let cut = c.cut_after_segments-cut.result in
     plain_after (lines cut.front.now) (lines c.args.body.now) (lines cut.tail.now) c.cut_after_segments-cut.ensures (c.requires.plain plain)
 
-pub placed-requires : goal.placed-requires
-placed-requires c = c.in-Ok-read_tail.ensures.front
+pub read_with_places-requires : goal.read_with_places-requires
+read_with_places-requires c = c.in-Ok-read_tail.ensures.front
 
-pub returns-in-Ok-placed-clause-answer : goal.returns-in-Ok-placed-clause-answer
-returns-in-Ok-placed-clause-answer c =
+pub returns-in-Ok-read_with_places-clause-answer : goal.returns-in-Ok-read_with_places-clause-answer
+returns-in-Ok-read_with_places-clause-answer c =
     let base = c.args.base.now in
     let cut = c.cut_after_segments-cut.result in
     let old = c.reading_of-reading.result in
@@ -94,14 +94,14 @@ returns-in-Ok-placed-clause-answer c =
     let whole = whole_is old (lines cut.front.now) tail (lines c.args.body.now) left c.cut_after_segments-cut.ensures in
     let here = none_more new tail (left_in old ++ tail) c.in-Ok.ensures.none_left
     (c.in-Ok.ensures.reached tail (left_in old ++ tail) (begun_at base old tail c.reading_of-reading.ensures.number c.reading_of-reading.ensures.begun)) in
-    subst (λ ls. and_whole (said_from (said_by limited base) (nothing ∷ []) ls) ≡ Ok (playlist_in c.in-Ok-placed.read)) whole
-    (c.in-Ok-read_tail.ensures.answer base (left_in old ++ tail) here ∙ ap Ok (sym c.in-Ok-placed.ensures.playlist))
+    subst (λ ls. and_whole (said_from (said_by limited base) (nothing ∷ []) ls) ≡ Ok (playlist_in c.in-Ok-read_with_places.read)) whole
+    (c.in-Ok-read_tail.ensures.answer base (left_in old ++ tail) here ∙ ap Ok (sym c.in-Ok-read_with_places.ensures.playlist))
 
-pub returns-in-Err-placed-clause-answer : goal.returns-in-Err-placed-clause-answer
-returns-in-Err-placed-clause-answer c = unread c.fault_at-in-Err-placed.result _ c.fault_at-in-Err-placed.ensures
+pub returns-in-Err-read_with_places-clause-answer : goal.returns-in-Err-read_with_places-clause-answer
+returns-in-Err-read_with_places-clause-answer c = unread c.fault_at-in-Err-read_with_places.result _ c.fault_at-in-Err-read_with_places.ensures
 
-pub returns-in-Ok-placed-clause-lines : goal.returns-in-Ok-placed-clause-lines
-returns-in-Ok-placed-clause-lines c =
+pub returns-in-Ok-read_with_places-clause-lines : goal.returns-in-Ok-read_with_places-clause-lines
+returns-in-Ok-read_with_places-clause-lines c =
     let base = c.args.base.now in
     let cut = c.cut_after_segments-cut.result in
     let old = c.reading_of-reading.result in
@@ -116,14 +116,14 @@ returns-in-Ok-placed-clause-lines c =
     (subst (λ ls. Reached base new.progress new.number [] ls) (append-nil (left_in old) ∙ left) front)
     (fewer (lines cut.front.now) tail (lines c.args.body.now) c.cut_after_segments-cut.ensures c.requires.few)
     c.in-Ok-lines_of.ensures.lines (c.in-Ok-read_tail.ensures.grown base (left_in old ++ tail) here) in
-    subst (λ ls. AreKeptLines base (playlist_in c.in-Ok-placed.read) ls) (sym c.in-Ok-placed.ensures.lines)
-    (subst (λ p. AreKeptLines base p c.in-Ok-lines_of.lines) (sym c.in-Ok-placed.ensures.playlist) kept)
+    subst (λ ls. AreKeptLines base (playlist_in c.in-Ok-read_with_places.read) ls) (sym c.in-Ok-read_with_places.ensures.lines)
+    (subst (λ p. AreKeptLines base p c.in-Ok-lines_of.lines) (sym c.in-Ok-read_with_places.ensures.playlist) kept)
 
-pub returns-in-Ok-placed-clause-front : goal.returns-in-Ok-placed-clause-front
-returns-in-Ok-placed-clause-front c = c.in-Ok-placed.ensures.front
+pub returns-in-Ok-read_with_places-clause-front : goal.returns-in-Ok-read_with_places-clause-front
+returns-in-Ok-read_with_places-clause-front c = c.in-Ok-read_with_places.ensures.front
 
-pub returns-in-Ok-placed-clause-taken : goal.returns-in-Ok-placed-clause-taken
-returns-in-Ok-placed-clause-taken c =
+pub returns-in-Ok-read_with_places-clause-taken : goal.returns-in-Ok-read_with_places-clause-taken
+returns-in-Ok-read_with_places-clause-taken c =
     let base = c.args.base.now in
     let cut = c.cut_after_segments-cut.result in
     let old = c.reading_of-reading.result in
@@ -133,7 +133,7 @@ returns-in-Ok-placed-clause-taken c =
     let here = none_more new tail (left_in old ++ tail) c.in-Ok.ensures.none_left
     (c.in-Ok.ensures.reached tail (left_in old ++ tail) (begun_at base old tail c.reading_of-reading.ensures.number c.reading_of-reading.ensures.begun)) in
     let grown = c.in-Ok-read_tail.ensures.grown base (left_in old ++ tail) here in
-    c.in-Ok-placed.ensures.taken (kept_segments c.args.source.now) (taken_on (playlist_in c.in-Ok-read_tail.read).segments grown.segments grown.segments_are c.in-Ok.ensures.taken)
+    c.in-Ok-read_with_places.ensures.taken (kept_segments c.args.source.now) (taken_on (playlist_in c.in-Ok-read_tail.read).segments grown.segments grown.segments_are c.in-Ok.ensures.taken)
 
 pub returns-in-Err-read_tail-clause-answer : goal.returns-in-Err-read_tail-clause-answer
 returns-in-Err-read_tail-clause-answer c =
@@ -180,8 +180,8 @@ returns-in-Err-lines_of-clause-light c = λ front later e is light said.
     let left_told = told_after tail c.read_front.new.reading c.in-Ok.ensures.none_left (c.in-Ok.ensures.light tail e told) in
     absurd (cc (c.in-Err-lines_of.ensures.none (none_read left_told)))
 
-pub returns-in-Ok-placed-clause-light : goal.returns-in-Ok-placed-clause-light
-returns-in-Ok-placed-clause-light c = λ front later e is light said.
+pub returns-in-Ok-read_with_places-clause-light : goal.returns-in-Ok-read_with_places-clause-light
+returns-in-Ok-read_with_places-clause-light c = λ front later e is light said.
     let base = c.args.base.now in
     let cut = c.cut_after_segments-cut.result in
     let old = c.reading_of-reading.result in
@@ -192,8 +192,8 @@ returns-in-Ok-placed-clause-light c = λ front later e is light said.
     let left_told = told_after tail c.read_front.new.reading c.in-Ok.ensures.none_left (c.in-Ok.ensures.light tail e told) in
     absurd (cc (c.in-Ok-read_tail.ensures.light base e left_told))
 
-pub returns-in-Err-placed-clause-light : goal.returns-in-Err-placed-clause-light
-returns-in-Err-placed-clause-light c = λ front later e is light said.
+pub returns-in-Err-read_with_places-clause-light : goal.returns-in-Err-read_with_places-clause-light
+returns-in-Err-read_with_places-clause-light c = λ front later e is light said.
     let base = c.args.base.now in
     let cut = c.cut_after_segments-cut.result in
     let old = c.reading_of-reading.result in

@@ -4,7 +4,7 @@ use Rattle.channel_api.specs.Routes.{path_of, route_of}
 use Rattle.http_edge.specs.Table.{routed}
 use Rattle.http_edge.specs.Edges.{TakenTurn}
 use Rattle.http_edge.proofs.Turns.{stands_for_some}
-use Rattle.http_edge.proofs.edge.Edge.answered.Goals as goal
+use Rattle.http_edge.proofs.edge.Edge.answer_request.Goals as goal
 
 pub invariant_of-self : goal.invariant_of-self
 invariant_of-self c =
