@@ -21,7 +21,7 @@ use Rattle.channel_spec.specs.Marking.{Moment, last_mark, last_entered, continue
 use Rattle.channel_spec.specs.Successor.{first_number}
 use Rattle.channel_spec.specs.Live.{succession_fault, last_playlist, store_by_outcome, decide, is_mark_of, in_use, in_use_with, ids_of_option, marks_from, rest_before, rest_id}
 use Rattle.channel_spec.proofs.StoreAfter.{entries_after}
-use Rattle.stitcher.specs.Paced.{MeantRest}
+use Rattle.stitcher.specs.Paced.{PodRest}
 use Rattle.channel_spec.specs.LiveLaws.{HasPod, first_shown}
 use Rattle.channel_spec.proofs.Windows.{In}
 use Rattle.channel_spec.proofs.Passed.{passed}
@@ -228,7 +228,7 @@ marks_listed first [] id = refl
 marks_listed first (s ∷ before) id = grind (arith, one_of_append, or_swap, one_id, marks_listed first before id)
 
 -- the breaks in use are those that are shown, and that of the rest
-pub in_use_with_is : (first : ℕ) (history : List Marked) (last : Option (List ℕ)) (rest : Option MeantRest) (id : List ℕ)
+pub in_use_with_is : (first : ℕ) (history : List Marked) (last : Option (List ℕ)) (rest : Option PodRest) (id : List ℕ)
     → is_one_of (in_use_with first history last rest) id ≡ (is_shown_with first history last id || is_this id (rest_id rest))
 in_use_with_is first history last rest id = grind (arith, one_of_append, marks_listed, one_id, grouped)
 

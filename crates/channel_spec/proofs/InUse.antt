@@ -21,7 +21,7 @@ use Rattle.channel_spec.specs.Live.{Event, decided, refreshed, Told, told, happe
 use Rattle.channel_spec.proofs.StoreAfter.{entries_after}
 use Rattle.channel_spec.proofs.HeldPods.{is_shown, in_use_is}
 use Rattle.channel_spec.specs.LiveLaws.{HasPod, ShownHavePods, first_shown, rest_mark, UsedAreInUse}
-use Rattle.stitcher.specs.Paced.{MeantRest}
+use Rattle.stitcher.specs.Paced.{PodRest}
 use Rattle.channel_spec.proofs.UsedPods.{marks_have_pods}
 use Rattle.channel_spec.proofs.EachWindow.{WindowOf, holds}
 
@@ -129,7 +129,7 @@ both true b f g = sym (f refl)
 both false true f g = g refl
 both false false f g = refl
 
-rest_used : (store : Store) (id : List ℕ) (rest : Option MeantRest) → HasPod store (rest_mark rest) → is_this id (rest_id rest) ≡ true → is_used store id ≡ true
+rest_used : (store : Store) (id : List ℕ) (rest : Option PodRest) → HasPod store (rest_mark rest) → is_this id (rest_id rest) ≡ true → is_used store id ≡ true
 rest_used store id None h k = absurd (cc)
 rest_used store id (Some rest) h k = mark_used store id (Some rest.mark) h k
 

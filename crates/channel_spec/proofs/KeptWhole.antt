@@ -41,7 +41,7 @@ use Rattle.channel_spec.proofs.LiveState.{Standing, new_standing}
 use Rattle.channel_spec.proofs.Passed.{passed}
 use Rattle.channel_spec.proofs.KeptSteps.{entered_on, none_marked, marks_append, none_below, cut, show_after, show_first, shown_apart, newest_same, new_same, show_grows}
 use Rattle.std.proofs.Math.Decide.{dec_lt}
-use Rattle.stitcher.specs.Paced.{MeantRest, run_length, due_with, due_stitched, due_list, rest_pieces}
+use Rattle.stitcher.specs.Paced.{PodRest, run_length, due_with, due_stitched, due_list, rest_pieces}
 use Rattle.channel_spec.proofs.Windows.{split_at}
 use Rattle.channel_spec.specs.Sound.{IsSoundPlaylist}
 use Rattle.channel_spec.proofs.DueCut.{length_of, due_capped, due_cut, length_first, length_behind}
@@ -96,7 +96,7 @@ module _ (number first : ℕ) (list gone history : List Marked) (entered : Optio
   marks_same : marks_from number list ≡ marks_from number history
   marks_same = sym (ap (marks_from number) parts.is ∙ marks_append number list gone (none_marked number first gone parts.below on))
 
-  ids_same : (rest rest' : Option MeantRest) → rest ≡ rest' → in_use_with number list (or_earlier (last_entered list) entered) rest ≡ in_use_with number history (last_entered history) rest'
+  ids_same : (rest rest' : Option PodRest) → rest ≡ rest' → in_use_with number list (or_earlier (last_entered list) entered) rest ≡ in_use_with number history (last_entered history) rest'
   ids_same rest rest' e =
       ap (λ ids. ids ++ (ids_of_option (or_earlier (last_entered list) entered) ++ ids_of_option (rest_id rest))) marks_same
       ∙ (ap (λ o. marks_from number history ++ (ids_of_option o ++ ids_of_option (rest_id rest))) parts.last ∙ ap (λ o. marks_from number history ++ (ids_of_option (last_entered history) ++ ids_of_option (rest_id o))) e)
@@ -110,7 +110,7 @@ or_nothing (Some x) = refl
 
 -- ---- the list above what stands below the window
 
-pub stand_on : (whole : Bool) (more : List Marked) (s : Marked) (gone : List Marked) (start : ℕ) (rest : Option MeantRest) (b : Below s gone start rest) → Linked (more ++ (s ∷ gone))
+pub stand_on : (whole : Bool) (more : List Marked) (s : Marked) (gone : List Marked) (start : ℕ) (rest : Option PodRest) (b : Below s gone start rest) → Linked (more ++ (s ∷ gone))
     → due_stitched whole (more ++ (s ∷ gone)) ≡ stitched_on whole (length_of (more ++ (s ∷ gone))) (more ++ (s ∷ [])) rest ++ b.below
 stand_on whole more s gone start rest b l =
     let history = more ++ (s ∷ gone) in
@@ -143,7 +143,7 @@ gone_parts number (x ∷ more) s gone h l = step (nat_le number x.segment.media_
     step false e k = record { part = x ∷ more; whole = rw e refl; alone = rw e refl; linked = l }
 
 -- the rest that the next window begins with
-rest_next : (number last end start from begun : ℕ) (more : List Marked) (s : Marked) (gone list history : List Marked) (there : Option MeantRest) (b : Below s gone start there)
+rest_next : (number last end start from begun : ℕ) (more : List Marked) (s : Marked) (gone list history : List Marked) (there : Option PodRest) (b : Below s gone start there)
     → there ≡ rest_with 0 start (length (stitched (rest_of s gone))) gone → list ≡ more ++ (s ∷ []) → history ≡ more ++ (s ∷ gone) → Linked (more ++ (s ∷ gone)) → FallFrom end (more ++ (s ∷ gone)) → s.segment.media_sequence ≡ last → last ≤ number
     → begun ≡ from + start → item_place number history ≡ (item_place number list + length (rest_pieces there)) + start → (number ≡ last → begun ≡ start)
     → (t : Bool) → (number == last) ≡ t → cond t there (rest_over (length (rest_pieces there)) from number list) ≡ rest_over 0 begun number history
@@ -180,7 +180,7 @@ pub record FollowsFrom (k : Kept) (tolerance : ℕ) (p : Playlist) (t : Told) : 
   pub last_is : reverse (last_items k) ≡ window_by (last_playlist t.accepted) t.start t.history
   pub items_on : succession_fault (last_playlist t.accepted) p ≡ None → GoesOn (last_items k) (kept_items tolerance k p)
 
-pub kept_ext : (store store' : Store) (breaks breaks' : List Break) (last : Option Heading) (shown shown' : List Marked) (entered entered' : Option (List ℕ)) (numbers numbers' : Numbers) (n n' : ℕ) (rest rest' : Option MeantRest)
+pub kept_ext : (store store' : Store) (breaks breaks' : List Break) (last : Option Heading) (shown shown' : List Marked) (entered entered' : Option (List ℕ)) (numbers numbers' : Numbers) (n n' : ℕ) (rest rest' : Option PodRest)
     → store ≡ store' → breaks ≡ breaks' → shown ≡ shown' → entered ≡ entered' → numbers ≡ numbers' → n ≡ n' → rest ≡ rest'
     → ◌≡◌ {A = Kept} (record { store = store; breaks = breaks; last = last; shown = shown; entered = entered; numbers = numbers; so_far = n; rest = rest })
     (record { store = store'; breaks = breaks'; last = last; shown = shown'; entered = entered'; numbers = numbers'; so_far = n'; rest = rest' })
@@ -249,7 +249,7 @@ module _ (tolerance : ℕ) (p : Playlist) (a : Accepted) (earlier : List Accepte
   abbrev t : Told
   t = record { accepted = a ∷ earlier; history = newer ++ (s ∷ gone); store = store; start = start }
 
-  abbrev there : Option MeantRest
+  abbrev there : Option PodRest
   there = rest_with 0 start (length (stitched (rest_of s gone))) gone
 
   -- the pieces that stood from the window's first item on

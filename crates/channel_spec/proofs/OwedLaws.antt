@@ -9,7 +9,7 @@ use Rattle.playlist_model.specs.declared.DateRange.{DateRange}
 use Rattle.playlist_model.specs.declared.Playlist.{Playlist}
 use Rattle.pod_store.specs.Marks.{Mark, Marked, continues}
 use Rattle.stitcher.specs.Stitched.{Piece, Item, Numbers, is_kept, kept_piece, run_pieces, stitched, numbered, first_numbers, from_place}
-use Rattle.stitcher.specs.Paced.{MeantRest, older, run_length, due, newest_pieces, due_with, due_stitched, rest_pieces}
+use Rattle.stitcher.specs.Paced.{PodRest, older, run_length, due, newest_pieces, due_with, due_stitched, rest_pieces}
 use Rattle.channel_spec.specs.declared.fault.RefreshFault.{RefreshFault}
 use Rattle.pod_store.specs.Store.{Store, is_named, kept_in_use}
 use Rattle.pod_store.specs.Outcome.{DecisionOutcome}
@@ -175,7 +175,7 @@ unmarked_older s (t ∷ before) l = grind (arith, unmarked_older t before l.1)
 kept_due : (whole : Bool) (n : ℕ) (history : List Marked) → Linked history → filter is_kept (due_with whole n history) ≡ map kept_piece (filter is_unmarked history)
 kept_due whole n history l = grind (arith, due_newest, filter-append, kept_newest, of_unmarked, kept_stitched, kept_first, unmarked_older)
 
-kept_rest : (o : Option MeantRest) → filter is_kept (rest_pieces o) ≡ []
+kept_rest : (o : Option PodRest) → filter is_kept (rest_pieces o) ≡ []
 kept_rest o = grind (arith, filter-reverse, reverse, none_kept, all_drop, ads_of)
 
 shown_linked : (first : ℕ) (history : List Marked) → Linked history → Linked (shown_from first history)

@@ -15,7 +15,7 @@ use Rattle.channel_spec.specs.Successor.{first_number, end_number, has_init_sect
 use Rattle.channel_spec.specs.Live.{Event, decided, refreshed, succession_fault, last_playlist, moment}
 use Rattle.channel_spec.specs.LiveLaws.{Linked}
 use Rattle.channel_spec.specs.Sound.{IsSoundPlaylist, IsSoundEvent}
-use Rattle.stitcher.specs.Paced.{first_of_run, run_length, older, due_with, due_stitched, MeantRest, rest_pieces}
+use Rattle.stitcher.specs.Paced.{first_of_run, run_length, older, due_with, due_stitched, PodRest, rest_pieces}
 use Rattle.channel_spec.specs.Live.{Told, item_place, gone_before, rest_over, start_after, after_refresh, refusal, happens, told}
 use Rattle.channel_spec.proofs.Growth.{history_grows}
 use Rattle.channel_spec.proofs.Windows.{length-reverse}
@@ -189,17 +189,17 @@ all_start tolerance (event ∷ before) g = event_starts tolerance (told toleranc
 
 -- ---- the rest, and what stands below the window
 
-abbrev pub rest_found : ℕ → ℕ → List Marked → Option MeantRest
+abbrev pub rest_found : ℕ → ℕ → List Marked → Option PodRest
 rest_found base start gone = option_map (λ (mark : Mark). record { mark = mark; place = start - (newest_place gone + base) }) (newest_mark gone)
 
-abbrev pub rest_with : ℕ → ℕ → ℕ → List Marked → Option MeantRest
+abbrev pub rest_with : ℕ → ℕ → ℕ → List Marked → Option PodRest
 rest_with base start place gone = cond (nat_lt start (place + base)) (rest_found base start gone) None
 
 pub rest_is : (end start : ℕ) (newer : List Marked) (s : Marked) (gone : List Marked) → FallFrom end (newer ++ (s ∷ gone))
     → rest_over 0 start s.segment.media_sequence (newer ++ (s ∷ gone)) ≡ rest_with 0 start (length (stitched (rest_of s gone))) gone
 rest_is end start newer s gone f = grind (arith, up_bottom, place_rest, rest_of, gone_bottom)
 
-pub record Below (s : Marked) (gone : List Marked) (start : ℕ) (rest : Option MeantRest) : Type 0 where
+pub record Below (s : Marked) (gone : List Marked) (start : ℕ) (rest : Option PodRest) : Type 0 where
   pub below : List Piece
   pub is : stitched (rest_of s gone) ≡ rest_pieces rest ++ below
   pub size : length below ≡ start
@@ -239,7 +239,7 @@ below_part s [] start f l e h i j = absurd (cc)
 below_part s (r ∷ before) start f l e h i j =
     let k = cut_pod s r before start f l e h (continues s (r ∷ before)) i j (start - (newest_place (r ∷ before) + 0)) (omega arith) in
     let rest = is_before start (length (stitched (rest_of s (r ∷ before)))) (r ∷ before) f i e in
-    subst (λ (o : Option MeantRest). Below s (r ∷ before) start o) (sym rest) (record { below = k.0; is = k.1.0; size = k.1.1 })
+    subst (λ (o : Option PodRest). Below s (r ∷ before) start o) (sym rest) (record { below = k.0; is = k.1.0; size = k.1.1 })
 
 pub below_start : (end start : ℕ) (newer : List Marked) (s : Marked) (gone : List Marked) → FallFrom end (newer ++ (s ∷ gone)) → Linked gone
     → StartAt s.segment.media_sequence (newer ++ (s ∷ gone)) start → Below s gone start (rest_with 0 start (length (stitched (rest_of s gone))) gone)

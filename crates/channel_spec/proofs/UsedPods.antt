@@ -15,7 +15,7 @@ use Rattle.channel_spec.specs.Successor.{first_number, end_number}
 use Rattle.channel_spec.specs.Live.{Event, decided, refreshed, moment, succession_fault, last_playlist, breaks_in_use, rest_before}
 use Rattle.channel_spec.specs.LiveLaws.{HasPod, ShownHavePods, first_shown}
 use Rattle.channel_spec.specs.Sound.{IsSoundPlaylist, IsSoundEvent}
-use Rattle.stitcher.specs.Paced.{MeantRest, due_stitched}
+use Rattle.stitcher.specs.Paced.{PodRest, due_stitched}
 use Rattle.channel_spec.specs.Live.{Told, item_place, gone_before, rest_over, rest_id, start_after, after_refresh, refusal, happens}
 use Rattle.channel_spec.specs.Live.{rest_by}
 use Rattle.channel_spec.specs.LiveLaws.{rest_mark, MarksHavePods}
@@ -51,7 +51,7 @@ Held p =
     ShownHavePods p.store (first_shown p.accepted) p.history
     × (HasPod p.store (last_mark p.history) × HasPod p.store (rest_mark (rest_by (last_playlist p.accepted) p.start p.history)))
 
-rest_used : (rest : Option MeantRest) (f : Mark) → rest_mark rest ≡ Some f → is_this f.id (rest_id rest) ≡ true
+rest_used : (rest : Option PodRest) (f : Mark) → rest_mark rest ≡ Some f → is_this f.id (rest_id rest) ≡ true
 rest_used rest f e = grind (arith, same_id)
 
 rest_same : (n : ℕ) (new old : List Marked) (start : ℕ) → up_to n new ≡ up_to n old → gone_before n new ≡ gone_before n old → rest_over 0 start n new ≡ rest_over 0 start n old

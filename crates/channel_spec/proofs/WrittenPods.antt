@@ -8,7 +8,7 @@ use Rattle.playlist_model.specs.declared.Playlist.{Playlist}
 use Rattle.pod_store.specs.Pods.{PodSegment, Ad}
 use Rattle.pod_store.specs.Marks.{Mark, Marked, newest_mark, continues}
 use Rattle.stitcher.specs.Stitched.{Piece, Numbers, ad_piece, ad_pieces, pieces_of_ads, run_pieces, stitched, numbered, first_numbers, from_place}
-use Rattle.stitcher.specs.Paced.{MeantRest, older, due, newest_pieces, due_with, due_stitched, rest_pieces}
+use Rattle.stitcher.specs.Paced.{PodRest, older, due, newest_pieces, due_with, due_stitched, rest_pieces}
 use Rattle.break_finder.specs.Known.{Accepted, is_this}
 use Rattle.channel_spec.specs.Marking.{last_entered}
 use Rattle.channel_spec.specs.Successor.{first_number, end_number, has_init_sections}
@@ -147,7 +147,7 @@ any_due m whole n id (s ∷ before) l a =
 
 -- ---- the rest
 
-any_rest : (id : List ℕ) (o : Option MeantRest) → (is_some o ≡ true → 0 < length (rest_pieces o)) → list_any (of_pod id) (rest_pieces o) ≡ is_this id (rest_id o)
+any_rest : (id : List ℕ) (o : Option PodRest) → (is_some o ≡ true → 0 < length (rest_pieces o)) → list_any (of_pod id) (rest_pieces o) ≡ is_this id (rest_id o)
 any_rest id o h = grind (arith, any_reverse, any_of, all_drop, ads_of, length-reverse)
 
 rest_some : (s : Marked) (gone : List Marked) (start : ℕ) → Below s gone start (rest_with 0 start (length (stitched (rest_of s gone))) gone)

@@ -8,7 +8,7 @@ use Rattle.channel_spec.specs.declared.heading.Heading.{Heading}
 use Rattle.playlist_model.specs.LookBack.{or_earlier}
 use Rattle.pod_store.specs.Marks.{Mark, Marked, newest_mark, continues}
 use Rattle.stitcher.specs.Stitched.{Numbers, Piece, Item, can_be_numbered, numbered, first_numbers, from_place}
-use Rattle.stitcher.specs.Paced.{MeantRest, rest_pieces, run_length, due_with}
+use Rattle.stitcher.specs.Paced.{PodRest, rest_pieces, run_length, due_with}
 use Rattle.pod_store.specs.Store.{Store, kept_in_use}
 use Rattle.pod_store.specs.Pods.{total}
 use Rattle.channel_spec.specs.declared.fault.RefreshFault.{RefreshFault}
@@ -31,7 +31,7 @@ pub record Kept : Type 0 where
   pub entered : Option (List ℕ)
   pub numbers : Numbers
   pub so_far : ℕ
-  pub rest : Option MeantRest
+  pub rest : Option PodRest
 
 -- ---- what is kept of all that was told
 
@@ -131,7 +131,7 @@ kept_length tolerance kept playlist =
     length_on (kept_moment tolerance kept playlist) kept.shown kept.entered kept.so_far (filter (is_new kept.shown) playlist.segments)
 
 -- the stitched list of these segments, after a rest
-abbrev pub stitched_on : Bool → ℕ → List Marked → Option MeantRest → List Piece
+abbrev pub stitched_on : Bool → ℕ → List Marked → Option PodRest → List Piece
 stitched_on whole so_far list rest = due_with whole so_far list ++ rest_pieces rest
 
 -- the stitched list from the item on that the last window started with, if these segments are shown then, the newest run of
@@ -152,12 +152,12 @@ window_on kept playlist list so_far =
     reverse (from_place (start_on kept.last (first_number playlist.segments) kept list) (items_on kept playlist list so_far))
 
 -- the rest that the next window starts with, if the last one showed the segments from `first` on
-abbrev pub next_rest : Option Heading → ℕ → ℕ → ℕ → List Marked → Option MeantRest → Option MeantRest
+abbrev pub next_rest : Option Heading → ℕ → ℕ → ℕ → List Marked → Option PodRest → Option PodRest
 next_rest None first number start list rest = None
 next_rest (Some last) first number start list rest =
     if number == first then rest else rest_over (length (rest_pieces rest)) start number list
 
-abbrev pub rest_after : Kept → Playlist → List Marked → Option MeantRest
+abbrev pub rest_after : Kept → Playlist → List Marked → Option PodRest
 rest_after kept playlist list =
     next_rest kept.last (first_number (listed kept.shown)) (first_number playlist.segments) (start_on kept.last (first_number playlist.segments) kept list) list kept.rest
 
@@ -167,7 +167,7 @@ kept_items tolerance kept playlist = items_on kept playlist (kept_list tolerance
 abbrev pub kept_window : ℕ → Kept → Playlist → List Item
 kept_window tolerance kept playlist = window_on kept playlist (kept_list tolerance kept playlist) (kept_length tolerance kept playlist)
 
-abbrev pub kept_rest : ℕ → Kept → Playlist → Option MeantRest
+abbrev pub kept_rest : ℕ → Kept → Playlist → Option PodRest
 kept_rest tolerance kept playlist = rest_after kept playlist (kept_list tolerance kept playlist)
 
 abbrev pub kept_entered : ℕ → Kept → Playlist → Option (List ℕ)

@@ -13,7 +13,7 @@ use Rattle.pod_store.specs.declared.Decisions.{Decisions}
 use Rattle.pod_store.specs.Marks.{Mark, Marked, newest_mark}
 use Rattle.channel_spec.specs.Marking.{Moment, mark_id, last_entered, history_after}
 use Rattle.stitcher.specs.Stitched.{Item, can_be_numbered, newest_place, up_to, from_place}
-use Rattle.stitcher.specs.Paced.{MeantRest, due_stitched, due_list}
+use Rattle.stitcher.specs.Paced.{PodRest, due_stitched, due_list}
 use Rattle.break_finder.specs.Known.{Accepted, known, is_this}
 use Rattle.channel_spec.specs.Successor.{successor_fault, first_number, has_init_sections, fault_if}
 use Rattle.channel_spec.specs.declared.fault.RefreshFault.{RefreshFault}
@@ -58,16 +58,16 @@ item_place number history = newest_place (up_to number history)
 
 -- what a window that starts at this place has before the item of its first shown segment: the rest of the pod before that. The
 -- place counts `more` items that stand before those of this history
-abbrev pub rest_over : ℕ → ℕ → ℕ → List Marked → Option MeantRest
+abbrev pub rest_over : ℕ → ℕ → ℕ → List Marked → Option PodRest
 rest_over more start number history =
     if nat_lt start (item_place number history + more)
     then option_map (λ (mark : Mark). record { mark = mark; place = start - (newest_place (gone_before number history) + more) }) (newest_mark (gone_before number history))
     else None
 
-abbrev pub rest_before : ℕ → ℕ → List Marked → Option MeantRest
+abbrev pub rest_before : ℕ → ℕ → List Marked → Option PodRest
 rest_before start number history = rest_over 0 start number history
 
-abbrev pub rest_id : Option MeantRest → Option (List ℕ)
+abbrev pub rest_id : Option PodRest → Option (List ℕ)
 rest_id None = None
 rest_id (Some rest) = Some rest.mark.id
 
@@ -82,7 +82,7 @@ marks_from first (s ∷ before) =
     marks_from first before ++ (if nat_le first s.segment.media_sequence then ids_of_option (option_map mark_id s.mark) else [])
 
 -- with the one that was entered last, and the one with the rest of whose pod the window starts
-abbrev pub in_use_with : ℕ → List Marked → Option (List ℕ) → Option MeantRest → List (List ℕ)
+abbrev pub in_use_with : ℕ → List Marked → Option (List ℕ) → Option PodRest → List (List ℕ)
 in_use_with first history last rest = marks_from first history ++ (ids_of_option last ++ ids_of_option (rest_id rest))
 
 -- the breaks in use, if the window starts at this place and its first shown segment has this number: each of which a
@@ -112,7 +112,7 @@ moment tolerance told playlist = record {
 }
 
 -- the rest that the last window starts with
-abbrev pub rest_by : Option Playlist → ℕ → List Marked → Option MeantRest
+abbrev pub rest_by : Option Playlist → ℕ → List Marked → Option PodRest
 rest_by None start history = None
 rest_by (Some last) start history = rest_before start (first_number last.segments) history
 

@@ -7,7 +7,7 @@ use Rattle.break_finder.specs.Laws.{CarriesKnown}
 use Rattle.pod_store.specs.Marks.{Mark, Marked, newest_mark, continues}
 use Rattle.channel_spec.specs.Marking.{Moment, next_shown, last_mark, last_entered}
 use Rattle.stitcher.specs.Stitched.{Piece, Numbers, numbers_at, can_be_numbered, numbered}
-use Rattle.stitcher.specs.Paced.{MeantRest}
+use Rattle.stitcher.specs.Paced.{PodRest}
 use Rattle.channel_spec.specs.Live.{Event, refreshed, told, whole_stitched_list, last_playlist, refusal, rest_by, in_use, owed, owed_for}
 use Rattle.std.specs.List.{AllByRecursion, list_all}
 use Rattle.channel_spec.specs.Successor.{MayFollow, successor_fault, first_number}
@@ -73,7 +73,7 @@ abbrev pub first_shown : List Accepted → ℕ
 first_shown [] = 0
 first_shown (refresh ∷ before) = first_number refresh.playlist.segments
 
-abbrev pub rest_mark : Option MeantRest → Option Mark
+abbrev pub rest_mark : Option PodRest → Option Mark
 rest_mark None = None
 rest_mark (Some rest) = Some rest.mark
 

@@ -9,7 +9,7 @@ use Rattle.playlist_model.specs.declared.Playlist.{Playlist}
 use Rattle.channel_spec.specs.declared.heading.Heading.{Heading}
 use Rattle.pod_store.specs.Marks.{Mark, Marked, newest_mark, mark_with, mark_in}
 use Rattle.stitcher.specs.Stitched.{Numbers, Item, can_be_numbered, numbered, newest_place, up_to, from_place}
-use Rattle.stitcher.specs.Paced.{MeantRest, MeantEnds, rest_pieces, stitched_with}
+use Rattle.stitcher.specs.Paced.{PodRest, StitchedEnds, rest_pieces, stitched_with}
 use Rattle.pod_store.specs.Store.{Store, pod_for}
 use Rattle.stitcher.specs.declared.marked.MarkedSegment.{MarkedSegment as Held}
 use Rattle.stitcher.specs.declared.OutSegment.{OutSegment}
@@ -88,7 +88,7 @@ rest_some store start before behind from gone rest m id copy d cut is same count
     let at : newest_place (history_in store gone) ≡ behind = place_is_counted store gone d ∙ sym counted in
     let place_is : from ≡ start - (newest_place (history_in store gone) + before) = omega (arith, is_from, at) in
     let mark : mark_with copy (pod_for store copy) ≡ newest_mark (history_in store gone) = ap (λ i. mark_in store (Some i)) same ∙ (ap (mark_in store) (sym is) ∙ sym (newest_seen store gone rest m cut)) in
-    let there : ℕ → Mark → MeantRest = λ k mark. record { mark = mark; place = k } in
+    let there : ℕ → Mark → PodRest = λ k mark. record { mark = mark; place = k } in
     ap (λ k. option_map (there k) (mark_with copy (pod_for store copy))) place_is
     ∙ ap (option_map (there (start - (newest_place (history_in store gone) + before)))) mark
 
@@ -109,7 +109,7 @@ module _ (state : ChannelState) (p : Playlist) (list : List Held) (n : ℕ) (end
   items_are : numbered first (stitched_with (ends_in state.store ends) seen) ≡ items_on (kept_in state) p seen n
   items_are =
       ap (λ (f : Numbers). numbered f (stitched_with (ends_in state.store ends) seen)) first_is
-      ∙ ap (numbered (numbers_on state.last state.shown.numbers seen)) (ap (λ (e : MeantEnds). stitched_with e seen) ends_are ∙ sym (between_ends p.end_list n seen (rest_in state.store state.shown.rest)))
+      ∙ ap (numbered (numbers_on state.last state.shown.numbers seen)) (ap (λ (e : StitchedEnds). stitched_with e seen) ends_are ∙ sym (between_ends p.end_list n seen (rest_in state.store state.shown.rest)))
 
   pub fit_is : list_all item_fits (stitched_segments state.store first ends list) ≡ list_all can_be_numbered (items_on (kept_in state) p seen n)
   fit_is = number_range_is_stitched state.store first ends list ∙ ap (list_all can_be_numbered) items_are
@@ -127,7 +127,7 @@ module _ (state : ChannelState) (p : Playlist) (list : List Held) (n : ℕ) (end
 
   pub room_left : (items : List OutSegment) → items ≡ stitched_segments state.store first ends list → (front : List Held) → IsFront front list → place_on state.store None 0 0 front + rest_count state.store state.shown.rest ≤ length items
   room_left items items_is front f =
-      let same : rest_count state.store ends.rest ≡ rest_count state.store state.shown.rest = ap (λ (e : MeantEnds). length (rest_pieces e.rest)) ends_are in
+      let same : rest_count state.store ends.rest ≡ rest_count state.store state.shown.rest = ap (λ (e : StitchedEnds). length (rest_pieces e.rest)) ends_are in
       omega (arith, within state.store first ends list front decided f, same, ap length items_is)
 
   pub has_room : (items : List OutSegment) → items ≡ stitched_segments state.store first ends list → length items < 2 ^ 64 → HasRoom state.store state.shown.rest list

@@ -48,17 +48,17 @@ due_list ended history = numbered (first_numbers history) (due_stitched ended hi
 -- ---- the two ends of a part of the list
 
 -- the rest of a pod, from this place in it on
-pub record MeantRest : Type 0 where
+pub record PodRest : Type 0 where
   pub mark : Mark
   pub place : ℕ
 
-abbrev pub rest_pieces : Option MeantRest → List Piece
+abbrev pub rest_pieces : Option PodRest → List Piece
 rest_pieces None = []
 rest_pieces (Some rest) = reverse (drop rest.place (pod_pieces rest.mark))
 
 -- the rest of a pod that comes first, and how long the last run has lasted, if it is open
-pub record MeantEnds : Type 0 where
-  pub rest : Option MeantRest
+pub record StitchedEnds : Type 0 where
+  pub rest : Option PodRest
   pub so_far : Option ℕ
 
 abbrev pub or_zero : Option ℕ → ℕ
@@ -66,5 +66,5 @@ or_zero None = 0
 or_zero (Some n) = n
 
 -- the list of these segments, between these ends
-abbrev pub stitched_with : MeantEnds → List Marked → List Piece
+abbrev pub stitched_with : StitchedEnds → List Marked → List Piece
 stitched_with ends marked = due_with (is_none ends.so_far) (or_zero ends.so_far) marked ++ rest_pieces ends.rest

@@ -3,7 +3,7 @@ use Rattle.std.specs.Prelude.{◌≡◌, ℕ, ◌^◌, Bool, ◌&&◌, nat_lt, L
 use Rattle.std.specs.List.{AllByRecursion}
 use Rattle.pod_store.specs.Marks.{Mark, Marked as Meant, mark_in}
 use Rattle.stitcher.specs.Stitched.{Numbers, numbered}
-use Rattle.stitcher.specs.Paced.{MeantRest, MeantEnds, stitched_with}
+use Rattle.stitcher.specs.Paced.{PodRest, StitchedEnds, stitched_with}
 use Rattle.pod_store.specs.Store.{Store, pod_for}
 use Rattle.stitcher.specs.declared.OutSegment.{OutSegment}
 use Rattle.stitcher.specs.declared.marked.MarkedSegment.{MarkedSegment}
@@ -36,14 +36,14 @@ KnowRuns previous [] = Unit {0}
 KnowRuns previous (m ∷ later) = KnowsRun previous m × KnowRuns m.mark later
 
 -- the rest of a pod that the store has
-abbrev pub rest_from : ℕ → Mark → MeantRest
+abbrev pub rest_from : ℕ → Mark → PodRest
 rest_from place mark = record { mark = mark; place = place }
 
-abbrev pub rest_in : Store → Option Rest → Option MeantRest
+abbrev pub rest_in : Store → Option Rest → Option PodRest
 rest_in store None = None
 rest_in store (Some rest) = option_map (rest_from rest.place) (mark_in store (Some rest.id))
 
-abbrev pub ends_in : Store → Ends → MeantEnds
+abbrev pub ends_in : Store → Ends → StitchedEnds
 ends_in store ends = record { rest = rest_in store ends.rest; so_far = ends.so_far }
 
 -- the stitched list of these segments between these ends, whose first item has these numbers, in the order of a playlist

@@ -18,7 +18,7 @@ use Rattle.channel_spec.specs.Live as live
 use Rattle.channel_spec.specs.Live.{decided, refreshed, told, refusal}
 use Rattle.channel_spec.specs.Successor.{successor_fault}
 use Rattle.channel_spec.specs.Kept.{Kept, kept_of}
-use Rattle.stitcher.specs.Paced.{MeantRest}
+use Rattle.stitcher.specs.Paced.{PodRest}
 use Rattle.worked_examples.specs.Playlists.{identity, under_key_1}
 use Rattle.worked_examples.specs.Tables.{HasValues}
 
@@ -273,7 +273,7 @@ PodsAreKept = HasValues stored (
     ∷ (window (lasting 10 b ∷ lasting 10 (tag (codes "c") 20) ∷ []) 3 2 ∷ window (lasting 10 b ∷ lasting 10 (tag (codes "c") 20) ∷ []) 2 2 ∷ window (lasting 10 b ∷ lasting 10 (tag (codes "c") 20) ∷ []) 0 2 ∷ decide (codes "c") (2000 ∷ []) ∷ decide_b ∷ [], (codes "c", true) ∷ []) ∷ [])
 
 abbrev pub kept_briefly : Kept → Option (List ℕ) × List ℕ × ℕ × Option ℕ × ℕ
-kept_briefly kept = (kept.entered, kept.numbers.media_sequence ∷ kept.numbers.discontinuity_sequence ∷ kept.numbers.discontinuities ∷ [], kept.so_far, option_map (λ (rest : MeantRest). rest.place) kept.rest, length kept.shown)
+kept_briefly kept = (kept.entered, kept.numbers.media_sequence ∷ kept.numbers.discontinuity_sequence ∷ kept.numbers.discontinuities ∷ [], kept.so_far, option_map (λ (rest : PodRest). rest.place) kept.rest, length kept.shown)
 
 -- the last break entered, the numbers of the window's first item, how long the newest run has lasted, the place in the pod that the
 -- window starts with, and how many segments are shown

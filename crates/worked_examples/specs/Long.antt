@@ -6,7 +6,7 @@ use Rattle.playlist_model.specs.declared.DateRange.{DateRange}
 use Rattle.pod_store.specs.Marks.{Marked}
 use Rattle.break_finder.specs.Breaks.{Break}
 use Rattle.stitcher.specs.Stitched.{Item}
-use Rattle.stitcher.specs.Paced.{MeantRest}
+use Rattle.stitcher.specs.Paced.{PodRest}
 use Rattle.channel_spec.specs.Live.{Event, refreshed, told, last_playlist, in_use, whole_stitched_list, date_range_text}
 use Rattle.channel_spec.specs.Kept.{Kept, kept_of, window_by}
 use Rattle.channel_spec.specs.LastWindow.{last_items}
@@ -164,7 +164,7 @@ WindowsAreKept = HasValues both_windows (
 abbrev pub sequence_number : Marked → ℕ
 sequence_number s = s.segment.media_sequence
 
-abbrev pub rest_row : MeantRest → List ℕ × ℕ
+abbrev pub rest_row : PodRest → List ℕ × ℕ
 rest_row rest = (rest.mark.id, rest.place)
 
 abbrev pub kept_briefly : Kept → List (List ℕ) × Option (List ℕ) × List ℕ × ℕ × Option (List ℕ × ℕ) × List ℕ

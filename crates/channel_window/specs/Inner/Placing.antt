@@ -5,7 +5,7 @@ use Rattle.stitcher.specs.declared.marked.MarkedSegment.{MarkedSegment as Held}
 use Rattle.stitcher.specs.declared.ends.Rest.{Rest}
 use Rattle.pod_store.specs.Marks.{Mark, Marked, newest_mark}
 use Rattle.stitcher.specs.Stitched.{newest_place}
-use Rattle.stitcher.specs.Paced.{MeantRest, rest_pieces}
+use Rattle.stitcher.specs.Paced.{PodRest, rest_pieces}
 use Rattle.stitcher.specs.StitchedSegments.{rest_in}
 use Rattle.channel_window.specs.Marking.{place_on}
 use Rattle.channel_window.specs.Inner.Listed.{IsFront}
@@ -25,5 +25,5 @@ abbrev pub IsWithin : Store → Option Rest → List Held → ℕ → Type 0
 IsWithin store rest list most = (front : List Held) → IsFront front list → place_on store None 0 0 front + rest_count store rest ≤ most
 
 -- what a window that starts at this place has of the pod of the newest run of these segments, after so many items of a rest
-abbrev pub rest_of_newest_run : ℕ → ℕ → List Marked → Option MeantRest
+abbrev pub rest_of_newest_run : ℕ → ℕ → List Marked → Option PodRest
 rest_of_newest_run before start gone = option_map (λ (mark : Mark). record { mark = mark; place = start - (newest_place gone + before) }) (newest_mark gone)
