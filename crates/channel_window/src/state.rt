@@ -38,11 +38,7 @@ impl Shown {
         Ok(Shown {
             knowledge: Knowledge::new(alloc, hashing)?,
             entered: None,
-            numbers: Numbers {
-                media_sequence: 0,
-                discontinuity_sequence: 0,
-                discontinuities: 0,
-            },
+            numbers: Numbers::zero(),
             so_far: Nanos(0),
             rest: None,
             ending: None,

@@ -199,11 +199,7 @@ pub fn run_end(
         return Ok(None);
     }
     let newest = list.split_at(list.len().saturating_sub(1)).1;
-    let unnumbered = Numbers {
-        media_sequence: 0,
-        discontinuity_sequence: 0,
-        discontinuities: 0,
-    };
+    let unnumbered = Numbers::zero();
     let Some(run) = run_items(alloc, newest, 0, store, unnumbered, ended, lasted)? else {
         return Ok(None);
     };

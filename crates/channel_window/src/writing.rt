@@ -297,11 +297,7 @@ pub(crate) fn first_numbers_in(items: StitchedItems<'_>) -> Numbers
             discontinuity_sequence: first.discontinuity_sequence,
             discontinuities: first.discontinuities,
         },
-        None => Numbers {
-            media_sequence: 0,
-            discontinuity_sequence: 0,
-            discontinuities: 0,
-        },
+        None => Numbers::zero(),
     }
 }
 
@@ -357,11 +353,7 @@ fn first_numbers(
         (stitched_segments store.now (first_numbers_of list.now) ends.now list.now) ≡ false)) }
 {
     let Some(first) = list.first() else {
-        return Ok(Numbers {
-            media_sequence: 0,
-            discontinuity_sequence: 0,
-            discontinuities: 0,
-        });
+        return Ok(Numbers::zero());
     };
     let segment = &first.segment;
     if let Some(id) = &*first.mark {

@@ -170,11 +170,7 @@ fn items_of<'a>(stretches: &'a [Stretch<'a>]) -> StitchedItems<'a>
         cursor: Cursor {
             ads: &[],
             kept: &[],
-            numbers: Numbers {
-                media_sequence: 0,
-                discontinuity_sequence: 0,
-                discontinuities: 0,
-            },
+            numbers: Numbers::zero(),
             later: stretches,
         },
     }
