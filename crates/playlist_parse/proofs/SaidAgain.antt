@@ -15,7 +15,7 @@ use Rattle.playlist_model.specs.declared.ByteRange.{ByteRange}
 use Rattle.playlist_model.specs.declared.FaultKind.{FaultKind}
 use Rattle.playlist_model.specs.declared.FaultKind.TheVariants as fault
 use Rattle.playlist_model.specs.Lines.{Kind, ignored, uri, tag}
-use Rattle.playlist_model.specs.Said.{Said, Outcome, Name, version_tag, target_tag, sequence_tag, discontinuity_sequence_tag, type_tag, ended_tag, independent_tag, frames_tag, master_tag, duration_tag, byte_range_tag, discontinuity_tag, key_tag, init_section_tag, time_tag, date_range_tag, unknown_tag, version, target, sequence, discontinuity_sequence, playlist_type, ended, duration, byte_range, discontinuity, key, init_section, time, date_range, number_said, version_of, playlist_type_of, byte_range_of, attributes, required, quoted_of, key_said, init_section_byte_range, init_section_said, time_of, length_of, value_in_pair, uri_of, over, date_range_of, date_range_said}
+use Rattle.playlist_model.specs.Said.{Said, Outcome, Name, version_tag, target_tag, sequence_tag, discontinuity_sequence_tag, type_tag, ended_tag, independent_tag, frames_tag, master_tag, duration_tag, byte_range_tag, discontinuity_tag, key_tag, init_section_tag, time_tag, date_range_tag, unknown_tag, version, target, sequence, discontinuity_sequence, playlist_type, ended, duration, byte_range, discontinuity, key, init_section, time, date_range, number_said, version_of, playlist_type_of, byte_range_of, required, quoted_of, key_said, init_section_byte_range, init_section_said, time_of, length_of, value_in_pair, uri_of, over, date_range_of, date_range_said}
 use Rattle.playlist_model.specs.LookBack.{the_version, the_target, the_sequence, the_discontinuity_sequence, the_type, is_media, is_discontinuity, is_ended, discontinuity_at, keys_at, date_ranges_of}
 use Rattle.playlist_model.specs.Reading.{limited, is_set, has, passes, needs_iv, within_formats, with_ivs, said_by, said_by_tag, said_by_kind, said_by_uri, said_from, at_line, Fault, name_of}
 use Rattle.playlist_parse.specs.Inner.DateRanges.{IsSaidByAttributes, AreSaidByAttributes}

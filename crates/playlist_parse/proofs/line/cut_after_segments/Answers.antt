@@ -10,5 +10,5 @@ parts text front back n f b = sym (take-append-drop n text) ∙ ap (λ x. x ++ d
 pub returns-in-Some : goal.returns-in-Some
 returns-in-Some c =
     let yes : c.ends_in_feed.result ≡ true = search rules in
-    ap lines (parts c.args.text.now c.in-Some.front.now c.in-Some.tail.now _ c.in-Some.ensures.front c.in-Some.ensures.back)
-    ∙ joined_lines c.in-Some.front.now c.in-Some.tail.now (c.ends_in_feed.ensures yes)
+    ap lines (parts _ _ _ _ c.in-Some.ensures.front c.in-Some.ensures.back)
+    ∙ joined_lines _ _ (c.ends_in_feed.ensures yes)

@@ -9,5 +9,5 @@ parts text front same later n f b s =
 
 pub returns-in-Some : goal.returns-in-Some
 returns-in-Some c =
-    parts c.args.text.now c.args.front.now c.in-Some.same.now c.in-Some.later.now _ c.in-Some.ensures.front c.in-Some.ensures.back
+    parts _ _ _ _ _ c.in-Some.ensures.front c.in-Some.ensures.back
     (same_text c.in-Some.same.now c.args.front.now (sym c.if-eq.true ∙ c.eq.ensures))

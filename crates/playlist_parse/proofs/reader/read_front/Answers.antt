@@ -1,5 +1,6 @@
 use Rattle.std.proofs.Common.{rules, ◌≡◌, ◌++◌, [], ap, length, arith}
 use Rattle.std.proofs.lemmas.List.{append-nil, length-map}
+use Rattle.std.proofs.lemmas.Grind.{common_steps}
 use Rattle.playlist_parse.specs.Inner.LineViews.{line_text}
 use Rattle.playlist_parse.specs.Inner.Reached.{left_in}
 use Rattle.playlist_parse.proofs.Reached.{none_more, unread}
@@ -23,7 +24,7 @@ pub take_over-requires : goal.take_over-requires
 take_over-requires c = c.requires.kept
 
 pub returns-in-Err-take_over-clause-reached : goal.returns-in-Err-take_over-clause-reached
-returns-in-Err-take_over-clause-reached c = λ tail all r. unread c.fault_at.result _ c.fault_at.ensures
+returns-in-Err-take_over-clause-reached c = grind (arith, unread)
 
 pub read_all-requires-clause-few : goal.read_all-requires-clause-few
 read_all-requires-clause-few c =
@@ -36,24 +37,22 @@ read_all-requires-clause-few c =
     omega (arith, few, left, size)
 
 pub read_all-requires-clause-plain : goal.read_all-requires-clause-plain
-read_all-requires-clause-plain c = λ plain. c.in-Ok-take_over.ensures.plain (c.in-Ok.ensures.plain plain)
+read_all-requires-clause-plain c = grind (arith, common_steps)
 
-pub returns-in-Ok-read_all-clause-reached : goal.returns-in-Ok-read_all-clause-reached
-returns-in-Ok-read_all-clause-reached c = λ tail all r.
-    c.in-Ok-read_all.ensures.reached c.args.base.now tail all (c.in-Ok-take_over.ensures.reached tail all (c.in-Ok.ensures.reached c.args.base.now tail all r))
-
-pub returns-in-Ok-read_all-clause-none_left : goal.returns-in-Ok-read_all-clause-none_left
-returns-in-Ok-read_all-clause-none_left c = c.in-Ok-read_all.ensures.none_left
-
-pub returns-in-Ok-read_all-clause-taken : goal.returns-in-Ok-read_all-clause-taken
-returns-in-Ok-read_all-clause-taken c =
+pub returns-in-Ok-read_all : goal.returns-in-Ok-read_all
+returns-in-Ok-read_all c =
     let base = c.args.base.now in
     let all = left_in c.args.reading.now ++ [] in
     let new = c.read_all.new.reading in
     let here = c.in-Ok-take_over.ensures.reached [] all (c.in-Ok.ensures.reached base [] all (c.requires.begun all)) in
     let end = none_more new [] all c.in-Ok-read_all.ensures.none_left (c.in-Ok-read_all.ensures.reached base [] all here) in
     let more = further here end in
-    taken_on new.progress.segments more.0 more.1 c.in-Ok-take_over.ensures.taken
+    record {
+      reached = grind (arith, common_steps);
+      light = grind (arith, common_steps, none_read);
+      none_left = c.in-Ok-read_all.ensures.none_left;
+      taken = grind (arith, common_steps, taken_on);
+    }
 
 pub returns-in-Err-read_all-clause-reached : goal.returns-in-Err-read_all-clause-reached
 returns-in-Err-read_all-clause-reached c = λ tail all r.
@@ -62,32 +61,17 @@ returns-in-Err-read_all-clause-reached c = λ tail all r.
 pub returns-in-Err-clause-light : goal.returns-in-Err-clause-light
 returns-in-Err-clause-light c = c.in-Err.ensures.light c.args.base.now
 
-pub returns-then-has_fewer_than-clause-reached : goal.returns-then-has_fewer_than-clause-reached
-returns-then-has_fewer_than-clause-reached c = c.in-Ok.ensures.reached c.args.base.now
-
-pub returns-then-has_fewer_than-clause-light : goal.returns-then-has_fewer_than-clause-light
-returns-then-has_fewer_than-clause-light c = c.in-Ok.ensures.light c.args.base.now
-
-pub returns-then-has_fewer_than-clause-none_left : goal.returns-then-has_fewer_than-clause-none_left
-returns-then-has_fewer_than-clause-none_left c = c.in-Ok.ensures.none_left (c.has_fewer_than.ensures.fewer (search rules))
-
-pub returns-then-has_fewer_than-clause-taken : goal.returns-then-has_fewer_than-clause-taken
-returns-then-has_fewer_than-clause-taken c = none_taken _ _ _ c.none.ensures
+pub returns-then-has_fewer_than : goal.returns-then-has_fewer_than
+returns-then-has_fewer_than c = grind (arith, common_steps, none_taken)
 
 pub returns-in-Err-take_over-clause-light : goal.returns-in-Err-take_over-clause-light
 returns-in-Err-take_over-clause-light c = λ tail fault told.
     let enough = c.has_fewer_than.ensures.enough (search rules) in
     let none = ap length (none_read (c.in-Ok.ensures.light c.args.base.now tail fault told)) in
-    absurd (omega (arith, enough, none))
-
-pub returns-in-Ok-read_all-clause-light : goal.returns-in-Ok-read_all-clause-light
-returns-in-Ok-read_all-clause-light c = λ tail fault told.
-    let enough = c.has_fewer_than.ensures.enough (search rules) in
-    let none = ap length (none_read (c.in-Ok.ensures.light c.args.base.now tail fault told)) in
-    absurd (omega (arith, enough, none))
+    grind arith
 
 pub returns-in-Err-read_all-clause-light : goal.returns-in-Err-read_all-clause-light
 returns-in-Err-read_all-clause-light c = λ tail fault told.
     let enough = c.has_fewer_than.ensures.enough (search rules) in
     let none = ap length (none_read (c.in-Ok.ensures.light c.args.base.now tail fault told)) in
-    absurd (omega (arith, enough, none))
+    grind arith

@@ -1,6 +1,6 @@
-use Rattle.std.proofs.Common.{◌≡◌, ◌∷◌, ◌++◌, true, ap, map, length, subst, arith}
-use Rattle.std.specs.List.{list_all}
-use Rattle.playlist_parse.specs.Inner.LineViews.{is_free, line_text}
+use Rattle.std.proofs.Common.{◌≡◌, ◌∷◌, ◌++◌, ap, map, length, subst, arith}
+use Rattle.std.proofs.lemmas.Grind.{common_steps}
+use Rattle.playlist_parse.specs.Inner.LineViews.{line_text}
 use Rattle.playlist_parse.specs.Inner.Reached.{Reached, Telling}
 use Rattle.playlist_parse.proofs.reading.read_all.Goals as goal
 
@@ -14,11 +14,8 @@ lines-preserved c =
       λ base tail fault told. c.in-Ok.ensures.light base tail fault (subst (λ left. Telling base c.lines.reading.progress c.lines.number (left ++ tail) fault) cut (c.lines.invariant.3 base tail fault told)),
     )
 
-pub read_line-requires-clause-few : goal.read_line-requires-clause-few
-read_line-requires-clause-few c = let size = ap length c.in-Some.ensures in omega (arith, size, c.lines.invariant.2)
-
-pub read_line-requires-clause-plain : goal.read_line-requires-clause-plain
-read_line-requires-clause-plain c = λ plain. subst (λ ls. list_all is_free ls ≡ true) (ap (map line_text) c.in-Some.ensures) (c.lines.invariant.1 plain)
+pub read_line-requires : goal.read_line-requires
+read_line-requires c = grind (arith, common_steps)
 
 pub returns-in-Err-clause-reached : goal.returns-in-Err-clause-reached
 returns-in-Err-clause-reached c = λ base tail all here.

@@ -1,9 +1,8 @@
+use Rattle.std.proofs.Common.{arith}
+use Rattle.std.proofs.lemmas.Grind.{common_steps}
 use Rattle.playlist_parse.proofs.Reached.{begun}
 use Rattle.playlist_parse.proofs.Light.{to_be_told}
 use Rattle.playlist_parse.proofs.reading.reading_of.Goals as goal
 
-pub returns-clause-begun : goal.returns-clause-begun
-returns-clause-begun c = λ all. begun c.args.base.now c.new.result all c.new.ensures
-
-pub returns-clause-light : goal.returns-clause-light
-returns-clause-light c = λ all. to_be_told c.args.base.now c.new.result all c.new.ensures
+pub returns : goal.returns
+returns c = grind (arith, common_steps, begun, to_be_told)

@@ -1,6 +1,5 @@
-use Rattle.std.proofs.Common.{refl, ap, ◌∙◌}
-use Rattle.playlist_parse.specs.Inner.LineViews.{tag_view}
-use Rattle.playlist_parse.specs.declared.tag.Tag.TheVariants as tag_name
+use Rattle.std.proofs.Common.{refl, arith}
+use Rattle.std.proofs.lemmas.Grind.{common_steps}
 use Rattle.playlist_parse.proofs.TagNames.{unnamed, flagged}
 use Rattle.playlist_parse.proofs.tag.tag_of.Goals as goal
 
@@ -53,16 +52,16 @@ pub returns-in-text-19 : goal.returns-in-text-19
 returns-in-text-19 c = rw c.in-text-19.is refl
 
 pub returns-in-text-2 : goal.returns-in-text-2
-returns-in-text-2 c = rw c.in-text-2.is (ap tag_view c.flag.ensures ∙ flagged tag_name.Discontinuity c.args.colon)
+returns-in-text-2 c = grind (arith, common_steps, flagged)
 
 pub returns-in-text-12 : goal.returns-in-text-12
-returns-in-text-12 c = rw c.in-text-12.is (ap tag_view c.flag-in-text-12.ensures ∙ flagged tag_name.EndList c.args.colon)
+returns-in-text-12 c = grind (arith, common_steps, flagged)
 
 pub returns-in-text-13 : goal.returns-in-text-13
-returns-in-text-13 c = rw c.in-text-13.is (ap tag_view c.flag-in-text-13.ensures ∙ flagged tag_name.IndependentSegments c.args.colon)
+returns-in-text-13 c = grind (arith, common_steps, flagged)
 
 pub returns-in-text-14 : goal.returns-in-text-14
-returns-in-text-14 c = rw c.in-text-14.is (ap tag_view c.flag-in-text-14.ensures ∙ flagged tag_name.IFramesOnly c.args.colon)
+returns-in-text-14 c = grind (arith, common_steps, flagged)
 
 pub returns-in_default : goal.returns-in_default
-returns-in_default c = unnamed c.args.name.now c.args.colon (c.in_default.not-EXTINF, (c.in_default.not-text, (c.in_default.not-text-2, (c.in_default.not-text-3, (c.in_default.not-text-4, (c.in_default.not-text-5, (c.in_default.not-text-6, (c.in_default.not-text-7, (c.in_default.not-text-8, (c.in_default.not-text-9, (c.in_default.not-text-10, (c.in_default.not-text-11, (c.in_default.not-text-12, (c.in_default.not-text-13, (c.in_default.not-text-14, (c.in_default.not-text-15, (c.in_default.not-text-16, (c.in_default.not-text-17, (c.in_default.not-text-18, (c.in_default.not-text-19, tt))))))))))))))))))))
+returns-in_default c = grind (arith, common_steps, unnamed)

@@ -1,5 +1,6 @@
-use Rattle.std.proofs.Common.{◌≡◌, ◌++◌, ap, sym, ◌∙◌, subst}
+use Rattle.std.proofs.Common.{◌≡◌, ◌++◌, ap, sym, ◌∙◌, subst, arith}
 use Rattle.std.specs.Prelude.{IsOk, MatchResult, codes}
+use Rattle.std.proofs.lemmas.Grind.{common_steps}
 use Rattle.playlist_model.specs.Refusals.{RefusesByPlaylistFault}
 use Rattle.playlist_model.specs.LookBack.{with_said}
 use Rattle.playlist_parse.specs.Inner.Progress.{progress_at}
@@ -22,5 +23,4 @@ returns-in-Some-strip_prefix-clause-takes c = λ before e.
     let line : c.args.line.now ≡ codes "#EXT-X-BYTERANGE:" ++ some.stated.now =
     some.ensures.cases.1.1 ∙ ap (λ rest. codes "#EXT-X-BYTERANGE:" ++ rest) (sym some.ensures.cases.2) in
     let said = byte_range_line base before c.args.line.now some.stated.now line c.requires.printable in
-    subst (λ o. MatchResult c.byte_range.result (λ _. IsOk o × (c.byte_range.new.self ≡ progress_at base (with_said before o))) (λ fault. RefusesByPlaylistFault fault o))
-    (sym said) (c.byte_range.ensures before e)
+    grind (arith, common_steps)
