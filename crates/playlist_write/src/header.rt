@@ -57,28 +57,28 @@ fn push_kind(out: &mut String, kind: Option<PlaylistKind>) -> Result<(), AllocEr
     Ok(())
 }
 
-#[tactic(auto, unfolding(crate::specs::Owed::line_of))]
+#[tactic(auto, unfolding(crate::specs::Owed::line_saying))]
 fn push_version(out: &mut String, version: u64) -> Result<(), AllocError>
     ensures { Appends result out.old out.new (line_saying (Said.version version)) }
 {
     push_number_line(out, "#EXT-X-VERSION:", version)
 }
 
-#[tactic(auto, unfolding(crate::specs::Owed::line_of))]
+#[tactic(auto, unfolding(crate::specs::Owed::line_saying))]
 fn push_target(out: &mut String, target: u64) -> Result<(), AllocError>
     ensures { Appends result out.old out.new (line_saying (Said.target target)) }
 {
     push_number_line(out, "#EXT-X-TARGETDURATION:", target)
 }
 
-#[tactic(auto, unfolding(crate::specs::Owed::line_of))]
+#[tactic(auto, unfolding(crate::specs::Owed::line_saying))]
 fn push_sequence(out: &mut String, sequence: u64) -> Result<(), AllocError>
     ensures { Appends result out.old out.new (line_saying (Said.sequence sequence)) }
 {
     push_number_line(out, "#EXT-X-MEDIA-SEQUENCE:", sequence)
 }
 
-#[tactic(auto, unfolding(crate::specs::Owed::line_of))]
+#[tactic(auto, unfolding(crate::specs::Owed::line_saying))]
 fn push_discontinuity_sequence(out: &mut String, sequence: u64) -> Result<(), AllocError>
     ensures { Appends result out.old out.new (line_saying (Said.discontinuity_sequence sequence)) }
 {
@@ -96,7 +96,7 @@ fn push_numbers(out: &mut String, playlist: &OutPlaylist<'_>) -> Result<(), Allo
 }
 
 // Appends EXT-X-INDEPENDENT-SEGMENTS, if the origin states it (RFC 8216, section 4.3.5.1).
-#[tactic(auto, unfolding(crate::specs::Owed::line_of))]
+#[tactic(auto, unfolding(crate::specs::Owed::line_saying))]
 fn push_independent(out: &mut String, independent: bool) -> Result<(), AllocError>
     ensures { Appends result out.old out.new (said_text (independent_owed independent)) }
 {
@@ -135,7 +135,7 @@ pub fn push_date_ranges(out: &mut String, date_ranges: &[TextRef<'_>]) -> Result
     Ok(())
 }
 
-#[tactic(auto, unfolding(crate::specs::Owed::line_of))]
+#[tactic(auto, unfolding(crate::specs::Owed::line_saying))]
 /// Appends EXT-X-ENDLIST to `out` if `ended` (RFC 8216, section 4.3.3.4). Fails only if an allocation fails.
 pub fn push_end(out: &mut String, ended: bool) -> Result<(), AllocError>
     ensures { Appends result out.old out.new (said_text (ended_owed ended)) }

@@ -142,7 +142,7 @@ fn push_new_keys(out: &mut String, old: &Keys, new: &Keys) -> Result<(), AllocEr
     Ok(())
 }
 
-#[tactic(auto, unfolding(crate::specs::Owed::line_of))]
+#[tactic(auto, unfolding(crate::specs::Owed::line_saying))]
 fn push_no_keys(out: &mut String) -> Result<(), AllocError>
     ensures { Appends result out.old out.new (line_saying Said.no_keys) }
 {

@@ -18,7 +18,7 @@ use playlist_model::{ByteRange, InitSection, Instant, Keys, is_same_init_section
 use std::alloc::{AllocError, Global};
 use stitcher::{OutSegment, SegmentRef, StitchedItems};
 
-#[tactic(auto, unfolding(crate::specs::Owed::line_of))]
+#[tactic(auto, unfolding(crate::specs::Owed::line_saying))]
 fn push_discontinuity(out: &mut String) -> Result<(), AllocError>
     ensures { Appends result out.old out.new (line_saying Said.discontinuity) }
 {
@@ -169,7 +169,7 @@ fn push_byte_range_tag(out: &mut String, byte_range: Option<ByteRange>) -> Resul
     Ok(())
 }
 
-#[tactic(auto, unfolding(crate::specs::Owed::line_of))]
+#[tactic(auto, unfolding(crate::specs::Owed::line_saying))]
 fn push_uri(out: &mut String, uri: &str) -> Result<(), AllocError>
     ensures { Appends result out.old out.new (line_saying (Said.media uri.now)) }
 {
