@@ -71,9 +71,6 @@ module _ (state : ChannelState) (number : ℕ) (list : List Held) where
       sym (ap (λ o. rest_on o (first_number (listed (kept_in state).shown)) number start (so_far state.store list) (rest_in state.store state.shown.rest)) e
       ∙ ap (λ t. cond t (rest_in state.store state.shown.rest) (rest_over (rest_count state.store state.shown.rest) start number (so_far state.store list))) (eq-eqb number (first_number (listed (kept_in state).shown)) same))
 
-pub not_equal : (a b : ℕ) → (a ≡ b → ⊥) → (a == b) ≡ false
-not_equal a b h = grind arith
-
 -- ---- the rest that it starts with
 
 pub rest_none : (before start number : ℕ) (seen : List Marked) → place_of number seen + before ≤ start → None ≡ rest_over before start number seen
