@@ -71,9 +71,6 @@ module _ (state : ChannelState) (number : ℕ) (list : List Held) where
       sym (ap (λ o. next_rest o (first_number (listed (kept_in state).shown)) number start (history_in state.store list) (rest_in state.store state.shown.rest)) e
       ∙ ap (λ t. cond t (rest_in state.store state.shown.rest) (rest_over (rest_count state.store state.shown.rest) start number (history_in state.store list))) (eq-eqb number (first_number (listed (kept_in state).shown)) same))
 
-pub not_equal : (a b : ℕ) → (a ≡ b → ⊥) → (a == b) ≡ false
-not_equal a b h = grind arith
-
 -- ---- the rest that it starts with
 
 pub rest_none : (before start number : ℕ) (seen : List Marked) → item_place number seen + before ≤ start → None ≡ rest_over before start number seen

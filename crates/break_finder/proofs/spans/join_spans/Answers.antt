@@ -1,4 +1,4 @@
-use Rattle.std.proofs.Common.{[], ◌++◌, arith}
+use Rattle.std.proofs.Common.{◌++◌, arith}
 use Rattle.std.proofs.lemmas.Grind.{common_steps}
 use Rattle.std.proofs.lemmas.List.Elements.{All-nil, All-push, All-same}
 use Rattle.break_finder.specs.Entrances.{TellsEntrances}
@@ -6,12 +6,7 @@ use Rattle.break_finder.proofs.SpanLaws.{both_tell, first_one}
 use Rattle.break_finder.proofs.spans.join_spans.Goals as goal
 
 pub loop-ours-init : goal.loop-ours-init
-loop-ours-init c = record {
-  tells = λ tolerance before after ours theirs.
-      let P = TellsEntrances tolerance (before ++ after) in
-      (ours, (theirs, All-same P c.in_ok-done.done.items [] c.in_ok-done.ensures.items (All-nil P)));
-  few = grind (arith, common_steps);
-}
+loop-ours-init c = grind (arith, common_steps, All-same, All-nil)
 
 pub returns-in_default-clause-tells : goal.returns-in_default-clause-tells
 returns-in_default-clause-tells c = λ tolerance before after ours theirs. (c.loop-ours.invariant.tells tolerance before after ours theirs).1.1

@@ -11,4 +11,4 @@ returns c = λ instant.
     let tolerance = pos c.args.tolerance in
     let to = int_min (c.args.start +ℤ tolerance +ℤ pos 1) (c.args.end -ℤ tolerance) in
     let is : to ≡ to_z w128 (of_z w128 c.min.result) = omega (arith, ints, clamps) in
-    end_window instant c.args.start c.args.end c.args.tolerance ∙ ap (λ late. is_within (c.args.start -ℤ tolerance) late instant) is
+    end_window instant _ _ _ ∙ ap (λ late. is_within (c.args.start -ℤ tolerance) late instant) is

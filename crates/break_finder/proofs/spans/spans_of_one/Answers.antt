@@ -15,4 +15,4 @@ returns-clause-tells c =
     let before_none : before.first ≡ None = grind arith in
     let after_none : after.first ≡ None = grind arith in
     let is = c.open_span-within.ensures in
-    three_tell c.args.tolerance c.args.entrance.now before within after c.push-3.new.self.items spans low before_none high after_none is.first is.second is.window
+    three_tell _ _ _ _ _ _ spans low before_none high after_none is.first is.second is.window

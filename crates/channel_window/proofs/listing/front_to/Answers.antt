@@ -1,6 +1,7 @@
-use Rattle.std.proofs.Common.{◌≡◌, ◌-◌, length, ap, sym, ◌∙◌, arith}
+use Rattle.std.proofs.Common.{◌≡◌, ap, sym, ◌∙◌, arith}
 use Rattle.std.specs.Prelude.{Some, slice_get}
 use Rattle.std.specs.Option.{option_copied}
+use Rattle.std.proofs.lemmas.Grind.{common_steps}
 use Rattle.playlist_model.specs.declared.Segment.{Segment}
 use Rattle.channel_window.specs.Marking.{history_in}
 use Rattle.channel_window.proofs.Rising.{first_is, up_at}
@@ -14,10 +15,4 @@ returns-then-number-deref-clause-seen c store =
     ap (history_in store) c.split_at.ensures.front ∙ up_at store list c.requires.0 c.args.number c.requires.1 0 (omega (arith, first, c.if-number-deref.true))
 
 pub returns-clause-seen : goal.returns-clause-seen
-returns-clause-seen c store =
-    let list = c.args.list.now in
-    let at : slice_get list 0 ≡ Some c.in-Some.first.now = sym c.first.ensures.value ∙ ap option_copied c.in-Some.is in
-    let first = ap (λ (s : Segment). s.media_sequence) c.deref.ensures ∙ first_is c.requires.0 list c.in-Some.first.now c.requires.1 at in
-    let place = c.place_of_number-place.ensures.place c.requires.0 c.requires.1 in
-    ap (history_in store) c.split_at-2.ensures.front
-    ∙ up_at store list c.requires.0 c.args.number c.requires.1 (length list - c.saturating_sub-later.result) (omega (arith, first, place, c.if-number-deref.false, c.saturating_sub-later.ensures, c.saturating_sub.ensures))
+returns-clause-seen c store = grind (arith, common_steps, first_is, up_at)

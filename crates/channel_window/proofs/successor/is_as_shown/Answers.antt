@@ -1,13 +1,12 @@
 use Rattle.std.proofs.Common.{◌-◌, ◌∙◌, ap, sym, length, arith}
 use Rattle.std.specs.Prelude.{nat_lt}
 use Rattle.std.proofs.lemmas.Bool.{ltb-true}
-use Rattle.playlist_model.specs.Same.{same_segment}
-use Rattle.channel_window.specs.Listed.{segments_in}
+use Rattle.std.proofs.lemmas.Grind.{common_steps}
 use Rattle.channel_window.proofs.Found.{was_before, was_there, was_after, held_there, held_length}
 use Rattle.channel_window.proofs.successor.is_as_shown.Goals as goal
 
 pub returns-then-segment-first : goal.returns-then-segment-first
-returns-then-segment-first c = was_before (segments_in c.args.shown.now) c.args.segment.now c.first_shown-first.result c.requires c.first_shown-first.ensures (omega arith)
+returns-then-segment-first c = grind (arith, common_steps, was_before)
 
 pub returns-in-Some : goal.returns-in-Some
 returns-in-Some c =
@@ -16,12 +15,7 @@ returns-in-Some c =
     let place = c.args.segment.now.media_sequence - first in
     let inside = c.in-Some.ensures.lookup.0 ∙ ap (nat_lt place) (sym (held_length held)) in
     let at = held_there held place c.in-Some.other.now (ltb-true place (length held) (sym c.in-Some.ensures.lookup.0)) c.in-Some.ensures.lookup.1 in
-    c.same_segment.ensures.value ∙ ap (same_segment c.args.segment.now) c.deref.ensures
-    ∙ was_there (segments_in held) c.args.segment.now c.in-Some.other.now.segment first c.requires c.first_shown-first.ensures (omega arith) inside at
+    grind (arith, common_steps, was_there)
 
 pub returns-in-None : goal.returns-in-None
-returns-in-None c =
-    let held = c.args.shown.now in
-    let first = c.first_shown-first.result in
-    let place = c.args.segment.now.media_sequence - first in
-    was_after (segments_in held) c.args.segment.now first c.requires c.first_shown-first.ensures (omega arith) (c.in-None.ensures.lookup.0 ∙ ap (nat_lt place) (sym (held_length held)))
+returns-in-None c = grind (arith, common_steps, was_after, held_length)

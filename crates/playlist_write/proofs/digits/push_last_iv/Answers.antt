@@ -1,7 +1,8 @@
-use Rattle.std.proofs.Common.{◌∷◌, [], ◌++◌, ap, ◌∙◌, sym, subst, arith, string_bytes}
+use Rattle.std.proofs.Common.{◌∷◌, [], ◌++◌, ap, ◌∙◌, sym, subst, arith}
 use Rattle.std.specs.Prelude.{IsUtf8}
 use Rattle.std.proofs.lemmas.Str.{IsUtf8-from_ascii}
 use Rattle.std.proofs.lemmas.List.{take_all}
+use Rattle.std.proofs.lemmas.Grind.{common_steps}
 use Rattle.date_times.proofs.Chains.{as_text}
 use Rattle.playlist_write.proofs.HexPairs.{last_iv_ascii}
 use Rattle.playlist_write.proofs.digits.push_last_iv.Goals as goal
@@ -14,4 +15,4 @@ from_utf8_unchecked-text-requires c =
 pub returns : goal.returns
 returns c =
     let whole = sym (take_all 40 c.put_mark.new.text (omega (arith, c.put_mark.array_long))) ∙ c.put_mark.ensures ∙ ap (λ t. t ++ 10 ∷ []) c.put_iv.ensures in
-    as_text (string_bytes c.args.out.now) c.in_ok-push_str.ensures.bytes (c.from_utf8_unchecked-text.ensures ∙ whole)
+    grind (arith, common_steps, as_text)

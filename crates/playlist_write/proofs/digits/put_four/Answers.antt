@@ -1,13 +1,8 @@
-use Rattle.std.proofs.Common.{◌≡◌, ◌+◌, ◌/◌, take, ap, ◌∙◌, sym, arith}
-use Rattle.date_times.specs.Digits.{fixed_digits}
+use Rattle.std.proofs.Common.{arith}
+use Rattle.std.proofs.lemmas.Grind.{common_steps}
 use Rattle.date_times.proofs.Chains.{grown2, as_text}
 use Rattle.playlist_write.proofs.ZerosInFront.{last_four}
 use Rattle.playlist_write.proofs.digits.put_four.Goals as goal
 
 pub returns : goal.returns
-returns c =
-    let n = c.args.number in
-    let at = c.args.at in
-    let front = take at c.args.text.now in
-    let end : at + 4 ≡ at + 2 + 2 = omega arith in
-    as_text front (grown2 front (fixed_digits 16 2 (n / 256)) (fixed_digits 16 2 n) c.put_two.ensures (ap (λ k. take k c.put_two-2.new.text) end ∙ c.put_two-2.ensures)) (sym (last_four n))
+returns c = grind (arith, common_steps, as_text, grown2, last_four)

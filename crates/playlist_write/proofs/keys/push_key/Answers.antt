@@ -1,5 +1,6 @@
-use Rattle.std.proofs.Common.{◌≡◌, ◌∙◌, ◌∷◌, ◌++◌, [], ap, sym, append_assoc, string_bytes}
+use Rattle.std.proofs.Common.{◌≡◌, ◌∙◌, ◌∷◌, ◌++◌, [], ap, sym, append_assoc, arith}
 use Rattle.std.specs.Prelude.{codes}
+use Rattle.std.proofs.lemmas.Grind.{common_steps}
 use Rattle.playlist_model.specs.Carried.{after_commas}
 use Rattle.playlist_write.specs.Spelling.{iv_pairs, format_pairs}
 use Rattle.date_times.proofs.Chains.{grown3, as_text}
@@ -17,8 +18,4 @@ key_pieces k =
     ∙ ap (λ t. codes "#EXT-X-KEY:METHOD=" ++ (k.method ++ (codes ",URI=\"" ++ t))) (sym (append_assoc k.uri (34 ∷ []) rest)) ∙ key_parts k
 
 pub returns : goal.returns
-returns c =
-    let s = string_bytes c.args.out.now in
-    let key = c.args.key.now in
-    as_text s (grown3 s (codes "#EXT-X-KEY:METHOD=" ++ (key.method ++ codes ",URI=\"")) key.uri (text_after_uri key)
-    (rw c.method.ensures at c.in_ok-push_method.ensures) (rw c.uri.ensures.text at c.in_ok-push_str.ensures.bytes) c.in_ok-push_short_rest.ensures) (key_pieces key)
+returns c = grind (arith, common_steps, as_text, grown3, key_pieces)

@@ -9,17 +9,14 @@ returns-in_err-hand_out_piece-clause-err g c =
     let later = date_ranges_text (drop (c.loop-date_range.date_range-index + 1) c.args.date_ranges.now) in
     let held : string_bytes c.loop-date_range.held ++ date_ranges_text (drop c.loop-date_range.date_range-index c.args.date_ranges.now) ≡ string_bytes c.push_date_range.new.out ++ later =
     grind (arith, common_steps) in
-    on_err c.from_residual-in_err-hand_out_piece.result _ (front_of_held _ _ _ _ _ (string_bytes c.push_date_range.new.out) later c.loop-date_range.invariant.taken held c.in_err-hand_out_piece.ensures.err)
+    grind (arith, common_steps, on_err, front_of_held)
 
 pub loop-date_range-preserved : goal.loop-date_range-preserved
 loop-date_range-preserved g c =
     let later = date_ranges_text (drop (c.loop-date_range.date_range-index + 1) c.args.date_ranges.now) in
     let held : string_bytes c.loop-date_range.held ++ date_ranges_text (drop c.loop-date_range.date_range-index c.args.date_ranges.now) ≡ string_bytes c.push_date_range.new.out ++ later =
     grind (arith, common_steps) in
-    record {
-      taken = taken_of_held _ _ _ _ _ (string_bytes c.push_date_range.new.out) later _ c.loop-date_range.invariant.taken held c.in_ok-hand_out_piece.ensures.ok;
-      failed = grind arith;
-    }
+    grind (arith, common_steps, taken_of_held)
 
 pub returns-in_err-push_date_range-clause-err : goal.returns-in_err-push_date_range-clause-err
-returns-in_err-push_date_range-clause-err g c = on_err c.from_residual.result _ (front_taken _ _ _ _ c.loop-date_range.invariant.taken)
+returns-in_err-push_date_range-clause-err g c = grind (arith, common_steps, on_err, front_taken)

@@ -27,4 +27,4 @@ loop-next-preserved g c =
     }
 
 pub returns-in_err-push_segment-clause-err : goal.returns-in_err-push_segment-clause-err
-returns-in_err-push_segment-clause-err g c = on_err c.from_residual.result _ (front_taken _ _ _ _ c.loop-next.invariant.taken)
+returns-in_err-push_segment-clause-err g c = grind (arith, common_steps, on_err, front_taken)

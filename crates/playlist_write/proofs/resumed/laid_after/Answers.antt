@@ -1,4 +1,4 @@
-use Rattle.std.proofs.Common.{◌≡◌, ◌∙◌, drop, sym}
+use Rattle.std.proofs.Common.{◌≡◌, ◌∙◌, drop, sym, arith}
 use Rattle.playlist_write.proofs.GoesOn.{Laid, is_laid, Joins, joins}
 use Rattle.playlist_write.proofs.resumed.laid_after.Goals as goal
 
@@ -11,4 +11,4 @@ returns c =
     let j : Joins p c.args.last.now c.in-Some.lines.now fresh = joins p c.args.last.now r.before fresh r.gone c.args.again c.args.length c.in-Some.lines.now r.some r.laid r.on fresh_is r.front c.in-Some.ensures in
     let w = c.in_ok-join_parts.ensures in
     let h : Laid p c.in_ok-join_parts.field-0 = is_laid p c.in_ok-join_parts.field-0 _ _ j.lines_are j.current w.text w.from w.till (w.count ∙ c.count-count.ensures) w.end in
-    record { text = h.text; laid = h.laid }
+    grind arith

@@ -1,4 +1,4 @@
-use Rattle.std.proofs.Common.{◌++◌, length, sym, ap, ◌∙◌, take}
+use Rattle.std.proofs.Common.{◌++◌, length, sym, ap, ◌∙◌, take, arith}
 use Rattle.playlist_write.specs.declared.OutPlaylist.{OutPlaylist}
 use Rattle.playlist_write.specs.Owed.{none_yet, segments_owed, said_text, ended_owed}
 use Rattle.playlist_write.specs.Laid.{current_of}
@@ -23,4 +23,4 @@ returns c = λ segments h.
     let from = w.from ∙ ap length (sym same) in
     let till = w.till ∙ (ap (λ t. length (front_text p ++ t)) first ∙ ap (λ t. length (t ++ body)) (sym same)) in
     let l : Laid q c.in_ok-text.text = is_laid q c.in_ok-text.text body _ j.lines_are j.current text from till (w.count ∙ h.counted) w.end in
-    record { text = l.text; laid = l.laid }
+    grind arith

@@ -1,4 +1,4 @@
-use Rattle.std.proofs.Common.{◌≡◌, ◌++◌, length, refl, ap, ◌∙◌, append_assoc, string_bytes}
+use Rattle.std.proofs.Common.{◌≡◌, ◌++◌, length, refl, ap, ◌∙◌, append_assoc, string_bytes, arith}
 use Rattle.playlist_write.specs.Owed.{none_yet, said_text, ended_owed}
 use Rattle.playlist_write.specs.Inner.Laid.{front_text}
 use Rattle.playlist_write.proofs.GoesOn.{lines, Laid, is_laid}
@@ -17,4 +17,4 @@ returns c =
     let till = w.till ∙ (c.length_of-till.ensures ∙ ap length out) in
     let text = w.text ∙ (c.in_ok-push_end.ensures ∙ (ap (λ t. t ++ ended) out ∙ append_assoc front body ended)) in
     let h : Laid p c.in_ok-with_end.field-0 = is_laid p c.in_ok-with_end.field-0 body _ refl force text from till (w.count ∙ c.count-count.ensures) w.end in
-    record { text = h.text; laid = h.laid }
+    grind arith

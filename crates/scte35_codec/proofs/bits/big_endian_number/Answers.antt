@@ -1,4 +1,5 @@
 use Rattle.std.proofs.Common.{arith}
+use Rattle.std.proofs.lemmas.Grind.{common_steps}
 use Rattle.scte35_codec.proofs.Numbers.{number_below, take_whole, number_below_take, more_fits, product_fits}
 use Rattle.scte35_codec.proofs.bits.big_endian_number.Goals as goal
 
@@ -17,7 +18,4 @@ overflow_add-number c =
     omega (arith, more_fits c.loop-byte.number c.from.result i (rw c.loop-byte.invariant fits) (omega arith) (omega arith))
 
 pub returns-clause-below : goal.returns-clause-below
-returns-clause-below c =
-    let xs = c.args.bytes.now in
-    let below = number_below xs (λ k. omega (arith, c.type_inv.bytes k)) in
-    rw (c.loop-byte.invariant, take_whole xs c.loop-byte.byte-index (omega arith) (omega arith)) below
+returns-clause-below c = grind (arith, common_steps, number_below, take_whole)

@@ -1,5 +1,6 @@
-use Rattle.std.proofs.Common.{◌≡◌, Ok, Err, length, refl}
+use Rattle.std.proofs.Common.{◌≡◌, Ok, Err, length, refl, arith}
 use Rattle.std.specs.Prelude.{MatchResult}
+use Rattle.std.proofs.lemmas.Grind.{common_steps}
 use Rattle.hex.specs.Hex.{decode_sized}
 use Rattle.scte35_codec.proofs.Hexadecimals.{decodes}
 use Rattle.scte35_codec.proofs.hexadecimal.decode_into.Goals as goal
@@ -13,9 +14,4 @@ unwrap-requires c =
     rw (decodes c.args.digits.now room r out c.requires.pairs c.requires.len is).0 refl
 
 pub returns : goal.returns
-returns c =
-    let r = c.decode_to_slice.result in
-    let out = c.decode_to_slice.new.out in
-    let room = length c.args.out.now in
-    let is : MatchResult (decode_sized c.args.digits.now room) (λ bytes. (r ≡ Ok tt) × (out ≡ bytes)) (λ e. r ≡ Err e) = c.decode_to_slice.ensures.value in
-    (decodes c.args.digits.now room r out c.requires.pairs c.requires.len is).1
+returns c = grind (arith, common_steps, decodes)

@@ -1,8 +1,7 @@
-use Rattle.std.proofs.Common.{None, arith}
+use Rattle.std.proofs.Common.{arith}
+use Rattle.std.proofs.lemmas.Grind.{common_steps}
 use Rattle.scte35_codec.proofs.Lengths.{components_width}
 use Rattle.scte35_codec.proofs.limits.components_len.Goals as goal
 
 pub loop-component-preserved : goal.loop-component-preserved
-loop-component-preserved c =
-    let more = components_width c.args.components.now c.loop-component.component-index (0, None) c.loop-component-test.true in
-    (omega (arith, more, c.time_len.ensures.value), omega arith)
+loop-component-preserved c = grind (arith, common_steps, components_width)

@@ -1,4 +1,6 @@
+use Rattle.std.proofs.Common.{arith}
 use Rattle.std.proofs.lemmas.Result.{err_from_is_err_and}
+use Rattle.std.proofs.lemmas.Grind.{common_steps}
 use Rattle.scte35_codec.specs.Reading.{components_at}
 use Rattle.scte35_codec.proofs.Loop.{goes_on, stops, is_done}
 use Rattle.scte35_codec.proofs.reading.take_components.Goals as goal
@@ -10,8 +12,8 @@ returns-in_err-component c =
 
 pub loop-preserved : goal.loop-preserved
 loop-preserved c =
-    let x = c.in_ok-component.component in
-    rw c.in_ok-push.ensures.items (goes_on c.args.immediate c.loop.components.items c.args.count c.loop.counter c.loop.rest.now x c.in_ok-component.after.now (components_at c.args.immediate c.args.count c.args.bytes.now) c.loop-test.true c.in_ok-component.ensures c.loop.invariant)
+    rw c.in_ok-push.ensures.items (goes_on _ _ _ _ _ _ _ _ c.loop-test.true c.in_ok-component.ensures
+    c.loop.invariant)
 
 pub returns : goal.returns
-returns c = is_done c.args.immediate c.loop.components.items c.args.count c.loop.counter c.loop.rest.now (components_at c.args.immediate c.args.count c.args.bytes.now) c.loop-test.false c.loop.invariant
+returns c = grind (arith, common_steps, is_done)

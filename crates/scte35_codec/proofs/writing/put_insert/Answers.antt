@@ -5,5 +5,5 @@ use Rattle.scte35_codec.proofs.writing.put_insert.Goals as goal
 pub returns : goal.returns
 unfolding splice_insert
 returns c =
-    let cancel = cancelled c.args.insert.now.body c.is_none.result c.put_u32.new.out.items c.put_cancel.new.out.items c.is_none.ensures c.in_ok-put_cancel.ensures in
+    let cancel = cancelled _ _ _ _ c.is_none.ensures c.in_ok-put_cancel.ensures in
     Appends-then (Appends-then c.in_ok-put_u32.ensures cancel) c.in_ok-put_optional_body.ensures

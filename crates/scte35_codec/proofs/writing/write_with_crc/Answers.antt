@@ -1,6 +1,6 @@
-use Rattle.std.proofs.Common.{◌≡◌, ◌++◌}
+use Rattle.std.proofs.Common.{◌≡◌, ◌++◌, arith}
 use Rattle.std.specs.Int.{bytes_high_first}
-use Rattle.scte35_codec.specs.Section.{section_of}
+use Rattle.std.proofs.lemmas.Grind.{common_steps}
 use Rattle.scte35_codec.specs.Crc.{crc_of}
 use Rattle.scte35_codec.proofs.Checked.{checked}
 use Rattle.scte35_codec.proofs.Registers.{crc_is_zero}
@@ -11,11 +11,7 @@ returns-clause-checked c =
     let front = c.in_ok-out.out.items in
     let bytes = c.put_number.new.out.items in
     let whole : bytes ≡ front ++ bytes_high_first 4 (crc_of front) = cc (c.in_ok-put_number.ensures, c.crc_of-crc.ensures, c.deref.ensures.value, c.from.ensures) in
-    checked (section_of c.args.info.now) front bytes c.in_ok-out.ensures.fits c.in_ok-out.ensures.front whole
+    checked _ _ _ c.in_ok-out.ensures.fits c.in_ok-out.ensures.front whole
 
 pub returns-clause-zero : goal.returns-clause-zero
-returns-clause-zero c =
-    let front = c.in_ok-out.out.items in
-    let bytes = c.put_number.new.out.items in
-    let whole : bytes ≡ front ++ bytes_high_first 4 (crc_of front) = cc (c.in_ok-put_number.ensures, c.crc_of-crc.ensures, c.deref.ensures.value, c.from.ensures) in
-    cc (whole, crc_is_zero front)
+returns-clause-zero c = grind (arith, common_steps, crc_is_zero)

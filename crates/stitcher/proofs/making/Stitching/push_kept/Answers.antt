@@ -1,7 +1,5 @@
-use Rattle.std.proofs.Common.{◌≡◌, ◌++◌, [], List, map, ap, ◌∙◌}
-use Rattle.std.specs.Prelude.{Some}
-use Rattle.stitcher.specs.declared.OutSegment.{OutSegment}
-use Rattle.stitcher.specs.Inner.Making.{Made, kept_on}
+use Rattle.std.proofs.Common.{◌≡◌, ◌++◌, [], map, arith}
+use Rattle.std.proofs.lemmas.Grind.{common_steps}
 use Rattle.stitcher.specs.Stretches.{ad_item, segment_items, stretches_items}
 use Rattle.stitcher.proofs.Cursors.{stretch_ended}
 use Rattle.stitcher.proofs.making.Stitching.push_kept.Goals as goal
@@ -14,5 +12,4 @@ returns-clause-ok c =
     let none : c.replace-ads.new.dest.items ≡ [] = cc in
     let items : stretches_items c.push.new.self.items ++ map ad_item c.replace-ads.new.dest.items ≡ (stretches_items inside.stretches.items ++ map ad_item inside.ads.items) ++ segment_items c.args.numbers kept =
     stretch_ended inside.stretches.items c.push.new.self.items (record { ads = c.from_vec.result; kept = c.args.kept; numbers = c.args.numbers }) inside.ads.items c.replace-ads.new.dest.items c.in_ok-push.ensures.items ads none in
-    ap (λ (t : List OutSegment). let made : Made = record { first = inside.first; last = Some c.args.last; items = t } in made) items
-    ∙ ap (λ (m : Made). kept_on m kept c.args.numbers c.args.last) c.self.view_is
+    grind (arith, common_steps)

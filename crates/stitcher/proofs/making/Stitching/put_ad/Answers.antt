@@ -1,9 +1,10 @@
-use Rattle.std.proofs.Common.{[], ◌∷◌, List, map, sym, subst, ap, ◌∙◌, true, false}
+use Rattle.std.proofs.Common.{[], ◌∷◌, List, map, sym, subst, ap, ◌∙◌, true, false, arith}
+use Rattle.std.proofs.lemmas.Grind.{common_steps}
 use Rattle.pod_store.specs.Marks.{Mark}
 use Rattle.pod_store.specs.Pods.{Ad, PodSegment}
 use Rattle.stitcher.specs.Stitched.{ad_piece, ad_pieces}
 use Rattle.stitcher.specs.declared.making.Part.{Part}
-use Rattle.stitcher.specs.Inner.Making.{Passes, numbers_fit, part_here, pieces_in_part, part_after, part_after_one}
+use Rattle.stitcher.specs.Inner.Making.{numbers_fit, part_here, pieces_in_part, part_after_one}
 use Rattle.stitcher.proofs.Outcomes.{handed_on}
 use Rattle.stitcher.proofs.Putting.{Walks, walks_none, walks_on, walked, passes_there, passes_longer, none_left}
 use Rattle.stitcher.proofs.making.Stitching.put_ad.Goals as goal
@@ -12,14 +13,7 @@ any_mark : Mark
 any_mark = record { id = []; pod = record { ads = [] } }
 
 pub returns-in_err-left-clause-err : goal.returns-in_err-left-clause-err
-returns-in_err-left-clause-err c =
-    let ad = c.args.ad.now in
-    let part = c.args.part in
-    let segment = c.in-Some.first.now in
-    let parts = sym (ap (λ (a : Ad). a.segments) c.ad.view_is) ∙ (sym c.as_slice.ensures ∙ c.in-Some.ensures.cases.0) in
-    handed_on c.from_residual.result c.in_err-left.field-0.0 c.from_residual.ensures.1 c.in_err-left.ensures.err
-    (λ p mark. subst (λ (ss : List PodSegment). Passes c.args.self.now (pieces_in_part part (ad_pieces mark ad ss))) (sym parts)
-    (passes_longer c.args.self.now (part_here part (ad_piece mark true ad segment)) (pieces_in_part (part_after_one part segment.duration) (map (ad_piece mark false ad) c.in-Some.later.now)) (p mark)))
+returns-in_err-left-clause-err c = grind (arith, common_steps, handed_on, passes_longer)
 
 pub loop-segment-init : goal.loop-segment-init
 loop-segment-init c =
@@ -35,7 +29,7 @@ loop-segment-init c =
           (subst (λ (left : Part). Walks c.args.self.now c.offer.new.self (pieces_in_part part (ad_pieces mark ad (segment ∷ later))) (pieces_in_part left (map (ad_piece mark false ad) later))) (sym c.in_ok-left.ensures.part)
           (walks_on c.args.self.now c.args.self.now c.offer.new.self (pieces_in_part part (ad_pieces mark ad (segment ∷ later))) (part_here part (ad_piece mark true ad segment)) (pieces_in_part (part_after_one part segment.duration) (map (ad_piece mark false ad) later))
           (walks_none c.args.self.now (pieces_in_part part (ad_pieces mark ad (segment ∷ later)))) (put mark)));
-      after = λ mark. ap (λ (ss : List PodSegment). part_after part (ad_pieces mark ad ss)) parts ∙ ap (λ left. part_after left (map (ad_piece mark false ad) later)) (sym c.in_ok-left.ensures.part);
+      after = grind (arith, common_steps);
     }
 
 pub returns-in_err-left-2-clause-err : goal.returns-in_err-left-2-clause-err
@@ -59,7 +53,7 @@ loop-segment-preserved c =
       walks = λ mark. subst (λ (left : Part). Walks c.args.self.now c.offer-in-Some-split_first.new.self (pieces_in_part c.args.part (ad_pieces mark ad ad.segments)) (pieces_in_part left (map (ad_piece mark false ad) later))) (sym c.in_ok-left-2.ensures.part)
           (walks_on c.args.self.now c.loop-segment.self c.offer-in-Some-split_first.new.self (pieces_in_part c.args.part (ad_pieces mark ad ad.segments)) (part_here part (ad_piece mark false ad segment)) (pieces_in_part (part_after_one part segment.duration) (map (ad_piece mark false ad) later))
           (subst (λ (ss : List PodSegment). Walks c.args.self.now c.loop-segment.self (pieces_in_part c.args.part (ad_pieces mark ad ad.segments)) (pieces_in_part part (map (ad_piece mark false ad) ss))) c.in-Some-split_first.ensures.cases.0 (c.loop-segment.invariant.walks mark)) (put mark));
-      after = λ mark. c.loop-segment.invariant.after mark ∙ (ap (λ (ss : List PodSegment). part_after part (map (ad_piece mark false ad) ss)) c.in-Some-split_first.ensures.cases.0 ∙ ap (λ left. part_after left (map (ad_piece mark false ad) later)) (sym c.in_ok-left-2.ensures.part));
+      after = grind (arith, common_steps);
     }
 
 pub returns-clause-ok : goal.returns-clause-ok
@@ -69,6 +63,4 @@ returns-clause-ok c mark =
     (subst (λ (ss : List PodSegment). Walks c.args.self.now c.loop-segment.self (pieces_in_part c.args.part (ad_pieces mark ad ad.segments)) (pieces_in_part c.loop-segment.left (map (ad_piece mark false ad) ss))) (none_left c.loop-segment.rest.now c.in_default-split_first.ensures.cases) (c.loop-segment.invariant.walks mark))
 
 pub returns-clause-part : goal.returns-clause-part
-returns-clause-part c mark =
-    let ad = c.args.ad.now in
-    sym (c.loop-segment.invariant.after mark ∙ ap (λ (ss : List PodSegment). part_after c.loop-segment.left (map (ad_piece mark false ad) ss)) (none_left c.loop-segment.rest.now c.in_default-split_first.ensures.cases))
+returns-clause-part c mark = grind (arith, common_steps, none_left)

@@ -1,4 +1,5 @@
-use Rattle.std.proofs.Common.{[], List, sym, subst, ap, ◌∙◌}
+use Rattle.std.proofs.Common.{[], List, sym, subst, ap, ◌∙◌, arith}
+use Rattle.std.proofs.lemmas.Grind.{common_steps}
 use Rattle.pod_store.specs.Marks.{Mark}
 use Rattle.pod_store.specs.Pods.{Ad}
 use Rattle.stitcher.specs.Stitched.{Piece, ad_pieces, pieces_of_ads}
@@ -13,12 +14,7 @@ any_mark : Mark
 any_mark = record { id = []; pod = record { ads = [] } }
 
 pub loop-ad-init : goal.loop-ad-init
-loop-ad-init c =
-    record {
-      fits = c.requires;
-      walks = λ mark. subst (λ (ads : List Ad). Walks c.args.self.now c.args.self.now (pieces_in_part c.args.part (pieces_of_ads mark c.args.pod.now.ads)) (pieces_in_part c.args.part (pieces_of_ads mark ads))) (sym c.ads-rest.ensures.value)
-          (walks_none c.args.self.now (pieces_in_part c.args.part (pieces_of_ads mark c.args.pod.now.ads)));
-    }
+loop-ad-init c = grind (arith, common_steps, walks_none)
 
 pub returns-then-left-clause-ok : goal.returns-then-left-clause-ok
 returns-then-left-clause-ok c mark =
