@@ -4,11 +4,11 @@ use Rattle.std.specs.Prelude.{Option, Some, None, is_some, is_none, option_map, 
 use Rattle.std.specs.List.{AllByRecursion, list_all}
 use Rattle.playlist_model.specs.declared.InitSection.{InitSection}
 use Rattle.playlist_model.specs.LookBack.{or_earlier}
-use Rattle.pod_store.specs.Pods.{Pod, Ad, PodSegment, pod_fits, ad_fits, segment_fits, with_keys}
+use Rattle.pod_store.specs.Pods.{Pod, Ad, PodSegment, pod_fits, ad_fits, segment_fits}
 use Rattle.pod_store.specs.Store.{Entry, Store, pod_of, pod_for, has_id}
 use Rattle.pod_store.specs.Marks.{Mark, Marked, newest_mark}
 use Rattle.channel_spec.specs.Marking.{Moment, continued, entered, mark_of}
-use Rattle.stitcher.specs.Stitched.{Piece, ad_pieces, ad_piece, pieces_of_ads, pod_pieces, run_pieces, stitched}
+use Rattle.stitcher.specs.Stitched.{Piece, ad_pieces, ad_piece, pieces_of_ads, pod_pieces, with_keys, run_pieces, stitched}
 use Rattle.channel_spec.specs.Sound.{IsSoundPod}
 use Rattle.channel_spec.proofs.Windows.{In, in_either, in_reverse, length-reverse}
 use Rattle.channel_spec.proofs.Entries.{IsEntered, entered_is}

@@ -50,7 +50,7 @@ fn stitch_if_in_range<'a>(
     alloc: Global,
     list: &'a [MarkedSegment],
     cut: usize,
-    store: &'a PodStore,
+    store: &PodStore,
     first: Numbers,
     ends: &Ends,
 ) -> Result<Option<StitchedList<'a>>, AllocError>
@@ -80,7 +80,7 @@ fn run_items<'a>(
     alloc: Global,
     list: &'a [MarkedSegment],
     cut: usize,
-    store: &'a PodStore,
+    store: &PodStore,
     first: Numbers,
     ended: bool,
     lasted: Nanos,
@@ -104,7 +104,7 @@ fn run_items<'a>(
 fn front_items<'a>(
     alloc: Global,
     list: &'a [MarkedSegment],
-    store: &'a PodStore,
+    store: &PodStore,
     first: Numbers,
     rest: &Option<Rest>,
 ) -> Result<Option<StitchedList<'a>>, AllocError>
@@ -219,7 +219,7 @@ struct Later<'a> {
 // The items from that run on.
 fn later_items<'a>(
     alloc: Global,
-    before: &Before<'a>,
+    before: &Before<'_>,
     read: &Read<'_>,
     list: &'a [MarkedSegment],
     lasted: Nanos,
@@ -307,7 +307,7 @@ pub fn end_within(end: Option<Ending>, segments: usize, items: usize) -> Option<
 // The first items of the list, up to a segment without a mark that stands in the window, if there is one before the last segment.
 fn first_items<'a>(
     alloc: Global,
-    before: &Before<'a>,
+    before: &Before<'_>,
     gone: usize,
     list: &'a [MarkedSegment],
 ) -> Result<Option<StitchedList<'a>>, AllocError>
@@ -330,7 +330,7 @@ fn first_items<'a>(
 /// allocation fails.
 pub fn stepped_of<'a>(
     alloc: Global,
-    before: &Before<'a>,
+    before: &Before<'_>,
     read: &Read<'_>,
     list: &'a [MarkedSegment],
     lasted: Nanos,

@@ -40,7 +40,7 @@ fn stitch_segments<'a>(
     alloc: Global,
     list: &'a [MarkedSegment],
     cut: usize,
-    store: &'a PodStore,
+    store: &PodStore,
     first: Numbers,
     ends: &Ends,
 ) -> Result<StitchedList<'a>, RefreshFault>
@@ -232,7 +232,7 @@ pub struct PlacedList<'a> {
 /// allocation fails.
 pub fn placed_of<'a>(
     alloc: Global,
-    before: &Before<'a>,
+    before: &Before<'_>,
     read: &Read<'_>,
     list: &'a [MarkedSegment],
     lasted: Nanos,

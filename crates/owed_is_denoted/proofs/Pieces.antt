@@ -10,9 +10,9 @@ use Rattle.std.proofs.lemmas.Str.{chars-nil, IsUtf8-nil, is_utf8-from_IsUtf8}
 use mathlib.Core.List.{reverse_aux}
 use Rattle.playlist_model.specs.declared.Segment.{Segment}
 use Rattle.date_times.specs.Instant.{in_range}
-use Rattle.pod_store.specs.Pods.{PodSegment, Ad, Pod, with_keys}
+use Rattle.pod_store.specs.Pods.{PodSegment, Ad, Pod}
 use Rattle.pod_store.specs.Marks.{Mark, Marked}
-use Rattle.stitcher.specs.Stitched.{Piece, is_kept, ad_piece, ad_pieces, pieces_of_ads, run_pieces, stitched, Numbers, numbers_at, Item, numbered, can_be_numbered}
+use Rattle.stitcher.specs.Stitched.{Piece, is_kept, with_keys, ad_piece, ad_pieces, pieces_of_ads, run_pieces, stitched, Numbers, numbers_at, Item, numbered, can_be_numbered}
 use Rattle.stitcher.specs.declared.OutSegment.{OutSegment}
 use Rattle.stitcher.specs.Written.{written_item}
 use Rattle.writable.specs.Fitting.{if_some, is_clean, effective_keys_fit, init_section_fits}

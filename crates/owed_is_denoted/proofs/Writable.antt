@@ -5,7 +5,8 @@ use Rattle.std.specs.List.{list_all}
 use Rattle.std.proofs.lemmas.Bool.{and_parts, and_from}
 use Rattle.playlist_model.specs.declared.InitSection.{InitSection}
 use Rattle.playlist_model.specs.declared.Key.{Key}
-use Rattle.pod_store.specs.Pods.{Ad, Pod, segment_count, with_keys}
+use Rattle.pod_store.specs.Pods.{Ad, Pod, segment_count}
+use Rattle.stitcher.specs.Stitched.{with_keys}
 use Rattle.pod_store.specs.Laws.{ad_can_be_written}
 use Rattle.pod_store.specs.Rules.{key_keeps, init_section_keeps, ad_keeps, ads_keep}
 use Rattle.pod_store.proofs.Written.{pods_can_be_written}

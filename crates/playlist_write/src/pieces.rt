@@ -8,7 +8,7 @@ ghost use Rattle.playlist_write.specs.Inner.Taken.{TookAllBut};
 use crate::WriteFault;
 use crate::header::push_date_range;
 use crate::last_duration::LastDuration;
-use crate::segments::push_segment;
+use crate::segments::{init_section_in, push_segment};
 use byte_streams::{Sink, SinkFailed, hand_out};
 use date_times::TimeWriter;
 use playlist_model::{InitSection, Keys};
@@ -102,8 +102,9 @@ pub fn write_segments<S: Sink>(
     while let Some(next) = segments.next() {
         push_segment(held, &mut times, &mut last, keys, init_section, &next)?;
         hand_out_piece(held, sink)?;
-        keys = next.segment.keys();
-        init_section = next.segment.init_section().or(init_section);
+        let segment = next.segment.get();
+        keys = &segment.keys;
+        init_section = init_section_in(&segment.init_section).or(init_section);
     }
     Ok(())
 }

@@ -2,7 +2,6 @@
 //! the segment before it alone, so those of segments that stood there are copied in one piece.
 ghost use Rattle.std.specs.Prelude.{◌≡◌, ◌++◌, ◌+◌, List, drop, take, length, IfOk, OnOk, IfSome, string_bytes};
 ghost use Rattle.stitcher.specs.declared.OutSegment.{OutSegment};
-ghost use Rattle.std.specs.Option.{option_copied};
 ghost use Rattle.playlist_model.specs.LookBack.{or_earlier};
 ghost use Rattle.playlist_write.specs.Owed.{none_yet, said_text, segment_owed, segments_owed, after_segment, ended_owed, playlist_text};
 ghost use Rattle.playlist_write.specs.Laid.{after_segments, states_all, current_of, IsLaid, IsFrontLength, StandsAgain, HasEnds, IsTextWith};
@@ -11,13 +10,13 @@ ghost use Rattle.playlist_write.specs.Inner.Laid.{front_text};
 use crate::header::{push_date_ranges, push_end};
 use crate::last_duration::LastDuration;
 use crate::room::room_for;
-use crate::segments::push_segment;
+use crate::segments::{init_section_in, push_segment};
 use crate::{OutPlaylist, lines_before_date_ranges};
 use date_times::TimeWriter;
-use playlist_model::{InitSection, Keys, Shared, Text};
+use playlist_model::{InitSection, Keys, Segment, Shared, Text};
 use std::alloc::{AllocError, Global};
 use std::marker::Model;
-use stitcher::{OutSegment, SegmentRef, StitchedItems, StitchedList};
+use stitcher::{OutSegment, StitchedItems, StitchedList};
 
 /// A text that was written, with what its next version needs: the places where the lines of its segments begin and end, how
 /// many segments they are of, and the keys and the initialisation section that are in force at their end.
@@ -34,31 +33,35 @@ pub struct WrittenText {
     /// The keys in force there.
     pub keys: Keys,
     /// The initialisation section in force there.
-    pub init_section: Option<InitSection>,
+    pub init_section: Option<Shared<InitSection>>,
 }
 
 // Keys and an initialisation section that are in force.
 #[derive(Drop)]
 struct InForce<'a> {
     keys: &'a Keys,
-    init_section: Option<&'a InitSection>,
+    init_section: &'a Option<Shared<InitSection>>,
 }
 
 impl<'a> Model for InForce<'a> {
-    ghost use Rattle.std.specs.Option.{option_copied};
     ghost use Rattle.playlist_write.specs.Owed.{Current};
 
     ghost Value = { Current };
 
-    ghost view = { λ a. record { keys = a.keys.now; init_section = option_copied a.init_section } };
+    ghost view = { λ a. record { keys = a.keys.now; init_section = a.init_section.now } };
 }
 
-fn force_after<'a>(before: &InForce<'a>, segment: &SegmentRef<'a>) -> InForce<'a>
+fn force_after<'a>(before: &InForce<'a>, segment: &'a Segment) -> InForce<'a>
     ensures { result ≡ record { keys = segment.now.keys; init_section = or_earlier segment.now.init_section before.now.init_section } }
 {
+    let init_section = if segment.init_section.is_some() {
+        &segment.init_section
+    } else {
+        before.init_section
+    };
     InForce {
-        keys: segment.keys(),
-        init_section: segment.init_section().or(before.init_section),
+        keys: &segment.keys,
+        init_section,
     }
 }
 
@@ -76,8 +79,15 @@ fn push_next<'a>(
         ++ said_text (segment_owed before.now next.now)) }
     ensures force { IfOk result (λ f. f ≡ after_segment before.now next.now) }
 {
-    push_segment(out, times, last, before.keys, before.init_section, next)?;
-    Ok(force_after(before, &next.segment))
+    push_segment(
+        out,
+        times,
+        last,
+        before.keys,
+        init_section_in(before.init_section),
+        next,
+    )?;
+    Ok(force_after(before, next.segment.get()))
 }
 
 // Appends the lines of the first `most` segments, or of all, after lines with `before` in force. Answers what is in force then.
@@ -136,24 +146,8 @@ fn force_at_end(last: &WrittenText) -> InForce<'_>
 {
     InForce {
         keys: &last.keys,
-        init_section: last.init_section.as_ref(),
+        init_section: &last.init_section,
     }
-}
-
-// A copy of an initialisation section, if there is one, which shares its texts.
-fn copied_init_section(
-    init_section: Option<&InitSection>,
-) -> Result<Option<InitSection>, AllocError>
-    ensures { IfOk result (λ copy. copy ≡ option_copied init_section.entry) }
-{
-    let Some(init_section) = init_section else {
-        return Ok(None);
-    };
-    Ok(Some(InitSection {
-        uri: init_section.uri.clone()?,
-        byte_range: init_section.byte_range,
-        keys: init_section.keys.clone()?,
-    }))
 }
 
 // A written text, the lines of whose `count` segments stand from `from` up to `till` with `end` in force after them.
@@ -177,7 +171,7 @@ fn with_end(
         till,
         count,
         keys: end.keys.clone()?,
-        init_section: copied_init_section(end.init_section)?,
+        init_section: end.init_section.clone()?,
     })
 }
 
@@ -206,10 +200,10 @@ pub fn laid_out(alloc: Global, playlist: &OutPlaylist<'_>) -> Result<WrittenText
 {
     let mut text = all_before(alloc, room_for(playlist), playlist)?;
     let from = length_of(&text);
-    let no_keys = Keys::none();
+    let (no_keys, no_init_section) = (Keys::none(), None);
     let nothing = InForce {
         keys: &no_keys,
-        init_section: None,
+        init_section: &no_init_section,
     };
     let end = push_all(alloc, &mut text, nothing, playlist.segments.items())?;
     let till = length_of(&text);
@@ -224,7 +218,9 @@ fn states_all(before: &InForce<'_>, segments: StitchedItems<'_>) -> bool
 {
     let mut segments = segments;
     match segments.next() {
-        Some(first) => { first.segment.init_section().is_some() || before.init_section.is_none() }
+        Some(first) => {
+            first.segment.get().init_section.is_some() || before.init_section.is_none()
+        }
         None => false,
     }
 }
@@ -240,10 +236,10 @@ pub fn front_length(
     ensures { IfOk result (λ n. IfSome n (IsFrontLength segments.now gone)) }
 {
     let mut lines = String::new(alloc);
-    let no_keys = Keys::none();
+    let (no_keys, no_init_section) = (Keys::none(), None);
     let nothing = InForce {
         keys: &no_keys,
-        init_section: None,
+        init_section: &no_init_section,
     };
     let force = push_first(alloc, &mut lines, nothing, segments.items(), gone)?;
     if !states_all(&force, segments.items_from(gone)) {
@@ -291,10 +287,10 @@ fn join_parts(
 {
     let mut text = all_before(alloc, room, playlist)?;
     let from = length_of(&text);
-    let no_keys = Keys::none();
+    let (no_keys, no_init_section) = (Keys::none(), None);
     let nothing = InForce {
         keys: &no_keys,
-        init_section: None,
+        init_section: &no_init_section,
     };
     push_first(alloc, &mut text, nothing, playlist.segments.items(), 1)?;
     text.push_str(lines)?;

@@ -14,9 +14,11 @@ use crate::last_duration::LastDuration;
 use crate::lines::{push_byte_range, push_feed, push_line};
 use date_times::TimeWriter;
 use fixed_duration::Nanos;
-use playlist_model::{ByteRange, InitSection, Instant, Keys, is_same_init_section};
+use playlist_model::{
+    ByteRange, InitSection, Instant, Keys, Segment, Shared, is_same_init_section,
+};
 use std::alloc::{AllocError, Global};
-use stitcher::{OutSegment, SegmentRef, StitchedItems};
+use stitcher::{OutSegment, StitchedItems};
 
 #[tactic(auto, unfolding(crate::specs::Owed::line_saying))]
 fn push_discontinuity(out: &mut String) -> Result<(), AllocError>
@@ -47,10 +49,10 @@ fn is_current(current: Option<&InitSection>, new: &InitSection) -> bool
 // The initialisation section, if it is another than the one in force.
 fn changed_init_section<'a>(
     current: Option<&InitSection>,
-    init_section: Option<&'a InitSection>,
+    init_section: &'a Option<Shared<InitSection>>,
 ) -> Option<&'a InitSection>
     ensures { option_copied result
-        ≡ changed_init_section (option_copied current.entry) (option_copied init_section.entry) }
+        ≡ changed_init_section (option_copied current.entry) init_section.now }
 {
     match init_section {
         Some(new) => {
@@ -80,10 +82,11 @@ fn keys_then<'a>(keys: &'a Keys, changed: Option<&'a InitSection>) -> &'a Keys
 fn changes_nothing(keys: &Keys, next: &OutSegment<'_>) -> bool
     ensures { result ≡ changes_nothing keys.now next.now }
 {
+    let segment = next.segment.get();
     next.discontinuities == 0
-        && next.segment.init_section().is_none()
+        && segment.init_section.is_none()
         && keys.is_empty()
-        && next.segment.keys().is_empty()
+        && segment.keys.is_empty()
 }
 
 // Appends the EXT-X-MAP of the initialisation section that changed, if one did, under its keys (RFC 8216, section
@@ -180,13 +183,13 @@ fn push_uri(out: &mut String, uri: &str) -> Result<(), AllocError>
 fn push_media<'a>(
     out: &mut String,
     last: &mut LastDuration<'a>,
-    segment: &SegmentRef<'a>,
+    segment: &'a Segment,
 ) -> Result<(), AllocError>
     ensures { Appends result out.old out.new (said_text (media_owed segment.now)) }
 {
-    last.push(out, segment.duration(), segment.title())?;
-    push_byte_range_tag(out, segment.byte_range())?;
-    push_uri(out, segment.uri())?;
+    last.push(out, segment.duration, segment.title.as_str())?;
+    push_byte_range_tag(out, segment.byte_range)?;
+    push_uri(out, segment.uri.as_str())?;
     Ok(())
 }
 
@@ -203,10 +206,11 @@ fn push_each_change(
         (said_text (changes_owed
         (record { keys = keys.now; init_section = option_copied init_section.entry }) next.now)) }
 {
-    let changed = changed_init_section(init_section, next.segment.init_section());
+    let segment = next.segment.get();
+    let changed = changed_init_section(init_section, &segment.init_section);
     push_steps(out, next.discontinuities)?;
     push_changed_init_section(out, keys, changed)?;
-    push_key_tags(out, keys_then(keys, changed), next.segment.keys())?;
+    push_key_tags(out, keys_then(keys, changed), &segment.keys)?;
     Ok(())
 }
 
@@ -245,5 +249,15 @@ pub fn push_segment<'a>(
 {
     push_changes(out, keys, init_section, next)?;
     push_time_tag(out, times, next.program_date_time)?;
-    push_media(out, last, &next.segment)
+    push_media(out, last, next.segment.get())
+}
+
+/// What `init_section`, a segment's, holds, if it has one.
+pub fn init_section_in(init_section: &Option<Shared<InitSection>>) -> Option<&InitSection>
+    ensures { option_copied result ≡ init_section.now }
+{
+    match init_section {
+        Some(init_section) => Some(init_section),
+        None => None,
+    }
 }

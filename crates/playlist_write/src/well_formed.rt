@@ -1,7 +1,6 @@
 //! Which playlists can be written so that the text says them.
 ghost use Rattle.std.specs.Prelude.{◌≡◌, ◌==◌, ◌+◌, IfOk, true, false};
 ghost use Rattle.std.specs.List.{list_all, list_any};
-ghost use Rattle.std.specs.Option.{option_copied};
 ghost use Rattle.date_times.specs.Instant.{in_range};
 ghost use Rattle.writable.specs.Fitting.{if_some, init_section_fits};
 ghost use Rattle.playlist_model.specs.Numbering.{follows, all_follow};
@@ -9,9 +8,9 @@ ghost use Rattle.playlist_write.specs.WellFormed.{well_formed, fits_without_date
 
 use crate::OutPlaylist;
 use crate::date_ranges::date_ranges_fit;
-use playlist_model::{InitSection, Instant};
+use playlist_model::{InitSection, Instant, Segment, Shared};
 use std::alloc::{AllocError, Global};
-use stitcher::{OutSegment, SegmentRef, StitchedItems, StitchedList};
+use stitcher::{OutSegment, StitchedItems, StitchedList};
 use writable::{
     byte_range_fits, duration_fits, effective_keys_fit, init_section_fits, is_clean, uri_fits,
 };
@@ -29,14 +28,14 @@ fn numbers_are_words(out: &OutSegment<'_>) -> bool
     is_word(out.media_sequence) && is_word(out.discontinuity_sequence)
 }
 
-fn resource_fits(segment: &SegmentRef<'_>) -> bool
+fn resource_fits(segment: &Segment) -> bool
     ensures { result ≡ resource_fits segment.now }
 {
-    uri_fits(segment.uri()) && byte_range_fits(segment.byte_range())
+    uri_fits(segment.uri.as_str()) && byte_range_fits(segment.byte_range)
 }
 
-fn optional_init_section_fits(init_section: Option<&InitSection>) -> bool
-    ensures { result ≡ if_some init_section_fits (option_copied init_section.entry) }
+fn optional_init_section_fits(init_section: &Option<Shared<InitSection>>) -> bool
+    ensures { result ≡ if_some init_section_fits init_section.now }
 {
     match init_section {
         Some(init_section) => init_section_fits(init_section),
@@ -57,13 +56,13 @@ fn optional_time_fits(time: Option<Instant>) -> bool
 fn segment_fits(out: &OutSegment<'_>) -> bool
     ensures { result ≡ segment_fits out.now }
 {
-    let segment = &out.segment;
+    let segment = out.segment.get();
     numbers_are_words(out)
         && resource_fits(segment)
-        && effective_keys_fit(segment.keys())
-        && optional_init_section_fits(segment.init_section())
-        && duration_fits(segment.duration())
-        && is_clean(segment.title())
+        && effective_keys_fit(&segment.keys)
+        && optional_init_section_fits(&segment.init_section)
+        && duration_fits(segment.duration)
+        && is_clean(segment.title.as_str())
         && optional_time_fits(out.program_date_time)
 }
 
@@ -127,7 +126,7 @@ fn numbers_fit(segments: StitchedItems<'_>) -> bool
 fn out_has_init_section(out: &OutSegment<'_>) -> bool
     ensures { result ≡ out_has_init_section out.now }
 {
-    out.segment.init_section().is_some()
+    out.segment.get().init_section.is_some()
 }
 
 fn all_have_init_sections(segments: StitchedItems<'_>) -> bool

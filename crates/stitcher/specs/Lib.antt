@@ -6,6 +6,5 @@ pub mod StitchedSegments
 pub mod Making
 pub mod Stitched
 pub mod Paced
-pub mod Played
 pub mod Stretches
 pub mod Inner

@@ -2,7 +2,9 @@
 -- items (RFC 8216, sections 4.3.2.3, 4.3.3.2, 4.3.3.3). Each list has the newest first, the window apart.
 use Rattle.std.specs.Prelude.{ℕ, ◌+◌, ◌-◌, ◌^◌, Bool, true, false, ◌&&◌, nat_lt, List, [], ◌∷◌, ◌++◌, map, reverse, take, length, ℤ, Option, Some, None, option_map, is_none, if◌then◌else◌}
 use Rattle.playlist_model.specs.declared.Segment.{Segment}
-use Rattle.pod_store.specs.Pods.{PodSegment, Ad, with_keys}
+use Rattle.playlist_model.specs.declared.Key.{Key}
+use Rattle.playlist_model.specs.declared.InitSection.{InitSection}
+use Rattle.pod_store.specs.Pods.{PodSegment, Ad}
 use Rattle.pod_store.specs.Marks.{Mark, Marked, continues}
 pub use Rattle.playlist_model.specs.Numbering.{Numbers}
 use Rattle.playlist_model.specs.Numbering.{segment_numbers}
@@ -23,6 +25,9 @@ is_kept p = is_none p.mark
 abbrev pub kept_piece : Marked → Piece
 kept_piece s = record { segment = s.segment; instant = s.instant; mark = None; first_of_ad = false }
 
+abbrev pub with_keys : List Key → InitSection → InitSection
+with_keys keys init_section = record init_section { keys = keys }
+
 -- a pod's segment has its ad's initialisation section and keys, no title and no time; it has no number of the origin
 abbrev pub ad_segment : Ad → PodSegment → Segment
 ad_segment ad s = record {
@@ -37,10 +42,6 @@ ad_segment ad s = record {
   title = [];
   program_date_time = None;
 }
-
--- a segment with these numbers
-abbrev pub numbered_segment : Segment → Numbers → Segment
-numbered_segment s n = record s { media_sequence = n.media_sequence; discontinuity_sequence = n.discontinuity_sequence; discontinuities = n.discontinuities }
 
 abbrev pub ad_piece : Mark → Bool → Ad → PodSegment → Piece
 ad_piece mark first ad s = record { segment = ad_segment ad s; instant = None; mark = Some mark; first_of_ad = first }

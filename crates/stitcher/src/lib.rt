@@ -3,7 +3,7 @@
 
 use playlist_model::Instant;
 
-mod ad_segment;
+mod copies;
 mod ends;
 mod fault;
 mod key_tags;

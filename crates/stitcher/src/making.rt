@@ -1,9 +1,9 @@
 //! The stitched list of marked segments, as it is made.
-ghost use Rattle.std.specs.Prelude.{◌≡◌, ◌++◌, ◌<◌, ◌≤◌, ◌^◌, Bool, true, false, List, [], ◌∷◌, map, take, drop, length, None, OnOk, IfOk, IfErr};
+ghost use Rattle.std.specs.Prelude.{◌≡◌, ◌++◌, ◌<◌, ◌≤◌, ◌^◌, Bool, true, false, List, [], ◌∷◌, map, take, drop, length, None, OnOk, IfOk, IfErr, option_map};
 ghost use Rattle.std.specs.List.{list_all};
 ghost use Rattle.pod_store.specs.Marks.{Mark};
 ghost use Rattle.pod_store.specs.Pods.{Pod};
-ghost use Rattle.stitcher.specs.Stitched.{ad_piece, ad_pieces, next_numbers, pieces_of_ads};
+ghost use Rattle.stitcher.specs.Stitched.{ad_piece, ad_pieces, next_numbers, pieces_of_ads, with_keys};
 ghost use Rattle.stitcher.specs.StitchedSegments.{AreDecided, KnowRuns, KnowsRun, RefusesNumber, item_fits, stitched_segments};
 ghost use Rattle.pod_store.specs.Store.{pod_for};
 ghost use Rattle.playlist_model.specs.Numbering.{segment_numbers};
@@ -11,13 +11,13 @@ ghost use Rattle.stitcher.specs.Making.{is_same_run, unmarked_piece, pod_with};
 ghost use Rattle.stitcher.specs.Inner.Making.{Passes, PutsPieces, after_front, front_pieces, goes_on_to_last, kept_on, last_of_run, numbers_fit, numbers_with, part_after, part_after_one, part_at, part_here, pieces_in_part, pushed, pieces_of_rest, shows_next, steps_from, unmarked_front, whole_from};
 ghost use Rattle.stitcher.specs.Stretches.{segment_items};
 
-use crate::ad_segment::AdSegment;
+use crate::copies::{AdParts, ad_parts, ad_segment};
 use crate::ends::{Ends, Rest};
 use crate::fault::StitchFault;
 use crate::marked::{MarkedSegment, Numbers};
 use crate::stitched_list::{StitchedList, Stretch};
 use fixed_duration::Nanos;
-use playlist_model::{Items, Shared, Text};
+use playlist_model::{Items, Segment, Shared, Text};
 use pod_store::{Ad, Pod, PodSegment, PodStore};
 use std::alloc::{AllocError, Global};
 use std::marker::Model;
@@ -52,7 +52,7 @@ pub struct Stitching<'a> {
     last: Option<Last>,
     stretches: Vec<Stretch<'a>>,
     // The segments of ads after the last stretch.
-    ads: Vec<AdSegment<'a>>,
+    ads: Vec<Segment>,
 }
 
 impl<'a> Model for Stitching<'a> {
@@ -275,12 +275,16 @@ impl<'a> Stitching<'a> {
         }
     }
 
-    fn push_ad(&mut self, segment: AdSegment<'a>) -> Result<(), StitchFault>
+    fn push_ad(&mut self, segment: Segment) -> Result<(), StitchFault>
         ensures ok { OnOk result
-            (self.new ≡ pushed self.old segment.entry None (segment_numbers segment.entry) None) }
+            (self.new ≡ pushed self.old segment None (segment_numbers segment) None) }
         ensures err { IfErr result (λ e. e ≡ StitchFault.OutOfMemory) }
     {
-        let numbers = segment.numbers();
+        let numbers = numbers_of(
+            segment.media_sequence,
+            segment.discontinuity_sequence,
+            segment.discontinuities,
+        );
         self.ads.push(segment)?;
         self.last = Some(Last {
             numbers,
@@ -374,11 +378,14 @@ impl<'a> Stitching<'a> {
     // section 4.3.2.3).
     fn put_segment(
         &mut self,
-        ad: &'a Ad,
-        segment: &'a PodSegment,
+        alloc: Global,
+        ad: &Ad,
+        parts: &AdParts,
+        segment: &PodSegment,
         first: bool,
     ) -> Result<(), StitchFault>
-        requires { numbers_fit self.old.first ≡ true }
+        requires fits { numbers_fit self.old.first ≡ true }
+        requires parts { parts.now ≡ option_map (with_keys ad.now.keys) ad.now.init_section }
         ensures ok { OnOk result
             ((mark : Mark)
             → PutsPieces self.old self.new (ad_piece mark first ad.now segment.now ∷ [])) }
@@ -387,18 +394,22 @@ impl<'a> Stitching<'a> {
             → Passes self.old (ad_piece mark first ad.now segment.now ∷ []))) }
     {
         let numbers = self.numbers_with(u64::from(first))?;
-        self.push_ad(AdSegment::new(ad, segment, numbers))
+        let segment = ad_segment(alloc, ad, parts, segment, numbers)?;
+        self.push_ad(segment)
     }
 
     // Puts a segment of an ad at the end, if it is shown. Answers the part of those after it.
     fn offer(
         &mut self,
-        ad: &'a Ad,
-        segment: &'a PodSegment,
+        alloc: Global,
+        ad: &Ad,
+        parts: &AdParts,
+        segment: &PodSegment,
         first: bool,
         part: &Part,
     ) -> Result<Part, StitchFault>
-        requires { numbers_fit self.old.first ≡ true }
+        requires fits { numbers_fit self.old.first ≡ true }
+        requires parts { parts.now ≡ option_map (with_keys ad.now.keys) ad.now.init_section }
         ensures ok { OnOk result
             ((mark : Mark) → PutsPieces self.old self.new
             (part_here part.now (ad_piece mark first ad.now segment.now))) }
@@ -410,11 +421,11 @@ impl<'a> Stitching<'a> {
         if !shows_next(part) {
             return Ok(part_after(part, segment.duration));
         }
-        self.put_segment(ad, segment, first)?;
+        self.put_segment(alloc, ad, parts, segment, first)?;
         Ok(part_after(part, segment.duration))
     }
 
-    fn put_ad(&mut self, ad: &'a Ad, part: Part) -> Result<Part, StitchFault>
+    fn put_ad(&mut self, alloc: Global, ad: &Ad, part: Part) -> Result<Part, StitchFault>
         requires { numbers_fit self.old.first ≡ true }
         ensures ok { OnOk result
             ((mark : Mark) → PutsPieces self.old self.new
@@ -426,20 +437,21 @@ impl<'a> Stitching<'a> {
             (λ e. RefusesNumber e ((mark : Mark)
             → Passes self.old (pieces_in_part part (ad_pieces mark ad.now ad.now.segments)))) }
     {
+        let parts = ad_parts(alloc, ad)?;
         let Some((first, later)) = ad.segments.as_slice().split_first() else {
             return Ok(part);
         };
-        let mut left = self.offer(ad, first, true, &part)?;
+        let mut left = self.offer(alloc, ad, &parts, first, true, &part)?;
         let mut rest = later;
         while let Some((segment, later)) = rest.split_first() {
-            left = self.offer(ad, segment, false, &left)?;
+            left = self.offer(alloc, ad, &parts, segment, false, &left)?;
             rest = later;
         }
         Ok(left)
     }
 
     // Puts a part of a pod at the end.
-    fn put_pod(&mut self, pod: &'a Pod, part: Part) -> Result<(), StitchFault>
+    fn put_pod(&mut self, alloc: Global, pod: &Pod, part: Part) -> Result<(), StitchFault>
         requires { numbers_fit self.old.first ≡ true }
         ensures ok { OnOk result
             ((mark : Mark) → PutsPieces self.old self.new
@@ -454,14 +466,20 @@ impl<'a> Stitching<'a> {
             if left.done {
                 return Ok(());
             }
-            left = self.put_ad(ad, left)?;
+            left = self.put_ad(alloc, ad, left)?;
             rest = later;
         }
         Ok(())
     }
 
     // Puts at the end what is shown of the pod that a break has in the store.
-    fn put_break(&mut self, id: &str, part: Part, store: &'a PodStore) -> Result<(), StitchFault>
+    fn put_break(
+        &mut self,
+        alloc: Global,
+        id: &str,
+        part: Part,
+        store: &PodStore,
+    ) -> Result<(), StitchFault>
         requires { numbers_fit self.old.first ≡ true }
         ensures ok { OnOk result
             (PutsPieces self.old self.new
@@ -471,13 +489,18 @@ impl<'a> Stitching<'a> {
             (pieces_in_part part (pod_with id.now (pod_for store.now id.now))))) }
     {
         match store.pod_for(id) {
-            Some(pod) => self.put_pod(pod, part),
+            Some(pod) => self.put_pod(alloc, pod, part),
             None => Ok(()),
         }
     }
 
     // Puts the rest of a pod at the end.
-    fn put_rest(&mut self, rest: &Option<Rest>, store: &'a PodStore) -> Result<(), StitchFault>
+    fn put_rest(
+        &mut self,
+        alloc: Global,
+        rest: &Option<Rest>,
+        store: &PodStore,
+    ) -> Result<(), StitchFault>
         requires { numbers_fit self.old.first ≡ true }
         ensures ok { OnOk result
             (PutsPieces self.old self.new (pieces_of_rest store.now rest.now)) }
@@ -488,7 +511,7 @@ impl<'a> Stitching<'a> {
             return Ok(());
         };
         let part = part_from_place(rest.place);
-        self.put_break(rest.id.as_str(), part, store)
+        self.put_break(alloc, rest.id.as_str(), part, store)
     }
 
     // Puts at the end what stands for the first of these after a segment of this mark, and, if it has no mark, for those
@@ -499,7 +522,7 @@ impl<'a> Stitching<'a> {
         segments: &'a [MarkedSegment],
         cut: usize,
         previous: &Option<Shared<Text>>,
-        store: &'a PodStore,
+        store: &PodStore,
         ends: &Ends,
     ) -> Result<&'a [MarkedSegment], StitchFault>
         requires fits { numbers_fit self.old.first ≡ true }
@@ -522,7 +545,7 @@ impl<'a> Stitching<'a> {
             return Ok(later);
         }
         let part = part_at(ends, &marked.mark, later);
-        self.put_break(id.as_str(), part, store)?;
+        self.put_break(alloc, id.as_str(), part, store)?;
         Ok(later)
     }
 
@@ -565,7 +588,7 @@ pub fn stitch<'a>(
     alloc: Global,
     marked: &'a [MarkedSegment],
     cut: usize,
-    store: &'a PodStore,
+    store: &PodStore,
     first: Numbers,
     ends: &Ends,
 ) -> Result<StitchedList<'a>, StitchFault>
@@ -580,7 +603,7 @@ pub fn stitch<'a>(
         (stitched_segments store.now first ends.now marked.now) ≡ false)) }
 {
     let mut stitching = Stitching::new(alloc, first);
-    stitching.put_rest(&ends.rest, store)?;
+    stitching.put_rest(alloc, &ends.rest, store)?;
     let unmarked: Option<Shared<Text>> = None;
     let mut previous = &unmarked;
     let mut rest = marked;

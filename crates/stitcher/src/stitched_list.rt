@@ -7,18 +7,17 @@ ghost use Rattle.stitcher.specs.Inner.Cuts.{stretches_within, left_from};
 ghost use Rattle.stitcher.specs.Stretches.{ad_item, here_items, kept_item, left_items, numbers_on, stretch_items, stretches_items};
 
 use crate::OutSegment;
-use crate::ad_segment::AdSegment;
 use crate::marked::{MarkedSegment, Numbers};
 use crate::segment_ref::SegmentRef;
-use playlist_model::Items;
+use playlist_model::{Items, Segment};
 use std::alloc::AllocError;
 use std::marker::Model;
 
 /// The segments of ads that stand one after another, and the segments of the origin that are kept after them, up to the next ad.
 #[derive(Drop)]
 pub(crate) struct Stretch<'a> {
-    /// The ads' segments, with the numbers that are written.
-    pub ads: Items<AdSegment<'a>>,
+    /// The ads' segments, which repeat the numbers that are written.
+    pub ads: Items<Segment>,
     /// The kept segments.
     pub kept: &'a [MarkedSegment],
     /// The numbers of the first of those.
@@ -28,22 +27,21 @@ pub(crate) struct Stretch<'a> {
 // A place in a list of stretches.
 #[derive(Drop)]
 struct Cursor<'a> {
-    ads: &'a [AdSegment<'a>],
+    ads: &'a [Segment],
     kept: &'a [MarkedSegment],
     numbers: Numbers,
     later: &'a [Stretch<'a>],
 }
 
 #[inline(always)]
-fn ad_item<'a>(segment: &'a AdSegment<'a>) -> OutSegment<'a>
+fn ad_item(segment: &Segment) -> OutSegment<'_>
     ensures { result ≡ ad_item segment.now }
 {
-    let numbers = segment.numbers();
     OutSegment {
-        segment: SegmentRef::ad(segment),
-        media_sequence: numbers.media_sequence,
-        discontinuity_sequence: numbers.discontinuity_sequence,
-        discontinuities: numbers.discontinuities,
+        segment: SegmentRef::new(segment),
+        media_sequence: segment.media_sequence,
+        discontinuity_sequence: segment.discontinuity_sequence,
+        discontinuities: segment.discontinuities,
         program_date_time: None,
     }
 }
@@ -53,7 +51,7 @@ fn kept_item<'a>(numbers: &Numbers, marked: &'a MarkedSegment) -> OutSegment<'a>
     ensures { result ≡ kept_item numbers.now marked.now }
 {
     OutSegment {
-        segment: SegmentRef::kept(&marked.segment),
+        segment: SegmentRef::new(&marked.segment),
         media_sequence: numbers.media_sequence,
         discontinuity_sequence: numbers.discontinuity_sequence,
         discontinuities: numbers.discontinuities,
@@ -106,7 +104,7 @@ fn next_here<'a>(cursor: &mut Cursor<'a>) -> Option<OutSegment<'a>>
     ensures later { cursor.new.later.now ≡ cursor.old.later.now }
 {
     let ads = cursor.ads;
-    if let [segment, later @ ..] = ads {
+    if let Some((segment, later)) = ads.split_first() {
         cursor.ads = later;
         return Some(ad_item(segment));
     }

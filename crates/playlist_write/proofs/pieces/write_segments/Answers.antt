@@ -17,7 +17,7 @@ returns-in_err-hand_out_piece-clause-err g c =
 
 pub loop-next-preserved : goal.loop-next-preserved
 loop-next-preserved g c =
-    let later = said_text (segments_owed (record { keys = c.keys-keys.result.now; init_section = option_copied c.or-init_section.result }) c.next.new.self) in
+    let later = said_text (segments_owed (record { keys = c.get-segment.result.now.keys; init_section = option_copied c.or-init_section.result }) c.next.new.self) in
     let held : string_bytes c.loop-next.held ++ said_text (segments_owed (record { keys = c.loop-next.keys.now; init_section = option_copied c.loop-next.init_section }) c.loop-next.segments)
     ≡ string_bytes c.push_segment.new.out ++ later =
     grind (arith, common_steps) in

@@ -25,6 +25,8 @@ loop-segment-init c =
     let parts = sym (ap (λ (a : Ad). a.segments) c.ad.view_is) ∙ (sym c.as_slice.ensures ∙ c.in-Some.ensures.cases.0) in
     record {
       fits = ap numbers_fit (put any_mark).first ∙ c.requires;
+      init_section = c.parts.view_is ∙ c.in_ok-parts.ensures;
+      title = c.parts.invariant;
       walks = λ mark. subst (λ (ss : List PodSegment). Walks c.args.self.now c.offer.new.self (pieces_in_part part (ad_pieces mark ad ss)) (pieces_in_part c.in_ok-left.left (map (ad_piece mark false ad) later))) (sym parts)
           (subst (λ (left : Part). Walks c.args.self.now c.offer.new.self (pieces_in_part part (ad_pieces mark ad (segment ∷ later))) (pieces_in_part left (map (ad_piece mark false ad) later))) (sym c.in_ok-left.ensures.part)
           (walks_on c.args.self.now c.args.self.now c.offer.new.self (pieces_in_part part (ad_pieces mark ad (segment ∷ later))) (part_here part (ad_piece mark true ad segment)) (pieces_in_part (part_after_one part segment.duration) (map (ad_piece mark false ad) later))
@@ -50,6 +52,8 @@ loop-segment-preserved c =
     let later = c.in-Some-split_first.later.now in
     record {
       fits = ap numbers_fit (put any_mark).first ∙ c.loop-segment.invariant.fits;
+      init_section = c.loop-segment.invariant.init_section;
+      title = c.loop-segment.invariant.title;
       walks = λ mark. subst (λ (left : Part). Walks c.args.self.now c.offer-in-Some-split_first.new.self (pieces_in_part c.args.part (ad_pieces mark ad ad.segments)) (pieces_in_part left (map (ad_piece mark false ad) later))) (sym c.in_ok-left-2.ensures.part)
           (walks_on c.args.self.now c.loop-segment.self c.offer-in-Some-split_first.new.self (pieces_in_part c.args.part (ad_pieces mark ad ad.segments)) (part_here part (ad_piece mark false ad segment)) (pieces_in_part (part_after_one part segment.duration) (map (ad_piece mark false ad) later))
           (subst (λ (ss : List PodSegment). Walks c.args.self.now c.loop-segment.self (pieces_in_part c.args.part (ad_pieces mark ad ad.segments)) (pieces_in_part part (map (ad_piece mark false ad) ss))) c.in-Some-split_first.ensures.cases.0 (c.loop-segment.invariant.walks mark)) (put mark));

@@ -17,7 +17,7 @@ returns-clause-ok c =
     let made = c.args.self.now in
     let steps = steps_are c.args.first c.from.result c.from.ensures in
     on_ok c.push_ad.result c.push_ad.ensures.ok (λ e mark.
-    let s = c.new.ensures in
+    let s = c.in_ok-segment.ensures mark c.args.first in
     let p = ad_piece mark c.args.first c.args.ad.now c.args.segment.now in
     subst (λ (m : Made). PutsPieces made m (p ∷ [])) (ap (λ (x : Segment). pushed made x None (segment_numbers x) None) (sym s) ∙ sym e)
     (puts_one made p c.in_ok-numbers.numbers
