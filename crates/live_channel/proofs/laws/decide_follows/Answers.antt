@@ -1,11 +1,7 @@
+use Rattle.std.proofs.Common.{arith}
+use Rattle.std.proofs.lemmas.Grind.{common_steps}
 use Rattle.live_channel.proofs.Steps.{decide_follows, undecided_follows, withdraw_follows}
 use Rattle.live_channel.proofs.laws.decide_follows.Goals as goal
 
-pub returns-clause-decided : goal.returns-clause-decided
-returns-clause-decided c = decide_follows
-
-pub returns-clause-withdrawn : goal.returns-clause-withdrawn
-returns-clause-withdrawn c = withdraw_follows
-
-pub returns-clause-refused : goal.returns-clause-refused
-returns-clause-refused c = undecided_follows
+pub returns : goal.returns
+returns c = grind (arith, common_steps, decide_follows, withdraw_follows, undecided_follows)

@@ -1,8 +1,7 @@
 use Rattle.std.proofs.Common.{arith}
+use Rattle.std.proofs.lemmas.Grind.{common_steps}
 use Rattle.live_channel.proofs.LastText.{stand_again}
 use Rattle.live_channel.proofs.next.lines_again.Goals as goal
 
 pub returns : goal.returns
-returns c =
-    stand_again c.args.whole.now c.in-Some.last c.args.start c.in-Some.last.count c.in-Some-2.length (omega (arith, c.if-stood-start.false))
-    (rw c.in-Some.is at c.requires) (rw c.in-Some-2.is at c.in_ok-length.ensures)
+returns c = grind (arith, common_steps, stand_again)

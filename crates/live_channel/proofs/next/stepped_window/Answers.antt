@@ -1,7 +1,8 @@
-use Rattle.std.proofs.Common.{rules, refl, true, ◌≡◌, ◌-◌, ◌∙◌, drop, map, subst, sym, ap}
+use Rattle.std.proofs.Common.{rules, refl, true, ◌≡◌, ◌-◌, ◌∙◌, drop, map, subst, sym, ap, arith}
 use Rattle.std.specs.Prelude.{Some}
 use Rattle.std.specs.List.{list_any}
 use Rattle.std.proofs.lemmas.List.{length-map}
+use Rattle.std.proofs.lemmas.Grind.{common_steps}
 use Rattle.playlist_model.specs.LookBack.{or_earlier}
 use Rattle.pod_store.specs.Inner.Store.{NameTheSame}
 use Rattle.playlist_kept.specs.Kept.{playlist_in}
@@ -9,11 +10,9 @@ use Rattle.playlist_write.specs.Owed.{playlist_text}
 use Rattle.playlist_write.specs.Laid.{IsFrontLength}
 use Rattle.playlist_write.specs.declared.OutPlaylist.{OutPlaylist}
 use Rattle.owed_is_denoted.specs.Owed.{out_playlist}
-use Rattle.channel_spec.specs.Kept.{window_on}
 use Rattle.channel_spec.specs.Live.{date_range_text, date_ranges_left}
 use Rattle.channel_spec.specs.Marking.{last_entered}
 use Rattle.channel_spec.specs.Successor.{first_number}
-use Rattle.stitcher.specs.Written.{written_item}
 use Rattle.channel_window.specs.Listed.{head_of, writes_time}
 use Rattle.channel_window.specs.Marking.{history_in}
 use Rattle.channel_window.specs.Showing.{kept_before, kept_in}
@@ -62,7 +61,7 @@ returns c =
       in_use = breaks;
       numbers = numbers_seen s p held n window c.head_numbers-numbers.result refl
           (c.head_numbers-numbers.ensures ∙ (ap head_of first_is ∙ head_same whole stepped.front st.tail window stepped.start st.first st.inside st.window));
-      count = st.counted ∙ length-map (window_on (kept_in s) p seen n) written_item;
+      count = grind (arith, common_steps, length-map);
       rest = st.rest_is;
       rest_decided = st.left;
       text = text_seen s p held n window ids written.text refl breaks

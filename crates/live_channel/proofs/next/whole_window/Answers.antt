@@ -1,5 +1,6 @@
-use Rattle.std.proofs.Common.{rules, refl, [], ◌≡◌, ◌-◌, ◌∙◌, length, map, subst, sym, ap}
+use Rattle.std.proofs.Common.{rules, refl, [], ◌≡◌, ◌-◌, ◌∙◌, length, map, subst, sym, ap, arith}
 use Rattle.std.proofs.lemmas.List.{length-drop, length-map}
+use Rattle.std.proofs.lemmas.Grind.{common_steps}
 use Rattle.playlist_model.specs.LookBack.{or_earlier}
 use Rattle.pod_store.specs.Inner.Store.{NameTheSame}
 use Rattle.stitcher.specs.Written.{written_item}
@@ -12,14 +13,13 @@ use Rattle.channel_window.proofs.NewItems.{end_of}
 use Rattle.channel_window.specs.Marking.{history_in}
 use Rattle.channel_window.specs.Showing.{kept_before, kept_in}
 use Rattle.live_channel.specs.Inner.Accepting.{breaks_after}
-use Rattle.live_channel.specs.Inner.LastText.{Stood}
 use Rattle.live_channel.specs.Inner.Marks.{breaks_held}
 use Rattle.live_channel.proofs.Accepting.{numbers_seen, text_seen}
 use Rattle.live_channel.proofs.Marks.{breaks_seen}
 use Rattle.live_channel.proofs.next.whole_window.Goals as goal
 
 pub lines_again-requires : goal.lines_again-requires
-lines_again-requires c = subst (λ xs. Stood xs c.args.refresh.now.written.now) (sym c.in_ok-whole.ensures.whole) c.requires.stood.stood
+lines_again-requires c = grind (arith, common_steps)
 
 pub returns-clause-ok : goal.returns-clause-ok
 returns-clause-ok c =
@@ -44,7 +44,7 @@ returns-clause-ok c =
       fit = c.in_ok-whole.ensures.fit;
       in_use = breaks;
       numbers = numbers_seen s p held n items c.head_numbers-numbers.result window c.head_numbers-numbers.ensures;
-      count = c.count-count.ensures ∙ (ap length window ∙ length-map (window_on (kept_in s) p seen n) written_item);
+      count = grind (arith, common_steps, length-map);
       rest = c.in_ok-whole.ensures.rest;
       rest_decided = c.in_ok-whole.ensures.left;
       text = text_seen s p held n items ids c.in_ok-lay_text.field-0.text window breaks (search rules);

@@ -1,4 +1,4 @@
-use Rattle.std.proofs.Common.{◌≡◌, ◌∙◌, ◌++◌, List, false, ap, subst, sym}
+use Rattle.std.proofs.Common.{◌≡◌, ◌∙◌, ◌++◌, List, false, ap, subst, sym, rules}
 use Rattle.std.specs.Prelude.{IfErr, IfOk}
 use Rattle.std.specs.List.{list_all}
 use Rattle.stitcher.specs.Stitched.{can_be_numbered}
@@ -16,15 +16,15 @@ use Rattle.live_channel.proofs.refresh.next_kept.Goals as goal
 pub next_of-requires : goal.next_of-requires
 next_of-requires c =
     let s = c.args.state.now in
-    let p = (playlist_in c.args.read.now) in
     let come = c.in_ok-showing.showing.come.items in
     let list = c.as_slice-list.result.now in
     let list_is : list ≡ s.list ++ come = c.as_slice-list.ensures ∙ c.in_ok-append.ensures.ok in
     let before : kept_before c.before-before.result ≡ s = before_is s (kept_before c.before-before.result) come c.append.new.self c.len-stood.result c.len-stood.ensures c.in_ok-append.ensures.ok c.before-before.ensures in
-    ready c.args.tolerance s (kept_before c.before-before.result) p come list c.in_ok-showing.showing c.args.written.now before list_is c.in_ok-showing.ensures c.requires.stood c.requires.decided c.requires.ending
+    ready _ _ _ _ _ _ _ _ before list_is c.in_ok-showing.ensures c.requires.stood c.requires.decided
+    c.requires.ending
 
-pub returns-clause-ok : goal.returns-clause-ok
-returns-clause-ok c =
+pub returns : goal.returns
+returns c =
     let s = c.args.state.now in
     let p = (playlist_in c.args.read.now) in
     let showing = c.in_ok-showing.showing in
@@ -32,20 +32,15 @@ returns-clause-ok c =
     let list = c.as_slice-list.result.now in
     let list_is : list ≡ s.list ++ come = c.as_slice-list.ensures ∙ c.in_ok-append.ensures.ok in
     let before : kept_before c.before-before.result ≡ s = before_is s (kept_before c.before-before.result) come c.append.new.self c.len-stood.result c.len-stood.ensures c.in_ok-append.ensures.ok c.before-before.ensures in
-    subst (λ xs. IfOk c.next_of.result (λ a. IsAccepted c.args.tolerance (kept_in s) p xs a)) (sym c.in_ok-append.ensures.ok)
-    (accepted_as c.args.tolerance s (kept_before c.before-before.result) p (s.list ++ come) list showing c.next_of.result c.in_ok-showing.ensures before list_is c.next_of.ensures.ok)
-
-pub returns-clause-err : goal.returns-clause-err
-returns-clause-err c =
-    let s = c.args.state.now in
-    let p = (playlist_in c.args.read.now) in
-    let showing = c.in_ok-showing.showing in
     let long = showing.so_far in
-    let come = showing.come.items in
-    let list = c.as_slice-list.result.now in
-    let list_is : list ≡ s.list ++ come = c.as_slice-list.ensures ∙ c.in_ok-append.ensures.ok in
-    let before : kept_before c.before-before.result ≡ s = before_is s (kept_before c.before-before.result) come c.append.new.self c.len-stood.result c.len-stood.ensures c.in_ok-append.ensures.ok c.before-before.ensures in
-    subst (λ items. IfErr c.next_of.result (λ e. RefusesList e (list_all can_be_numbered items ≡ false)))
-    (ap (λ (x : ChannelState). items_on (kept_in x) p (history_in x.store list) long) before
-    ∙ (ap (λ (xs : List Held). items_on (kept_in s) p (history_in s.store xs) long) list_is ∙ items_kept c.args.tolerance s p (s.list ++ come) showing c.in_ok-showing.ensures))
-    c.next_of.ensures.err
+    record {
+      ok =
+          subst (λ xs. IfOk c.next_of.result (λ a. IsAccepted c.args.tolerance (kept_in s) p xs a)) (sym c.in_ok-append.ensures.ok)
+          (accepted_as c.args.tolerance s (kept_before c.before-before.result) p (s.list ++ come) list showing c.next_of.result c.in_ok-showing.ensures before list_is c.next_of.ensures.ok);
+      err =
+          subst (λ items. IfErr c.next_of.result (λ e. RefusesList e (list_all can_be_numbered items ≡ false)))
+          (ap (λ (x : ChannelState). items_on (kept_in x) p (history_in x.store list) long) before
+          ∙ (ap (λ (xs : List Held). items_on (kept_in s) p (history_in s.store xs) long) list_is
+          ∙ items_kept _ _ _ _ _ c.in_ok-showing.ensures)) c.next_of.ensures.err;
+      grown = search rules;
+    }

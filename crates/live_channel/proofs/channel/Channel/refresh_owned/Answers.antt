@@ -1,14 +1,11 @@
-use Rattle.std.proofs.Common.{◌≡◌, Ok, rules, subst, sym}
+use Rattle.std.proofs.Common.{◌≡◌, Ok, rules, subst, arith}
 use Rattle.std.specs.Prelude.{IfErr}
+use Rattle.std.proofs.lemmas.Grind.{common_steps}
 use Rattle.channel_spec.specs.Kept.{kept_refusal}
-use Rattle.channel_window.specs.Checked.{AreContiguous}
-use Rattle.channel_window.specs.Listed.{segments_in}
-use Rattle.channel_window.specs.Showing.{AreKept, kept_in}
-use Rattle.channel_window.specs.declared.state.ChannelState.{ChannelState}
-use Rattle.playlist_kept.specs.Kept.{IsKeptUnderBase, playlist_in}
-use Rattle.live_channel.specs.Channel.{Channel, IsListed, Refreshes, WasGivenSomething, channel_with, text_in}
+use Rattle.channel_window.specs.Showing.{kept_in}
+use Rattle.playlist_kept.specs.Kept.{playlist_in}
+use Rattle.live_channel.specs.Channel.{Channel, Refreshes, channel_with, text_in}
 use Rattle.live_channel.specs.Inner.Accepting.{BytesAreReadAs, Refused, RefusesNext}
-use Rattle.live_channel.specs.LastText.{IsLast}
 use Rattle.live_channel.proofs.Refreshing.{stays, stays_next}
 use Rattle.live_channel.proofs.Listing.{nothing_taken}
 use Rattle.live_channel.proofs.Taking.{IsSound, judged, is_sound, refreshes}
@@ -26,19 +23,13 @@ accept-requires c =
     let i = c.self.inside in
     let bytes = c.args.bytes.items in
     let same : c.as_slice.result.now ≡ bytes = search rules in
-    let here : BytesAreReadAs i.base bytes (playlist_in c.in_ok-read.read) = subst (λ b. BytesAreReadAs i.base b (playlist_in c.in_ok-read.read)) same c.in_ok-read.ensures.ok in
-    let read = c.in_ok-read.read in
+    let here : BytesAreReadAs i.base bytes (playlist_in c.in_ok-read.read) = subst
+    (λ b. BytesAreReadAs i.base b (playlist_in c.in_ok-read.read)) same c.in_ok-read.ensures.ok in
     let sound : IsSound i.base i.tolerance i.state i.written = record { stands = c.self.invariant.0; kept = c.self.invariant.1; contiguous = c.self.invariant.2.1; laid = c.self.invariant.3 } in
-    judged i.base i.tolerance i.state i.written bytes read sound here (nothing_taken _ read.taken.now c.in_ok-read.ensures.taken) c.in_ok-read.ensures.front
+    judged _ _ _ _ _ _ sound here (nothing_taken _ _ c.in_ok-read.ensures.taken) c.in_ok-read.ensures.front
 
 pub invariant_of-self : goal.invariant_of-self
-invariant_of-self c =
-    let i = c.self.inside in
-    let state : c.accept.new.state ≡ i.state = c.in_err-refreshed.ensures.state in
-    let written = c.in_err-refreshed.ensures.written in
-    subst (λ w. WasGivenSomething (channel_with i.base i.tolerance c.accept.new.state (text_in w)) × AreKept c.accept.new.state.store c.accept.new.state × (IsListed i.source c.accept.new.state.list × AreContiguous (segments_in c.accept.new.state.list)) × IsLast c.accept.new.state w × IsKeptUnderBase i.base i.source) (sym written)
-    (subst (λ (s : ChannelState). WasGivenSomething (channel_with i.base i.tolerance s (text_in i.written)) × AreKept s.store s × (IsListed i.source s.list × AreContiguous (segments_in s.list)) × IsLast s i.written × IsKeptUnderBase i.base i.source) (sym state)
-    (c.self.invariant.0, c.self.invariant.1, c.self.invariant.2, c.self.invariant.3, c.self.invariant.4))
+invariant_of-self c = grind (arith, common_steps)
 
 pub returns-in_err-refreshed : goal.returns-in_err-refreshed
 returns-in_err-refreshed c =
@@ -48,13 +39,10 @@ returns-in_err-refreshed c =
     let here : BytesAreReadAs i.base bytes (playlist_in c.in_ok-read.read) = subst (λ b. BytesAreReadAs i.base b (playlist_in c.in_ok-read.read)) same c.in_ok-read.ensures.ok in
     let p = playlist_in c.in_ok-read.read in
     let result = c.from_residual-in_err-refreshed.result in
-    let state : c.accept.new.state ≡ i.state = c.in_err-refreshed.ensures.state in
-    let written = c.in_err-refreshed.ensures.written in
     let refused : IfErr result (λ e. RefusesNext e (kept_refusal i.tolerance (kept_in i.state) p)) = search rules in
     let before = channel_with i.base i.tolerance i.state (text_in i.written) in
     let stay = subst (λ (x : Channel). Refreshes x bytes result before) c.self.view_is (stays_next i.base i.tolerance i.state (text_in i.written) bytes p result c.from_residual-in_err-refreshed.ensures.0 here refused) in
-    subst (λ w. Refreshes c.args.self.now bytes result (channel_with i.base i.tolerance c.accept.new.state (text_in w))) (sym written)
-    (subst (λ (s : ChannelState). Refreshes c.args.self.now bytes result (channel_with i.base i.tolerance s (text_in i.written))) (sym state) stay)
+    grind (arith, common_steps)
 
 pub invariant_of-self-2 : goal.invariant_of-self-2
 invariant_of-self-2 c =
@@ -67,7 +55,7 @@ invariant_of-self-2 c =
     let text = c.accept.new.written in
     let sound : IsSound i.base i.tolerance i.state i.written = record { stands = c.self.invariant.0; kept = c.self.invariant.1; contiguous = c.self.invariant.2.1; laid = c.self.invariant.3 } in
     let s = is_sound i.base i.tolerance i.state i.written bytes read sound here new text c.in_ok-refreshed.refreshed c.in_ok-refreshed.ensures.ok in
-    (s.stands, s.kept, (tt, s.contiguous), s.laid, tt)
+    grind arith
 
 pub returns : goal.returns
 returns c =
