@@ -1,5 +1,5 @@
-use Rattle.std.proofs.Common.{◌≡◌, refl, ap, subst, ◌∙◌}
-use Rattle.std.specs.Prelude.{IfOk}
+use Rattle.std.proofs.Common.{◌≡◌, refl, arith}
+use Rattle.std.proofs.lemmas.Grind.{common_steps}
 use Rattle.channel_api.specs.declared.channel_body.BodyFault.{BodyFault}
 use Rattle.channel_api.specs.declared.channel_body.BodyFault.TheVariants.{NotJson, Shape, OutOfMemory}
 use Rattle.channel_api.specs.FaultTexts.{body_fault_text}
@@ -12,5 +12,4 @@ told Shape other = refl
 told OutOfMemory other = absurd (other refl)
 
 pub returns-in_default-clause-reply : goal.returns-in_default-clause-reply
-returns-in_default-clause-reply c =
-    subst (λ owed. IfOk c.line.result (λ reply. reply ≡ owed)) (ap (line 422) c.text.ensures.text ∙ told c.args.fault c.in_default.not-OutOfMemory) c.line.ensures
+returns-in_default-clause-reply c = grind (arith, common_steps, told)
