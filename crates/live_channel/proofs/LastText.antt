@@ -1,6 +1,6 @@
 -- The last text, from refresh to refresh.
 use Rattle.std.proofs.Common.{◌≡◌, ℕ, ◌-◌, ◌<◌, true, not, cond, List, [], ◌∷◌, ◌++◌, map, reverse, length, take, drop, refl, ap, sym, ◌∙◌, subst, arith}
-use Rattle.std.specs.Prelude.{Option, Some, None, Ok, Err, Result, is_none}
+use Rattle.std.specs.Prelude.{Option, Some, None, Ok, is_none}
 use Rattle.std.specs.List.{AllByRecursion, list_all}
 use Rattle.std.proofs.lemmas.List.{append-nil, map-append, reverse-append, take_at, length-map, length-reverse}
 use Rattle.url.specs.Parts.{Parts}
@@ -14,9 +14,7 @@ use Rattle.playlist_write.specs.declared.resumed.WrittenText.{WrittenText}
 use Rattle.playlist_write.specs.Laid.{IsLaid, IsFrontLength, StandsAgain}
 use Rattle.read_is_writable.proofs.Whole.{can_be_written}
 use Rattle.owed_is_denoted.proofs.Given.{is_read}
-use Rattle.pod_store.specs.declared.fault.DecisionFault.{DecisionFault}
 use Rattle.pod_store.specs.Store.{Store}
-use Rattle.pod_store.specs.Outcome.{DecisionOutcome}
 use Rattle.channel_spec.specs.declared.fault.RefreshFault.TheVariants.{NumberRange}
 use Rattle.channel_spec.specs.Successor.{fault_if}
 use Rattle.channel_spec.specs.LiveLaws.{GoesOn}
@@ -30,7 +28,7 @@ use Rattle.channel_window.specs.declared.state.ChannelState.{ChannelState}
 use Rattle.channel_window.specs.declared.state.Ending.{Ending}
 use Rattle.channel_spec.specs.LastWindow.{last_pieces, last_items}
 use Rattle.channel_spec.proofs.KeptWhole.{kept_follows, items_go_on}
-use Rattle.live_channel.specs.Channel.{Channel, Given, refreshed, readable, events_of, told_by, IsAsTyped, ChangesStore, ChangesStoreExactly}
+use Rattle.live_channel.specs.Channel.{Given, refreshed, readable, events_of, told_by, IsAsTyped}
 use Rattle.live_channel.specs.LastText.{IsLaidOut, IsLast}
 use Rattle.live_channel.specs.Inner.LastText.{StoodIn, StoodBefore}
 use Rattle.live_channel.proofs.Steps.{all_given}
@@ -118,20 +116,6 @@ ending_next base tolerance given bytes p k k' ending e e' typed read follows fit
     (subst (λ w. IsEndingOf (shown_from (first_number p.segments) (kept_list tolerance k p)) p.end_list (kept_length tolerance k p) w ending) window end)
 
 -- ---- decisions leave it
-
-pub still : (old new : Channel) (result : Result (Unit {0}) DecisionFault) (outcome : DecisionOutcome Store) → ChangesStore old new result outcome → last_items new.kept ≡ last_items old.kept
-still old new result outcome h = grind arith
-
-pub still_exactly : (old new : Channel) (result : Result (Unit {0}) DecisionFault) (outcome : DecisionOutcome Store) → ChangesStoreExactly old new result outcome → last_items new.kept ≡ last_items old.kept
-still_exactly old new result outcome h = grind arith
-
-pub shown_still : (old new : Channel) (result : Result (Unit {0}) DecisionFault) (outcome : DecisionOutcome Store) → ChangesStore old new result outcome → new.kept.shown ≡ old.kept.shown
-shown_still old new (Ok u) outcome h = ap (λ (c : Channel). c.kept.shown) h.1
-shown_still old new (Err e) outcome h = ap (λ (c : Channel). c.kept.shown) h.0
-
-pub shown_exactly : (old new : Channel) (result : Result (Unit {0}) DecisionFault) (outcome : DecisionOutcome Store) → ChangesStoreExactly old new result outcome → new.kept.shown ≡ old.kept.shown
-shown_exactly old new (Ok u) outcome h = ap (λ (c : Channel). c.kept.shown) h.1
-shown_exactly old new (Err e) outcome h = ap (λ (c : Channel). c.kept.shown) h.0
 
 pub last_still : (old : ChannelState) (store : Store) (written : Option WrittenText) → (kept_in (record old { store = store })).shown ≡ (kept_in old).shown
     → last_items (kept_in (record old { store = store })) ≡ last_items (kept_in old) → IsLast old written → IsLast (record old { store = store }) written
