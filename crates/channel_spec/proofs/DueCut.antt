@@ -4,7 +4,7 @@ use Rattle.std.proofs.lemmas.Bool.{leb-true}
 use Rattle.std.proofs.Math.Decide.{dec_lt}
 use Rattle.std.specs.Prelude.{Option, Some, None, nat_le, sum}
 use Rattle.std.specs.List.{fold}
-use Rattle.playlist_model.specs.declared.Segment.{Segment}
+use Rattle.playlist_model.specs.Segments.{Segment}
 use Rattle.pod_store.specs.Pods.{PodSegment, Ad, ad_total, total}
 use Rattle.pod_store.specs.Marks.{Mark, Marked, newest_mark, continues, are_one}
 use Rattle.stitcher.specs.Stitched.{Piece, ad_piece, ad_pieces, pieces_of_ads, pod_pieces, stitched}

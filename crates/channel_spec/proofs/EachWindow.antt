@@ -28,7 +28,7 @@ use Rattle.channel_spec.proofs.LiveState.{Standing, StandingOf, new_standing, de
 use Rattle.channel_spec.proofs.Tops.{run_first}
 use Rattle.channel_spec.proofs.Runs.{place_is}
 use Rattle.channel_spec.proofs.Due.{list_rest, due_grows, due_prefix}
-use Rattle.playlist_model.specs.declared.Segment.{Segment}
+use Rattle.playlist_model.specs.Segments.{Segment}
 
 -- ---- new segments
 

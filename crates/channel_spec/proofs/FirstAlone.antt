@@ -4,7 +4,7 @@ use Rattle.std.proofs.lemmas.Bool.{and_parts, eqb-true}
 use Rattle.std.proofs.lemmas.List.{append-nil, take_all}
 use Rattle.std.specs.Prelude.{ℤ, Option, Some, None, find}
 use Rattle.std.specs.List.{AllByRecursion, list_any}
-use Rattle.playlist_model.specs.declared.Segment.{Segment}
+use Rattle.playlist_model.specs.Segments.{Segment}
 use Rattle.playlist_model.specs.declared.DateRange.{DateRange}
 use Rattle.playlist_model.specs.declared.Playlist.{Playlist}
 use Rattle.playlist_model.specs.Instants.{instants_after}

@@ -1,6 +1,6 @@
 -- The stitched list only grows.
 use Rattle.std.proofs.Common.{◌≡◌, cond, List, [], ◌∷◌, ◌++◌, refl, ap, sym, ◌∙◌, append_assoc}
-use Rattle.playlist_model.specs.declared.Segment.{Segment}
+use Rattle.playlist_model.specs.Segments.{Segment}
 use Rattle.pod_store.specs.Marks.{Marked, continues}
 use Rattle.channel_spec.specs.Marking.{Moment, next_shown, show_all}
 use Rattle.stitcher.specs.Stitched.{Piece, Numbers, stitched, run_pieces, numbers_at, first_numbers, numbered}

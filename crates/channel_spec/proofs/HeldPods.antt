@@ -4,7 +4,7 @@ use Rattle.std.proofs.lemmas.Bool.{le-leb, and_from, or_parts}
 use Rattle.std.proofs.lemmas.Slice.Eq.{bytes_eq-Decides}
 use Rattle.std.specs.Prelude.{Option, Some, None, Ok, fold, option_map, ℤ, nat_le, bytes_eq, find, filter}
 use Rattle.std.specs.List.{AllByRecursion, list_any}
-use Rattle.playlist_model.specs.declared.Segment.{Segment}
+use Rattle.playlist_model.specs.Segments.{Segment}
 use Rattle.playlist_model.specs.declared.Playlist.{Playlist}
 use Rattle.playlist_model.specs.LookBack.{or_earlier}
 use Rattle.pod_store.specs.Pods.{Pod}

@@ -1,7 +1,7 @@
 -- A segment that goes on a run has its very fill.
 use Rattle.std.proofs.Common.{◌≡◌, ℕ, Bool, true, false, cond, List, [], ◌∷◌, refl, subst, arith}
 use Rattle.std.specs.Prelude.{Option, Some, None, ℤ}
-use Rattle.playlist_model.specs.declared.Segment.{Segment}
+use Rattle.playlist_model.specs.Segments.{Segment}
 use Rattle.playlist_model.specs.LookBack.{or_earlier}
 use Rattle.pod_store.specs.Marks.{Mark, Marked, newest_mark, are_one}
 use Rattle.channel_spec.specs.Marking.{Moment, last_entered, continued, is_inside, entered, segment_instant, next_shown, show_all}

@@ -4,7 +4,7 @@ use Rattle.std.proofs.lemmas.Bool.{leb-true, leb-false, ltb-true, ltb-false}
 use mathlib.Core.List.{reverse_aux}
 use Rattle.std.specs.Prelude.{Option, Some, None, nat_le, nat_lt, filter, is_none}
 use Rattle.std.specs.List.{AllByRecursion}
-use Rattle.playlist_model.specs.declared.Segment.{Segment}
+use Rattle.playlist_model.specs.Segments.{Segment}
 use Rattle.playlist_model.specs.declared.Playlist.{Playlist}
 use Rattle.playlist_model.specs.Same.{kept_parts}
 use Rattle.pod_store.specs.Marks.{Marked}

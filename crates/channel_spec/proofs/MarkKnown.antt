@@ -2,7 +2,7 @@
 use Rattle.std.proofs.Common.{◌≡◌, ℕ, ◌+◌, ◌<◌, Bool, true, false, cond, List, [], ◌∷◌, refl, ap, arith}
 use Rattle.std.specs.Prelude.{Option, Some, None, IsSome, option_map, ℤ, filter}
 use Rattle.std.specs.List.{list_any}
-use Rattle.playlist_model.specs.declared.Segment.{Segment}
+use Rattle.playlist_model.specs.Segments.{Segment}
 use Rattle.playlist_model.specs.declared.Playlist.{Playlist}
 use Rattle.playlist_model.specs.LookBack.{or_earlier}
 use Rattle.pod_store.specs.Marks.{Mark, Marked, newest_mark}

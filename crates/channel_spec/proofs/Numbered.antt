@@ -2,7 +2,7 @@
 use Rattle.std.proofs.Common.{◌≡◌, ℕ, List, [], ◌∷◌, ◌++◌, map, reverse, refl, arith}
 use Rattle.std.proofs.lemmas.List.{take-map, length-map, map-append}
 use Rattle.std.proofs.lemmas.Grind.{reverse_onto}
-use Rattle.playlist_model.specs.declared.Segment.{Segment}
+use Rattle.playlist_model.specs.Segments.{Segment}
 use Rattle.pod_store.specs.Marks.{Marked}
 use Rattle.stitcher.specs.Stitched.{Piece, Numbers, Item, newest_place, up_to, from_place, numbered as items_of}
 use Rattle.channel_spec.specs.Live.{item_segment}

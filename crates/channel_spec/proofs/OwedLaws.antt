@@ -9,7 +9,7 @@ use Rattle.playlist_model.specs.declared.DateRange.{DateRange}
 use Rattle.playlist_model.specs.declared.Playlist.{Playlist}
 use Rattle.pod_store.specs.Marks.{Mark, Marked, continues}
 use Rattle.stitcher.specs.Stitched.{Piece, Item, Numbers, is_kept, kept_piece, run_pieces, stitched, numbered, first_numbers, from_place}
-use Rattle.stitcher.specs.Paced.{PodRest, older, run_length, due, newest_pieces, due_with, due_stitched, rest_pieces}
+use Rattle.stitcher.specs.Paced.{PodRest, older, run_length, newest_pieces, due_with, due_stitched, rest_pieces}
 use Rattle.channel_spec.specs.declared.fault.RefreshFault.{RefreshFault}
 use Rattle.pod_store.specs.Store.{Store, is_named, kept_in_use}
 use Rattle.pod_store.specs.Outcome.{DecisionOutcome}

@@ -9,7 +9,6 @@ use Rattle.pod_store.specs.Marks.{Mark, Marked, newest_mark, are_one}
 use Rattle.stitcher.specs.Stitched.{Piece, pod_pieces, stitched}
 use Rattle.stitcher.specs.Paced.{older, run_length, due, newest_pieces}
 use Rattle.break_finder.specs.Breaks.{Break}
-use Rattle.break_finder.specs.Entering as entering
 use Rattle.break_finder.specs.Known.{Accepted, is_this}
 use Rattle.channel_spec.specs.Marking.{last_entered}
 use Rattle.channel_spec.specs.declared.fault.RefreshFault.{RefreshFault}

@@ -1,7 +1,7 @@
 -- Each window succeeds the one before.
 use Rattle.std.proofs.Common.{◌≡◌, inl, ℕ, ◌+◌, ◌<◌, ◌≤◌, Bool, List, [], ◌∷◌, ◌++◌, length, reverse, refl, ap, sym, ◌∙◌, subst, length-append, arith}
 use Rattle.std.specs.List.{AllByRecursion}
-use Rattle.playlist_model.specs.declared.Segment.{Segment}
+use Rattle.playlist_model.specs.Segments.{Segment}
 use Rattle.stitcher.specs.Stitched.{Piece, Numbers, numbers_at, steps_between, from_place}
 use Rattle.channel_spec.proofs.Numbered.{numbered, numbered_segment}
 use Rattle.channel_spec.specs.Successor.{first_number, end_number, first_discontinuity, last_discontinuity, has_init_sections, AgreesWith}

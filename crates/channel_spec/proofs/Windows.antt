@@ -6,7 +6,7 @@ use Rattle.std.proofs.Common.{◌⊎◌, inl, inr}
 use Rattle.std.specs.List.{AllByRecursion}
 use Rattle.std.proofs.Math.Seq.{take-append_seam}
 use Rattle.std.proofs.Math.Decide.{dec_lt}
-use Rattle.playlist_model.specs.declared.Segment.{Segment}
+use Rattle.playlist_model.specs.Segments.{Segment}
 use Rattle.stitcher.specs.Stitched.{Piece, Numbers, numbers_at, from_place}
 use Rattle.channel_spec.proofs.Numbered.{numbered, numbered_segment}
 use Rattle.playlist_model.specs.Same.{kept_parts}

@@ -2,7 +2,7 @@
 -- from.
 use Rattle.std.specs.Prelude.{◌≡◌, ◌≤◌, ℕ, ◌+◌, ◌||◌, Bool, true, false, List, [], ◌∷◌, ◌++◌, reverse, ℤ, Some, None}
 use Rattle.std.specs.List.{AllByRecursion, list_any}
-use Rattle.playlist_model.specs.declared.Segment.{Segment}
+use Rattle.playlist_model.specs.Segments.{Segment}
 use Rattle.playlist_model.specs.declared.Playlist.{Playlist}
 use Rattle.pod_store.specs.Pods.{Pod, total, pod_fits}
 use Rattle.pod_store.specs.Marks.{Mark, Marked, newest_mark}

@@ -1,7 +1,7 @@
 -- Which break marks a segment, and the history after a refresh. A history has its newest segment first.
 use Rattle.std.specs.Prelude.{ℕ, Bool, true, List, [], ◌∷◌, filter, nat_lt, ℤ, Option, Some, None, option_map, if◌then◌else◌}
 use Rattle.playlist_model.specs.Instants.{begins_at, ends_at}
-use Rattle.playlist_model.specs.declared.Segment.{Segment}
+use Rattle.playlist_model.specs.Segments.{Segment}
 use Rattle.playlist_model.specs.declared.Playlist.{Playlist}
 use Rattle.playlist_model.specs.LookBack.{or_earlier}
 use Rattle.pod_store.specs.Marks.{Mark, Marked, newest_mark, mark_in}

@@ -1,7 +1,7 @@
 -- Events that make sense: playlists as they are read, pods as decision files say them.
 use Rattle.std.specs.Prelude.{◌≡◌, ◌<◌, ℕ, ◌+◌, List, [], ◌∷◌, length, is_some}
 use Rattle.std.specs.List.{AllByRecursion}
-use Rattle.playlist_model.specs.declared.Segment.{Segment}
+use Rattle.playlist_model.specs.Segments.{Segment}
 use Rattle.playlist_model.specs.declared.Playlist.{Playlist}
 use Rattle.pod_store.specs.Pods.{Pod, Ad}
 use Rattle.pod_store.specs.declared.Decisions.{Decisions}

@@ -7,7 +7,7 @@ use Rattle.std.proofs.lemmas.Bool.Decides.{nat_tests}
 use Rattle.std.proofs.lemmas.List.{length-drop}
 use Rattle.std.proofs.Math.Decide.{dec_le}
 use mathlib.Core.List.{reverse_aux}
-use Rattle.playlist_model.specs.declared.Segment.{Segment}
+use Rattle.playlist_model.specs.Segments.{Segment}
 use Rattle.pod_store.specs.Marks.{Marked, newest_mark, mark_in}
 use Rattle.playlist_model.specs.Instants.{ends_at, instants_after}
 use Rattle.pod_store.specs.Store.{Store}

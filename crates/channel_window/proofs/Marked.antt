@@ -3,7 +3,7 @@ use Rattle.std.proofs.Common.{◌≡◌, ℕ, ◌+◌, ℤ, Bool, true, false, c
 use Rattle.std.specs.Prelude.{Option, Some, None, IfSome, IsSome, ◌==◌, is_none, option_map, find}
 use mathlib.Core.List.{reverse_aux}
 use Rattle.std.proofs.lemmas.Bool.{and_parts, eqb-true}
-use Rattle.playlist_model.specs.declared.Segment.{Segment}
+use Rattle.playlist_model.specs.Segments.{Segment}
 use Rattle.pod_store.specs.Pods.{Pod}
 use Rattle.pod_store.specs.Marks.{Marked, newest_mark, continues, are_one, mark_with, mark_in}
 use Rattle.playlist_model.specs.LookBack.{or_earlier}

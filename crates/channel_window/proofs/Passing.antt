@@ -6,7 +6,7 @@ use Rattle.std.proofs.lemmas.Bool.{and_parts}
 use mathlib.Core.List.{reverse_aux}
 use Rattle.pod_store.specs.Pods.{Pod, Ad, PodSegment}
 use Rattle.pod_store.specs.Marks.{Mark, Marked as Meant, mark_with, mark_in}
-use Rattle.playlist_model.specs.declared.Segment.{Segment}
+use Rattle.playlist_model.specs.Segments.{Segment}
 use Rattle.channel_spec.specs.declared.heading.Heading.{Heading}
 use Rattle.stitcher.specs.Stitched.{Piece, Numbers, ad_pieces, pieces_of_ads, numbers_from, first_numbers}
 use Rattle.pod_store.specs.Store.{Store, pod_for}

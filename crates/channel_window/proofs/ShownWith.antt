@@ -4,7 +4,7 @@ use Rattle.std.specs.Prelude.{Option, Some, None, IsSome, option_map, filter}
 use mathlib.Core.List.{reverse_aux}
 use Rattle.playlist_model.specs.LookBack.{or_earlier}
 use Rattle.playlist_model.specs.declared.Playlist.{Playlist}
-use Rattle.playlist_model.specs.declared.Segment.{Segment}
+use Rattle.playlist_model.specs.Segments.{Segment}
 use Rattle.playlist_model.specs.Instants.{instants_after}
 use Rattle.break_finder.specs.Breaks.{Break}
 use Rattle.pod_store.specs.Pods.{Pod}

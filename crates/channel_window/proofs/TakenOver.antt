@@ -4,7 +4,7 @@ use Rattle.std.specs.Prelude.{Option, Some, None, not, ◌==◌, find}
 use Rattle.std.specs.List.{AllByRecursion}
 use Rattle.std.proofs.lemmas.Bool.{eqb-true}
 use Rattle.std.proofs.lemmas.List.{take-append-drop}
-use Rattle.playlist_model.specs.declared.Segment.{Segment}
+use Rattle.playlist_model.specs.Segments.{Segment}
 use Rattle.playlist_model.specs.LookBack.{or_earlier}
 use Rattle.playlist_model.specs.Same.{kept_parts}
 use Rattle.playlist_model.proofs.SameSegments.{same_segment_decides}

@@ -1,6 +1,6 @@
 -- What the caller of the check of two playlists keeps to.
 use Rattle.std.specs.Prelude.{◌≡◌, ℕ, List, map, take, drop}
-use Rattle.playlist_model.specs.declared.Segment.{Segment}
+use Rattle.playlist_model.specs.Segments.{Segment}
 use Rattle.playlist_model.specs.Same.{kept_parts}
 use Rattle.channel_spec.specs.Successor.{first_number}
 use Rattle.channel_spec.specs.Sound.{RiseFrom}

@@ -1,7 +1,7 @@
 -- The new segments of a refresh, marked in the order of the playlist.
 use mathlib.Core.List.{reverse_aux}
 use Rattle.std.specs.Prelude.{ℕ, ◌+◌, min, length, Bool, false, List, [], ◌∷◌, map, reverse, ℤ, Option, Some, None, if◌then◌else◌}
-use Rattle.playlist_model.specs.declared.Segment.{Segment}
+use Rattle.playlist_model.specs.Segments.{Segment}
 use Rattle.pod_store.specs.Pods.{Pod, total}
 use Rattle.pod_store.specs.Marks.{Marked}
 use Rattle.playlist_model.specs.LookBack.{or_earlier}

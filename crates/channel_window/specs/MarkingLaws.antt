@@ -1,6 +1,6 @@
 -- What holds of the new segments of a refresh, and of the place of the window.
 use Rattle.std.specs.Prelude.{◌≡◌, ℕ, List, map, reverse, Option, None}
-use Rattle.playlist_model.specs.declared.Segment.{Segment}
+use Rattle.playlist_model.specs.Segments.{Segment}
 use Rattle.pod_store.specs.Marks.{Marked, newest_mark, mark_in}
 use Rattle.playlist_model.specs.Instants.{instants_after}
 use Rattle.stitcher.specs.Stitched.{newest_place}

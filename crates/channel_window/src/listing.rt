@@ -16,7 +16,7 @@ ghost use Rattle.channel_window.specs.Inner.Listed.{IsFront, IsTail, is_after, s
 ghost use Rattle.channel_spec.specs.Successor.{first_number};
 
 use playlist_kept::Read;
-use playlist_model::{Items, Members, Segment, Shared};
+use playlist_model::{GrowingSegments, Members, SegmentSlice, Segments, Shared};
 use std::alloc::{AllocError, Global};
 use stitcher::{MarkedSegment, SharedMark};
 
@@ -42,30 +42,30 @@ pub fn newest_end(shown: &[MarkedSegment]) -> Option<i128>
     ensures { (store : Store) → result ≡ newest_end (history_in store shown.now) }
 {
     match shown.split_last() {
-        Some((newest, _)) => newest.instant.end(newest.segment.duration),
+        Some((newest, _)) => newest.instant.end(newest.segment.get().duration()),
         None => None,
     }
 }
 
 // The Media Sequence Number of the first of these; 0 if there is none.
-fn first_number(segments: &[Segment]) -> u64
+fn first_number(segments: &SegmentSlice<'_>) -> u64
     ensures { result ≡ first_number segments.now }
 {
     match segments.first() {
-        Some(segment) => segment.media_sequence,
+        Some(segment) => segment.media_sequence(),
         None => 0,
     }
 }
 
 // Those of these segments that are numbered after this: the last ones.
-fn after(number: u64, segments: &[Segment]) -> &[Segment]
+fn after<'a>(number: u64, segments: &SegmentSlice<'a>) -> SegmentSlice<'a>
     requires { AreContiguous segments.now }
-    ensures value { result.now ≡ filter (is_after number) segments.now }
-    ensures last { IsTail result.now segments.now }
+    ensures value { result ≡ filter (is_after number) segments.now }
+    ensures last { IsTail result segments.now }
 {
     let first = first_number(segments);
     if number < first {
-        return segments;
+        return segments.again();
     }
     let place = (number - first) as usize;
     let later = segments.len().saturating_sub(place).saturating_sub(1);
@@ -73,45 +73,45 @@ fn after(number: u64, segments: &[Segment]) -> &[Segment]
 }
 
 // The segments that were read since others were taken over; all if none were.
-fn since_taken<'a>(read: &'a Read<'_>) -> &'a [Segment]
-    ensures { result.now ≡ since read.now }
+fn since_taken<'a>(read: &'a Read<'_>) -> SegmentSlice<'a>
+    ensures { result ≡ since read.now }
 {
     let segments = read.playlist.segments.as_slice();
     if read.taken.is_empty() {
         return segments;
     }
-    segments.split_at(read.front.min(segments.len())).1
+    segments.split_at(read.front).1
 }
 
 /// Those segments of the playlist that was `read` that aren't among the `shown` ones: its last ones. All of them were read,
 /// since those that were taken over are shown.
-pub fn fresh_of<'a>(shown: &[MarkedSegment], read: &'a Read<'_>) -> &'a [Segment]
+pub fn fresh_of<'a>(shown: &[MarkedSegment], read: &'a Read<'_>) -> SegmentSlice<'a>
     requires contiguous { AreContiguous (playlist_in read.now).segments }
     requires taken { AreTaken (segments_in shown.now) read.now.taken.now }
     requires rising { AreRising shown.now }
     requires front { read.now.front ≤ length read.now.playlist.segments }
-    ensures value { (store : Store) → result.now
+    ensures value { (store : Store) → result
         ≡ filter (is_new (history_in store shown.now)) (playlist_in read.now).segments }
-    ensures last { IsTail result.now read.now.playlist.segments }
+    ensures last { IsTail result read.now.playlist.segments }
 {
     let segments = since_taken(read);
     match shown.split_last() {
-        Some((newest, _)) => after(newest.segment.media_sequence, segments),
+        Some((newest, _)) => after(newest.segment.get().media_sequence(), &segments),
         None => segments,
     }
 }
 
 // Copies of these segments.
-fn copied_segments(alloc: Global, segments: &[Segment]) -> Result<Vec<Segment>, AllocError>
-    ensures { IfOk result (λ v. v.items ≡ segments.now) }
+fn copied_segments(alloc: Global, segments: &SegmentSlice<'_>) -> Result<Segments, AllocError>
+    ensures { IfOk result (λ copies. copies ≡ segments.now) }
 {
-    let mut done = Vec::with_capacity(alloc, segments.len())?;
-    let mut rest = segments;
+    let mut done = GrowingSegments::new(alloc);
+    let mut rest = segments.again();
     while let Some((segment, later)) = rest.split_first() {
-        done.push(segment.clone()?)?;
+        done.push_copy(&segment)?;
         rest = later;
     }
-    Ok(done)
+    Ok(done.into_segments())
 }
 
 #[tactic(auto, using(crate::proofs::Listed::tail_whole))]
@@ -120,21 +120,20 @@ fn copied_segments(alloc: Global, segments: &[Segment]) -> Result<Vec<Segment>, 
 /// if an allocation fails.
 pub fn list_with(
     alloc: Global,
-    fresh: &[Segment],
-    segments: &Shared<Items<Segment>>,
-) -> Result<Shared<Items<Segment>>, AllocError>
+    fresh: &SegmentSlice<'_>,
+    segments: &Shared<Segments>,
+) -> Result<Shared<Segments>, AllocError>
     requires { IsTail fresh.now segments.now }
     ensures { IfOk result (λ list. IsTail fresh.now list) }
 {
     if fresh.len() >= segments.len() / 2 {
         return segments.clone();
     }
-    let copies = copied_segments(alloc, fresh)?;
-    Shared::new(alloc, Items::from_vec(copies))
+    Shared::new(alloc, copied_segments(alloc, fresh)?)
 }
 
 /// The members of `list` that are `fresh`, with which it ends.
-pub fn last_members<'a>(list: &'a Shared<Items<Segment>>, fresh: &[Segment]) -> Members<'a, Segment>
+pub fn last_members<'a>(list: &'a Shared<Segments>, fresh: &SegmentSlice<'_>) -> Members<'a>
     requires { IsTail fresh.now list.now }
     ensures { result ≡ fresh.now }
 {
@@ -156,7 +155,7 @@ pub fn place_of_number(number: u64, list: &[MarkedSegment]) -> usize
     let Some(first) = list.first() else {
         return 0;
     };
-    let place = number.saturating_sub(first.segment.media_sequence) as usize;
+    let place = number.saturating_sub(first.segment.get().media_sequence()) as usize;
     place.min(list.len())
 }
 
@@ -170,7 +169,7 @@ pub fn front_to(number: u64, list: &[MarkedSegment]) -> &[MarkedSegment]
     let Some(first) = list.first() else {
         return list;
     };
-    if number < first.segment.media_sequence {
+    if number < first.segment.get().media_sequence() {
         return list.split_at(0).0;
     }
     let place = place_of_number(number, list);

@@ -17,7 +17,7 @@ use crate::successor::has_init_sections;
 use break_finder::{Entrances, Knowledge, Stay, TimesWithin};
 use fixed_duration::Nanos;
 use playlist_kept::Read;
-use playlist_model::{Instant, Member, Members, Segment, Shared, Text};
+use playlist_model::{Instant, Member, Members, Shared, Text};
 use pod_store::PodStore;
 use std::alloc::{AllocError, Global};
 use std::marker::Model;
@@ -157,7 +157,7 @@ fn same_mark(run: &Run) -> Result<NextMark, AllocError>
     Ok(NextMark { mark, goes_on })
 }
 
-fn marked_with(segment: Member<Segment>, instant: OptionalInstant, next: NextMark) -> MarkedSegment
+fn marked_with(segment: Member, instant: OptionalInstant, next: NextMark) -> MarkedSegment
     ensures { result ≡ record { segment = segment; instant = instant; mark = next.mark; goes_on = next.goes_on } }
 {
     MarkedSegment {
@@ -316,15 +316,15 @@ impl<'a> Marker<'a> {
         &mut self,
         alloc: Global,
         run: &mut Run,
+        segment: &Member,
         instant: OptionalInstant,
-        duration: Nanos,
     ) -> Result<NextMark, AllocError>
         requires { HasItsTerms self.old run.old }
         ensures mark { IfOk result
             (λ next. next.mark ≡ next_id self.old run.old.before run.old.entered instant) }
         ensures same { IfOk result (λ next. next.goes_on ≡ is_same_run next.mark run.old.before) }
         ensures goes { IfOk result
-            (λ next. IsExtended self.old.store duration next.mark run.old run.new) }
+            (λ next. IsExtended self.old.store segment.now.duration next.mark run.old run.new) }
         ensures run { OnOk result (HasItsTerms self.old run.new) }
         ensures kept { self.new ≡ self.old }
     {
@@ -332,6 +332,7 @@ impl<'a> Marker<'a> {
             run.so_far = Nanos(0);
             return same_mark(run);
         }
+        let duration = segment.get().duration();
         if stays_in(&run.terms, instant.get()) {
             run.so_far = capped_at(&run.terms, duration, run.so_far);
             return same_mark(run);
@@ -344,7 +345,7 @@ impl<'a> Marker<'a> {
         &mut self,
         alloc: Global,
         run: &mut Run,
-        segment: Member<Segment>,
+        segment: Member,
         instant: OptionalInstant,
     ) -> Result<MarkedSegment, AllocError>
         requires { HasItsTerms self.old run.old }
@@ -355,7 +356,7 @@ impl<'a> Marker<'a> {
         ensures run { OnOk result (HasItsTerms self.old run.new) }
         ensures kept { self.new ≡ self.old }
     {
-        let mark = self.next_mark(alloc, run, instant, segment.duration)?;
+        let mark = self.next_mark(alloc, run, &segment, instant)?;
         Ok(marked_with(segment, instant, mark))
     }
 
@@ -364,7 +365,7 @@ impl<'a> Marker<'a> {
         &mut self,
         alloc: Global,
         run: &mut Run,
-        segments: &mut Members<'_, Segment>,
+        segments: &mut Members<'_>,
         instants: &mut Beginnings<'_>,
         done: &mut Vec<MarkedSegment>,
     ) -> Result<(), AllocError>
@@ -392,7 +393,7 @@ impl<'a> Marker<'a> {
     fn all_unmarked(
         &self,
         run: &mut Run,
-        segments: &mut Members<'_, Segment>,
+        segments: &mut Members<'_>,
         instants: &mut Beginnings<'_>,
         done: &mut Vec<MarkedSegment>,
     ) -> Result<(), AllocError>
@@ -447,7 +448,7 @@ impl<'a> Marker<'a> {
         alloc: Global,
         shown: &Shown,
         newest: SharedMark,
-        segments: Members<'_, Segment>,
+        segments: Members<'_>,
         instants: Beginnings<'_>,
     ) -> Result<Marks, AllocError>
         requires { or_earlier newest shown.now.entered ≡ shown.now.entered }

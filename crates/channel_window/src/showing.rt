@@ -55,20 +55,20 @@ pub fn shown_with(
     let known = &state.shown.knowledge;
     let knowledge = known.carry(alloc, &read.playlist, text_in(&newest))?;
     let fresh = fresh_of(shown, read);
-    let segments = list_with(alloc, fresh, &read.playlist.segments)?;
-    let store = &state.store;
-    let marker = Marker::new(alloc, tolerance, read, &knowledge, store, fresh.len())?;
+    let segments = list_with(alloc, &fresh, &read.playlist.segments)?;
+    let (store, count) = (&state.store, fresh.len());
+    let marker = Marker::new(alloc, tolerance, read, &knowledge, store, count)?;
     let marks = marker.mark(
         alloc,
         &state.shown,
         newest,
-        last_members(&segments, fresh),
+        last_members(&segments, &fresh),
         Beginnings::new(alloc, newest_end(shown), fresh),
     )?;
     Ok(Showing {
         knowledge,
         come: marks.list,
-        fresh: fresh.len(),
+        fresh: count,
         entered: marks.entered,
         so_far: marks.so_far,
     })

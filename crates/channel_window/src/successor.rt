@@ -9,7 +9,7 @@ ghost use Rattle.channel_window.specs.Inner.Checked.{is_as_before};
 
 use channel_spec::{Heading, RefreshFault};
 use playlist_kept::{Read, is_same_kind};
-use playlist_model::{Segment, Shared, same_segment};
+use playlist_model::{SegmentRef, SegmentSlice, Shared, same_segment};
 use stitcher::MarkedSegment;
 
 /// The Media Sequence Number of the first segment of the playlist that was `read` (RFC 8216, section 4.3.3.2); 0 if it has
@@ -18,7 +18,7 @@ pub fn first_number(read: &Read<'_>) -> u64
     ensures { result ≡ first_number (playlist_in read.now).segments }
 {
     match read.first() {
-        Some(segment) => segment.media_sequence,
+        Some(segment) => segment.media_sequence(),
         None => 0,
     }
 }
@@ -35,7 +35,7 @@ pub fn first_shown(shown: &[MarkedSegment]) -> u64
     ensures { result ≡ first_number (segments_in shown.now) }
 {
     match shown.first() {
-        Some(marked) => marked.segment.media_sequence,
+        Some(marked) => marked.segment.get().media_sequence(),
         None => 0,
     }
 }
@@ -52,7 +52,7 @@ fn first_discontinuity(read: &Read<'_>) -> u64
     ensures { result ≡ first_discontinuity (playlist_in read.now).segments }
 {
     match read.first() {
-        Some(segment) => segment.discontinuity_sequence,
+        Some(segment) => segment.discontinuity_sequence(),
         None => 0,
     }
 }
@@ -62,7 +62,7 @@ fn last_discontinuity(shown: &[MarkedSegment]) -> u64
     ensures { result ≡ last_discontinuity (segments_in shown.now) }
 {
     match shown.split_last() {
-        Some((last, _)) => last.segment.discontinuity_sequence,
+        Some((last, _)) => last.segment.get().discontinuity_sequence(),
         None => 0,
     }
 }
@@ -73,7 +73,7 @@ pub fn has_init_sections(read: &Read<'_>) -> bool
     ensures { result ≡ has_init_sections (playlist_in read.now).segments }
 {
     match read.first() {
-        Some(segment) => segment.init_section.is_some(),
+        Some(segment) => segment.init_section().is_some(),
         None => false,
     }
 }
@@ -83,35 +83,35 @@ pub fn have_init_sections(shown: &[MarkedSegment]) -> bool
     ensures { result ≡ has_init_sections (segments_in shown.now) }
 {
     match shown.first() {
-        Some(marked) => marked.segment.init_section.is_some(),
+        Some(marked) => marked.segment.get().init_section().is_some(),
         None => false,
     }
 }
 
 // Whether a segment is as it is shown, or isn't shown.
-fn is_as_shown(shown: &[MarkedSegment], segment: &Segment) -> bool
+fn is_as_shown(shown: &[MarkedSegment], segment: &SegmentRef<'_>) -> bool
     requires { AreContiguous (segments_in shown.now) }
     ensures { result ≡ is_as_before (segments_in shown.now) segment.now }
 {
-    let first = first_shown(shown);
-    if segment.media_sequence < first {
+    let (first, number) = (first_shown(shown), segment.media_sequence());
+    if number < first {
         return true;
     }
-    match shown.get((segment.media_sequence - first) as usize) {
-        Some(other) => same_segment(segment, &other.segment),
+    match shown.get((number - first) as usize) {
+        Some(other) => same_segment(segment, &other.segment.get()),
         None => true,
     }
 }
 
 // The number of the first of these segments that isn't as it is shown.
-fn first_changed_of(shown: &[MarkedSegment], new: &[Segment]) -> Option<u64>
+fn first_changed_of(shown: &[MarkedSegment], new: &SegmentSlice<'_>) -> Option<u64>
     requires { AreContiguous (segments_in shown.now) }
     ensures { option_map Changed result ≡ first_changed (segments_in shown.now) new.now }
 {
-    let mut rest = new;
+    let mut rest = new.again();
     while let Some((segment, later)) = rest.split_first() {
-        if !is_as_shown(shown, segment) {
-            return Some(segment.media_sequence);
+        if !is_as_shown(shown, &segment) {
+            return Some(segment.media_sequence());
         }
         rest = later;
     }
@@ -126,7 +126,7 @@ fn first_changed(shown: &[MarkedSegment], read: &Read<'_>) -> Option<u64>
     ensures { option_map Changed result
         ≡ first_changed (segments_in shown.now) (playlist_in read.now).segments }
 {
-    first_changed_of(shown, read.playlist.segments.as_slice())
+    first_changed_of(shown, &read.playlist.segments.as_slice())
 }
 
 // Whether the one starts directly after the other, with a discontinuity number that doesn't follow: it is less, or

@@ -27,7 +27,7 @@ use crate::successor::{first_number, first_shown};
 use channel_spec::{Heading, RefreshFault};
 use fixed_duration::Nanos;
 use playlist_kept::Read;
-use playlist_model::{DateRange, Segment, Shared, Text};
+use playlist_model::{DateRange, SegmentRef, Shared, Text};
 use pod_store::{IdSet, PodStore};
 use std::alloc::{AllocError, Global};
 use std::hash::RandomState;
@@ -315,17 +315,17 @@ pub fn is_any_timed(items: &StitchedList<'_>) -> bool
 }
 
 // The numbers of a first item that a pod stands at.
-fn first_with_pod(segment: &Segment) -> Result<Numbers, RefreshFault>
+fn first_with_pod(segment: &SegmentRef<'_>) -> Result<Numbers, RefreshFault>
     ensures ok { IfOk result (λ numbers. numbers ≡ first_alone segment.now true) }
     ensures err { IfErr result
         (λ e. (e ≡ RefreshFault.NumberRange)
         × (nat_lt (segment.now.discontinuity_sequence + 1) (2 ^ 64) ≡ false)) }
 {
-    let Some(discontinuity) = segment.discontinuity_sequence.checked_add(1) else {
+    let Some(discontinuity) = segment.discontinuity_sequence().checked_add(1) else {
         return Err(RefreshFault::NumberRange);
     };
     Ok(Numbers {
-        media_sequence: segment.media_sequence,
+        media_sequence: segment.media_sequence(),
         discontinuity_sequence: discontinuity,
         discontinuities: 1,
     })
@@ -355,15 +355,15 @@ fn first_numbers(
     let Some(first) = list.first() else {
         return Ok(Numbers::zero());
     };
-    let segment = &first.segment;
+    let segment = first.segment.get();
     if let Some(id) = &*first.mark {
         know_pod(store, id.as_str());
-        return first_with_pod(segment);
+        return first_with_pod(&segment);
     }
     Ok(Numbers {
-        media_sequence: segment.media_sequence,
-        discontinuity_sequence: segment.discontinuity_sequence,
-        discontinuities: segment.discontinuities,
+        media_sequence: segment.media_sequence(),
+        discontinuity_sequence: segment.discontinuity_sequence(),
+        discontinuities: segment.discontinuities(),
     })
 }
 

@@ -4,7 +4,7 @@ use Rattle.std.specs.Prelude.{Option, Some, None, Ok, option_map}
 use Rattle.std.specs.List.{AllByRecursion}
 use Rattle.url.specs.Parts.{Parts}
 use Rattle.playlist_model.specs.declared.Playlist.{Playlist}
-use Rattle.playlist_model.specs.declared.Segment.{Segment}
+use Rattle.playlist_model.specs.Segments.{Segment}
 use Rattle.playlist_model.specs.Same.{kept_parts}
 use Rattle.playlist_model.specs.Reading.{reading, limited}
 use Rattle.channel_spec.specs.Live.{Told, last_playlist, after_refresh, owed_for}

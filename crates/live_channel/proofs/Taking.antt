@@ -7,7 +7,7 @@ use Rattle.std.proofs.lemmas.List.{take-append-drop}
 use Rattle.std.proofs.Math.Seq.{take-nil, drop-nil}
 use Rattle.std.proofs.lemmas.List.Folds.{list_all-append}
 use Rattle.url.specs.Parts.{Parts}
-use Rattle.playlist_model.specs.declared.Segment.{Segment}
+use Rattle.playlist_model.specs.Segments.{Segment}
 use Rattle.playlist_model.specs.declared.DateRange.{DateRange}
 use Rattle.playlist_model.specs.Same.{kept_parts}
 use Rattle.playlist_model.specs.Reading.{reading, limited}

@@ -63,7 +63,7 @@ fn push_marked(
     ensures named { IfOk result (λ put. put ≡ true → IsAmongMarks marks.new.items marked.now.mark) }
 {
     // Most segments have no mark.
-    if marked.mark.is_none() || marked.segment.media_sequence < number {
+    if marked.mark.is_none() || marked.segment.get().media_sequence() < number {
         return Ok(false);
     }
     if is_put && goes_on(marked, previous) {

@@ -110,7 +110,7 @@ pub fn playlist_after<'a>(
         (λ e. (tolerance : ℕ) (state : LiveState) → Refused base.now tolerance state bytes.now e) }
 {
     let read = read(alloc, bytes, base, source, true)?;
-    utf8_of_uris(read.playlist.segments.as_slice());
+    utf8_of_uris(&read.playlist.segments.as_slice());
     utf8_of_members(read.taken);
     Ok(read)
 }
@@ -127,7 +127,7 @@ pub fn playlist_of<'a>(alloc: Global, bytes: &[u8], base: &Base) -> Result<Read<
 {
     let nothing = None;
     let read = read(alloc, bytes, base, &nothing, false)?.alone();
-    utf8_of_uris(read.playlist.segments.as_slice());
+    utf8_of_uris(&read.playlist.segments.as_slice());
     Ok(read)
 }
 

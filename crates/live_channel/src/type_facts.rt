@@ -8,10 +8,10 @@ ghost use Rattle.owed_is_denoted.specs.Laws.{KeepsRules};
 ghost use Rattle.live_channel.specs.Inner.Typed.{keeps_rules};
 ghost use Rattle.read_is_writable.specs.Read.{key_is_text, init_section_is_text, uris_are_text};
 
-use playlist_model::{InitSection, Keys, Member, Segment, Shared};
+use playlist_model::{InitSection, KeysRef, Member, SegmentRef, SegmentSlice, Shared};
 use pod_store::{Decision, Decisions};
 
-fn know_keys(keys: &Keys)
+fn know_keys(keys: &KeysRef<'_>)
     ensures { list_all key_is_text keys.now ≡ true }
 {
     for key in keys.iter() {
@@ -24,33 +24,35 @@ fn know_init_section(init_section: &Option<Shared<InitSection>>)
 {
     if let Some(init_section) = init_section {
         let _uri = init_section.uri.as_str();
-        know_keys(&init_section.keys);
+        know_keys(&init_section.keys.lent());
     }
 }
 
-fn know_segment(segment: &Segment)
+fn know_segment(segment: &SegmentRef<'_>)
     ensures { uris_are_text segment.now ≡ true }
 {
-    let _uri = segment.uri.as_str();
-    know_keys(&segment.keys);
-    know_init_section(&segment.init_section);
+    let _uri = segment.uri();
+    know_keys(&segment.keys());
+    know_init_section(segment.init_section());
 }
 
 /// Knows that the URIs of `segments`, of their keys and of their initialisation sections are UTF-8.
-pub fn utf8_of_uris(segments: &[Segment])
+pub fn utf8_of_uris(segments: &SegmentSlice<'_>)
     ensures { list_all uris_are_text segments.now ≡ true }
 {
-    for segment in segments {
-        know_segment(segment);
+    let mut rest = segments.again();
+    while let Some((segment, later)) = rest.split_first() {
+        know_segment(&segment);
+        rest = later;
     }
 }
 
 /// The same of the segments of a shared list.
-pub fn utf8_of_members(segments: &[Member<Segment>])
+pub fn utf8_of_members(segments: &[Member])
     ensures { list_all uris_are_text segments.now ≡ true }
 {
     for member in segments {
-        know_segment(member);
+        know_segment(&member.get());
     }
 }
 

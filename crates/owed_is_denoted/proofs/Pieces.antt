@@ -8,7 +8,7 @@ use Rattle.std.proofs.lemmas.Bool.Decides.{nat_tests}
 use Rattle.std.proofs.lemmas.List.Folds.{list_all-append}
 use Rattle.std.proofs.lemmas.Str.{chars-nil, IsUtf8-nil, is_utf8-from_IsUtf8}
 use mathlib.Core.List.{reverse_aux}
-use Rattle.playlist_model.specs.declared.Segment.{Segment}
+use Rattle.playlist_model.specs.Segments.{Segment}
 use Rattle.date_times.specs.Instant.{in_range}
 use Rattle.pod_store.specs.Pods.{PodSegment, Ad, Pod}
 use Rattle.pod_store.specs.Marks.{Mark, Marked}

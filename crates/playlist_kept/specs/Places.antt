@@ -1,6 +1,6 @@
 -- Where segments stand that were taken over.
 use Rattle.std.specs.Prelude.{◌≡◌, ◌≤◌, List, take, drop, length}
-use Rattle.playlist_model.specs.declared.Segment.{Segment}
+use Rattle.playlist_model.specs.Segments.{Segment}
 use Rattle.playlist_kept.specs.declared.read_playlist.Places.{Places}
 
 -- the segments at the places from `start` up to `end` stand in the old list too, from `from` up to `till`

@@ -1,12 +1,13 @@
 //! A playlist that was read. Segments that stand in the last text too needn't be read again, nor copied.
 ghost use Rattle.std.specs.Prelude.{◌≡◌, ◌<◌, ◌≤◌, ◌+◌, ◌^◌, ◌++◌, List, [], length, true, IfOk, OnOk};
-ghost use Rattle.std.specs.Option.{option_copied};
 ghost use Rattle.playlist_kept.specs.Places.{StandInBoth};
 ghost use Rattle.playlist_kept.specs.Kept.{IsTakenFrom, first_of, playlist_in};
-ghost use Rattle.playlist_model.specs.declared.Segment.{Segment as SegmentRead};
+ghost use Rattle.playlist_model.specs.Segments.{Segment as SegmentRead};
 
 use crate::source::KeptLines;
-use playlist_model::{Items, Member, Playlist, Segment, Shared};
+use playlist_model::{
+    GrowingSegments, Member, Playlist, SegmentRef, SegmentSlice, Segments, Shared,
+};
 use std::alloc::{AllocError, Global};
 
 /// A playlist that was read. Some of its segments may be those of the last playlist.
@@ -17,7 +18,7 @@ pub struct Read<'a> {
     /// How many of these come before the segments that were taken over.
     pub front: usize,
     /// The segments that were taken over from the last playlist, one after the other.
-    pub taken: &'a [Member<Segment>],
+    pub taken: &'a [Member],
     /// The place of the first of these in the last playlist, from 0.
     pub from: usize,
     /// The place after the last of these there.
@@ -29,16 +30,16 @@ pub struct Read<'a> {
 impl<'a> Read<'a> {
     #[tactic(auto, using(crate::proofs::Parts::first_before, crate::proofs::Parts::first_taken, crate::proofs::Parts::first_since))]
     /// The first segment of the whole playlist.
-    pub fn first(&self) -> Option<&Segment>
-        ensures { option_copied result ≡ first_of (playlist_in self.now).segments }
+    pub fn first(&self) -> Option<SegmentRef<'_>>
+        ensures { result ≡ first_of (playlist_in self.now).segments }
     {
         let segments = self.playlist.segments.as_slice();
-        let (before, since) = segments.split_at(self.front.min(segments.len()));
+        let (before, since) = segments.split_at(self.front);
         if let Some(first) = before.first() {
             return Some(first);
         }
         match self.taken.first() {
-            Some(first) => Some(first),
+            Some(first) => Some(first.get()),
             None => since.first(),
         }
     }
@@ -106,44 +107,40 @@ impl Places {
     }
 }
 
-// Puts copies of these after a list: each shares all but a short URI.
-fn copy_segments(list: &mut Vec<Segment>, more: &[Segment]) -> Result<(), AllocError>
-    ensures { OnOk result (list.new.items ≡ list.old.items ++ more.now) }
+// Puts copies of these after others.
+fn push_segments(list: &mut GrowingSegments, more: SegmentSlice<'_>) -> Result<(), AllocError>
+    ensures { OnOk result (list.new.segments ≡ list.old.segments ++ more.entry) }
 {
-    list.reserve(more.len())?;
     let mut rest = more;
     while let Some((segment, later)) = rest.split_first() {
-        list.push(segment.clone()?)?;
+        list.push_copy(&segment)?;
         rest = later;
     }
     Ok(())
 }
 
-// The same of segments of a shared list.
-fn copy_members(list: &mut Vec<Segment>, more: &[Member<Segment>]) -> Result<(), AllocError>
-    ensures { OnOk result (list.new.items ≡ list.old.items ++ more.now) }
+// The same of segments of shared lists.
+fn push_members(list: &mut GrowingSegments, more: &[Member]) -> Result<(), AllocError>
+    ensures { OnOk result (list.new.segments ≡ list.old.segments ++ more.now) }
 {
-    list.reserve(more.len())?;
     let mut rest = more;
     while let Some((member, later)) = rest.split_first() {
-        let segment: &Segment = member;
-        list.push(segment.clone()?)?;
+        list.push_copy(&member.get())?;
         rest = later;
     }
     Ok(())
 }
 
 // The segments of the playlist that was read, all of them copies.
-fn copied_segments(alloc: Global, read: &Read<'_>) -> Result<Vec<Segment>, AllocError>
-    ensures { IfOk result (λ all. all.items ≡ (playlist_in read.now).segments) }
+fn copied_segments(alloc: Global, read: &Read<'_>) -> Result<Segments, AllocError>
+    ensures { IfOk result (λ all. all ≡ (playlist_in read.now).segments) }
 {
-    let segments = read.playlist.segments.as_slice();
-    let (front, back) = segments.split_at(read.front.min(segments.len()));
-    let mut all = Vec::new(alloc);
-    copy_segments(&mut all, front)?;
-    copy_members(&mut all, read.taken)?;
-    copy_segments(&mut all, back)?;
-    Ok(all)
+    let (front, back) = read.playlist.segments.as_slice().split_at(read.front);
+    let mut all = GrowingSegments::new(alloc);
+    push_segments(&mut all, front)?;
+    push_members(&mut all, read.taken)?;
+    push_segments(&mut all, back)?;
+    Ok(all.into_segments())
 }
 
 #[tactic(auto, using(crate::proofs::Parts::none_between))]
@@ -157,7 +154,7 @@ pub fn whole_of(alloc: Global, read: Read<'_>) -> Result<Playlist, AllocError>
     }
     let segments = copied_segments(alloc, &read)?;
     Ok(Playlist {
-        segments: Shared::new(alloc, Items::from_vec(segments))?,
+        segments: Shared::new(alloc, segments)?,
         ..read.playlist
     })
 }

@@ -1,6 +1,6 @@
 //! What is kept of a playlist for the reading of the next one.
 use crate::heading::ReadHeading;
-use playlist_model::{DateRange, Items, Member, Segment, Shared, Text};
+use playlist_model::{DateRange, Items, Member, Shared, Text};
 use segment_state::Stop;
 
 /// The lines of a text after its header up to the last one that names a segment, and what stands after them.
@@ -26,7 +26,7 @@ pub struct LastPlaylist {
     /// The lines of its text.
     pub lines: KeptLines,
     /// Its segments.
-    pub segments: Vec<Member<Segment>>,
+    pub segments: Vec<Member>,
     /// Its date ranges.
     pub date_ranges: Items<Shared<DateRange>>,
 }

@@ -4,7 +4,7 @@ ghost use Rattle.playlist_kept.specs.Kept.{IsAfter, kept_segments, with_taken};
 
 use crate::read_playlist::Read;
 use crate::source::{KeptLines, LastPlaylist};
-use playlist_model::{Items, Member, Members, Playlist, Segment, Shared};
+use playlist_model::{Member, Members, Playlist, Segments, Shared};
 use std::alloc::{AllocError, Global};
 
 /// A playlist that was read, without those of its segments that were taken over from the last one.
@@ -23,12 +23,7 @@ pub struct Step {
 }
 
 // The segments of a source from one place up to another; none if there is no source.
-fn stretch_of(
-    alloc: Global,
-    source: Option<LastPlaylist>,
-    from: usize,
-    till: usize,
-) -> Vec<Member<Segment>>
+fn stretch_of(alloc: Global, source: Option<LastPlaylist>, from: usize, till: usize) -> Vec<Member>
     ensures { result.items ≡ drop from (take till (kept_segments source)) }
 {
     let Some(source) = source else {
@@ -43,8 +38,8 @@ fn stretch_of(
 
 // Puts the next `most` members after a list.
 fn push_some(
-    list: &mut Vec<Member<Segment>>,
-    members: &mut Members<'_, Segment>,
+    list: &mut Vec<Member>,
+    members: &mut Members<'_>,
     most: usize,
 ) -> Result<(), AllocError>
     ensures list { OnOk result (list.new.items ≡ list.old.items ++ take most members.old) }
@@ -64,10 +59,10 @@ fn push_some(
 // The members of a list, with others after the first `front` of them.
 fn members_with(
     alloc: Global,
-    list: &Shared<Items<Segment>>,
+    list: &Shared<Segments>,
     front: usize,
-    taken: Vec<Member<Segment>>,
-) -> Result<Vec<Member<Segment>>, AllocError>
+    taken: Vec<Member>,
+) -> Result<Vec<Member>, AllocError>
     ensures { IfOk result (λ all. all.items ≡ with_taken front list.now taken.items) }
 {
     let mut taken = taken;

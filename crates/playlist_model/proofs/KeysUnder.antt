@@ -1,5 +1,5 @@
 -- What stays of a key under the number of a segment.
-use Rattle.std.proofs.Common.{◌≡◌, ℕ, Bool, true, false, List, [], ◌∷◌, refl, ap, Some, None, arith}
+use Rattle.std.proofs.Common.{◌≡◌, ℕ, suc, length, Bool, true, false, List, [], ◌∷◌, refl, ap, Some, None, arith}
 use Rattle.std.specs.Prelude.{Option, ◌&&◌, codes, is_none, bytes_eq, map, if◌then◌else◌}
 use Rattle.playlist_model.specs.declared.Key.{Key}
 use Rattle.playlist_model.specs.EffectiveKeys.{effective_key, key_under}
@@ -59,3 +59,12 @@ under_stays n m (k ∷ keys) = grind (arith, under_stays n m keys)
 pub stated_keys : (keys : List Key) → keys ≡ map (key_under None) keys
 stated_keys [] = refl
 stated_keys (k ∷ keys) = ap (λ later. k ∷ later) (stated_keys keys)
+
+pub long_keys : (n : Option ℕ) (keys : List Key) → length keys ≡ length (map (key_under n) keys)
+long_keys n [] = refl
+long_keys n (k ∷ keys) = ap suc (long_keys n keys)
+
+-- keys under a number of their own stay as they are under any other
+pub stated_under : (n : Option ℕ) (m : ℕ) (keys : List Key) → map (key_under (Some m)) keys ≡ map (key_under n) (map (effective_key m) keys)
+stated_under None m keys = stated_keys (map (effective_key m) keys)
+stated_under (Some n) m keys = under_stays n m keys

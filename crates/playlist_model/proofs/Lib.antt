@@ -10,3 +10,4 @@ pub mod SameParts
 pub mod SameSegments
 pub mod MemberLists
 pub mod KeysUnder
+pub mod Rows

@@ -25,3 +25,7 @@ value_before_rest xs ys place within e =
     let left = first_left ys place within in
     let here = value_found (slice_get ys place) (has_value ys place within) left.0 left.1 in
     ap (drop place) (sym e) ∙ left.2 ∙ ap (λ x. x ∷ drop (place + 1) ys) (sym here) ∙ ap (λ l. value_at ys place within ∷ drop (place + 1) l) e
+
+-- the value that is got at a place is the one there
+pub value_got : {X : Type 0} (xs : List X) (place : ℕ) (within : place < length xs) (x : X) → slice_get xs place ≡ Some x → x ≡ value_at xs place within
+value_got xs place within x e = sym (value_found (slice_get xs place) (has_value xs place within) x e)

@@ -7,7 +7,7 @@ use Rattle.std.proofs.lemmas.Slice.Eq.{bytes_eq-Decides}
 use Rattle.playlist_model.specs.declared.Key.{Key}
 use Rattle.playlist_model.specs.declared.ByteRange.{ByteRange}
 use Rattle.playlist_model.specs.declared.InitSection.{InitSection}
-use Rattle.playlist_model.specs.declared.Segment.{Segment}
+use Rattle.playlist_model.specs.Segments.{Segment}
 use Rattle.playlist_model.specs.Same.{same_key, same_option, same_byte_range, same_init_section, same_numbers, same_media, same_segment, kept_parts}
 use Rattle.playlist_model.proofs.SameParts.{keys_are, keys_same, byte_range_is, init_section_is}
 

@@ -1,6 +1,6 @@
 -- The instants at which segments begin (RFC 8216, 4.3.2.6 and 6.2.1).
 use Rattle.std.specs.Prelude.{ℕ, List, [], ◌∷◌, ℤ, pos, ◌+ℤ◌, ◌-ℤ◌, Option, Some, None, option_map}
-use Rattle.playlist_model.specs.declared.Segment.{Segment}
+use Rattle.playlist_model.specs.Segments.{Segment}
 use Rattle.date_times.specs.Instant.{if_in_range}
 use Rattle.playlist_model.specs.LookBack.{or_earlier}
 

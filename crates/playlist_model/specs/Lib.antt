@@ -14,4 +14,6 @@ pub mod Same
 pub mod Numbering
 pub mod ShortTexts
 pub mod Members
+pub mod Segments
+pub mod Rows
 pub mod Inner

@@ -1,6 +1,6 @@
 -- The numbers of a segment, and how they go on in a list (RFC 8216, sections 4.3.3.2 and 4.3.3.3).
 use Rattle.std.specs.Prelude.{ℕ, ◌+◌, Bool, true, false, ◌&&◌, ◌==◌, nat_le, List, [], ◌∷◌}
-use Rattle.playlist_model.specs.declared.Segment.{Segment}
+use Rattle.playlist_model.specs.Segments.{Segment}
 
 -- a Media Sequence Number, a Discontinuity Sequence Number, and the discontinuities since the item before
 pub record Numbers : Type 0 where

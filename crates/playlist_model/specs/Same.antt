@@ -4,7 +4,7 @@ use Rattle.std.specs.Cmp.Lexicographic.{pointwise}
 use Rattle.playlist_model.specs.declared.Key.{Key}
 use Rattle.playlist_model.specs.declared.ByteRange.{ByteRange}
 use Rattle.playlist_model.specs.declared.InitSection.{InitSection}
-use Rattle.playlist_model.specs.declared.Segment.{Segment}
+use Rattle.playlist_model.specs.Segments.{Segment}
 use Rattle.playlist_model.specs.declared.PlaylistKind.{PlaylistKind}
 use Rattle.playlist_model.specs.declared.PlaylistKind.TheVariants.{Event, Vod}
 

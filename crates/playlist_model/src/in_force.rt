@@ -2,7 +2,8 @@
 ghost use Rattle.std.specs.Prelude.{◌≡◌, ◌==◌, ◌∷◌, [], false, IfOk, MatchOption, map, length, IsTrue};
 ghost use Rattle.std.specs.Str.{is_utf8};
 ghost use Rattle.std.specs.List.{list_any};
-ghost use Rattle.playlist_model.specs.EffectiveKeys.{effective_key};
+ghost use Rattle.playlist_model.specs.EffectiveKeys.{effective_key, key_under};
+ghost use Rattle.playlist_model.specs.KeysHeld.{keys_held};
 ghost use Rattle.playlist_model.specs.LookBack.{is_before};
 ghost use Rattle.playlist_model.specs.Reading.{needs_iv};
 
@@ -125,6 +126,17 @@ enum Held {
     Under(Shared<Items<Key>>, u64),
 }
 
+#[tactic(auto, using(crate::proofs::KeysUnder::stated_keys))]
+// Keys as their tags state them, or under a number if there is one.
+fn held_under(keys: Shared<Items<Key>>, media_sequence: Option<u64>) -> Held
+    ensures { keys_held result ≡ map (key_under media_sequence) keys }
+{
+    match media_sequence {
+        Some(number) => Held::Under(keys, number),
+        None => Held::Stated(keys),
+    }
+}
+
 /// The keys in force, one for each format, sorted by format. The keys of all segments under the same tags are one list with
 /// several owners: an IV that no tag states is told when it is asked for (section 5.2).
 #[derive(Drop)]
@@ -161,23 +173,32 @@ impl Keys {
         Ok(Keys { held })
     }
 
-    #[tactic(auto, using(crate::proofs::KeysUnder::under_stays))]
-    /// The keys as they decrypt the segment whose Media Sequence Number is `media_sequence`: a key of the format
-    /// identity that states no IV has that number as its IV (RFC 8216, section 5.2). Takes no memory, and fails only
-    /// if the keys have too many owners.
+    #[tactic(auto, using(crate::proofs::KeysUnder::stated_keys))]
+    /// The keys, lent.
     #[inline(always)]
-    pub fn under(&self, media_sequence: u64) -> Result<Keys, AllocError>
-        ensures { IfOk result (λ k. k ≡ map (effective_key media_sequence) self.now) }
+    pub fn lent(&self) -> KeysRef<'_>
+        ensures { result ≡ self.now }
     {
-        let held = match &self.held {
-            Held::Clear => Held::Clear,
-            Held::Stated(keys) => Held::Under(keys.clone()?, media_sequence),
-            Held::Under(keys, own) => Held::Under(keys.clone()?, *own),
-        };
-        Ok(Keys { held })
+        KeysRef {
+            keys: self,
+            media_sequence: None,
+        }
+    }
+
+    /// The keys, lent as they decrypt the segment whose Media Sequence Number is `media_sequence`: a key of the format
+    /// identity that states no IV has that number as its IV (RFC 8216, section 5.2).
+    #[inline(always)]
+    pub fn lent_under(&self, media_sequence: u64) -> KeysRef<'_>
+        ensures { result ≡ map (effective_key media_sequence) self.now }
+    {
+        KeysRef {
+            keys: self,
+            media_sequence: Some(media_sequence),
+        }
     }
 
     /// How many keys there are.
+    #[inline(always)]
     pub fn len(&self) -> usize
         ensures { result ≡ length self.now }
     {
@@ -188,37 +209,89 @@ impl Keys {
         }
     }
 
+    /// A vector of copies, which share their texts. Fails only if an allocation fails.
+    pub fn to_vec(&self, alloc: Global) -> Result<Vec<Key>, AllocError>
+        ensures { IfOk result (λ v. v.items ≡ self.now) }
+    {
+        let mut copies = Vec::new(alloc);
+        for key in self.lent().iter() {
+            copies.push(key.to_key()?)?;
+        }
+        Ok(copies)
+    }
+}
+
+/// Keys in force, lent: as their tags state them, or as they decrypt one segment.
+#[derive(Drop)]
+pub struct KeysRef<'a> {
+    keys: &'a Keys,
+    media_sequence: Option<u64>,
+}
+
+impl<'a> Model for KeysRef<'a> {
+    ghost use Rattle.std.specs.Prelude.{List, map};
+    ghost use Rattle.playlist_model.specs.declared.Key.{Key};
+    ghost use Rattle.playlist_model.specs.EffectiveKeys.{key_under};
+
+    ghost Value = { List Key };
+
+    ghost view = { λ a. map (key_under a.media_sequence) a.keys.now };
+}
+
+impl<'a> KeysRef<'a> {
+    /// The same keys, lent once more.
+    #[inline(always)]
+    pub fn again(&self) -> KeysRef<'a>
+        ensures { result ≡ self.now }
+    {
+        KeysRef {
+            keys: self.keys,
+            media_sequence: self.media_sequence,
+        }
+    }
+
+    #[tactic(auto, using(crate::proofs::KeysUnder::long_keys))]
+    /// How many keys there are.
+    #[inline(always)]
+    pub fn len(&self) -> usize
+        ensures { result ≡ length self.now }
+    {
+        self.keys.len()
+    }
+
     /// Whether there is no key.
+    #[inline(always)]
     pub fn is_empty(&self) -> bool
         ensures { result ≡ (length self.now == 0) }
     {
         self.len() == 0
     }
 
-    #[tactic(auto, using(crate::proofs::KeysUnder::stated_keys))]
+    #[tactic(auto, using(crate::proofs::KeysUnder::under_stays, crate::proofs::KeysUnder::stated_under))]
     /// The keys, one after the other.
     #[inline(always)]
-    pub fn iter(&self) -> KeysIter<'_>
+    pub fn iter(&self) -> KeysIter<'a>
         ensures { result ≡ self.now }
     {
-        match &self.held {
+        let (keys, media_sequence) = (self.keys, self.media_sequence);
+        match &keys.held {
             Held::Clear => KeysIter {
                 stated: &[],
-                media_sequence: None,
+                media_sequence,
             },
             Held::Stated(keys) => KeysIter {
                 stated: keys.as_slice(),
-                media_sequence: None,
+                media_sequence,
             },
-            Held::Under(keys, number) => KeysIter {
+            Held::Under(keys, own) => KeysIter {
                 stated: keys.as_slice(),
-                media_sequence: Some(*number),
+                media_sequence: Some(*own),
             },
         }
     }
 
     /// The key, if there is one alone.
-    pub fn only(&self) -> Option<KeyRef<'_>>
+    pub fn only(&self) -> Option<KeyRef<'a>>
         ensures { MatchOption result ((length self.now == 1) ≡ false) (λ key. self.now ≡ key ∷ []) }
     {
         let mut keys = self.iter();
@@ -229,15 +302,18 @@ impl Keys {
         }
     }
 
-    /// A vector of copies, which share their texts. Fails only if an allocation fails.
-    pub fn to_vec(&self, alloc: Global) -> Result<Vec<Key>, AllocError>
-        ensures { IfOk result (λ v. v.items ≡ self.now) }
+    #[tactic(auto, using(crate::proofs::KeysUnder::under_stays, crate::proofs::KeysUnder::stated_under))]
+    /// The keys, which then have an owner more. Takes no memory, and fails only if they have too many owners.
+    pub fn to_keys(&self) -> Result<Keys, AllocError>
+        ensures { IfOk result (λ keys. keys ≡ self.now) }
     {
-        let mut copies = Vec::new(alloc);
-        for key in self.iter() {
-            copies.push(key.to_key()?)?;
-        }
-        Ok(copies)
+        let (keys, media_sequence) = (self.keys, self.media_sequence);
+        let held = match &keys.held {
+            Held::Clear => Held::Clear,
+            Held::Stated(keys) => held_under(keys.clone()?, media_sequence),
+            Held::Under(keys, own) => Held::Under(keys.clone()?, *own),
+        };
+        Ok(Keys { held })
     }
 }
 
@@ -314,7 +390,7 @@ fn needs_iv(key: &KeyRef<'_>) -> bool
 /// Whether one of `keys` can't decrypt an initialisation section: its method is AES-128 and it states no IV. A
 /// segment's Media Sequence Number stands in for a missing IV, and an initialisation section has none (RFC 8216,
 /// section 4.3.2.5).
-pub fn is_iv_needed(keys: &Keys) -> bool
+pub fn is_iv_needed(keys: &KeysRef<'_>) -> bool
     ensures { result ≡ list_any needs_iv keys.now }
 {
     for key in keys.iter() {

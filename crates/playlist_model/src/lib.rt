@@ -20,17 +20,19 @@ mod limits;
 mod member;
 mod other_attributes;
 mod same;
+mod segments;
 mod short_text;
 mod uri;
 
 pub use date_times::{Instant, TimeFault, read_instant, write_instant};
 pub use fault::FaultText;
-pub use in_force::{KeyRef, Keys, KeysIter, is_iv_needed};
+pub use in_force::{KeyRef, Keys, KeysIter, KeysRef, is_iv_needed};
 pub use items::{Items, Shared, Text};
 pub use limits::{MAX_BYTES, MAX_FORMATS, MAX_SEGMENTS};
 pub use member::{Member, Members};
 pub use other_attributes::OtherAttributes;
 pub use same::{are_same_keys, is_same_init_section, is_same_key, same_segment};
+pub use segments::{GrowingSegments, SegmentParts, SegmentRef, SegmentSlice, Segments};
 pub use short_text::ShortText;
 pub use uri::{has_quote, has_scheme, same_resource};
 
@@ -174,53 +176,6 @@ pub struct InitSection {
     pub keys: Keys,
 }
 
-/// A media segment (RFC 8216, sections 3 and 4.3.2).
-#[derive(Drop)]
-pub struct Segment {
-    /// Its Media Sequence Number (section 4.3.3.2).
-    pub media_sequence: u64,
-    /// Its Discontinuity Sequence Number (section 4.3.3.3).
-    pub discontinuity_sequence: u64,
-    /// How many EXT-X-DISCONTINUITY stand between it and the segment before.
-    pub discontinuities: u64,
-    /// Its resource: an absolute URI.
-    pub uri: ShortText,
-    /// The part of the resource, if it isn't the whole.
-    pub byte_range: Option<ByteRange>,
-    /// The keys that it is encrypted under, sorted by format; none if it is clear.
-    pub keys: Keys,
-    /// What its parser is initialised with, if it needs that.
-    pub init_section: Option<Shared<InitSection>>,
-    /// How long it lasts (EXTINF).
-    pub duration: Nanos,
-    /// What stands after the duration and a comma.
-    pub title: Shared<ShortText>,
-    /// When its first sample is, if EXT-X-PROGRAM-DATE-TIME states that.
-    pub program_date_time: Option<Instant>,
-}
-
-impl Clone for Segment {
-    ghost is_clone = { λ a b. b ≡ a };
-
-    // A copy, which shares all but a short URI. Its parts are copied one by one, so that each is written once.
-    fn clone(&self) -> Result<Segment, AllocError>
-        ensures { IfOk result (λ segment. segment ≡ self.now) }
-    {
-        Ok(Segment {
-            media_sequence: self.media_sequence,
-            discontinuity_sequence: self.discontinuity_sequence,
-            discontinuities: self.discontinuities,
-            uri: self.uri.clone()?,
-            byte_range: self.byte_range,
-            keys: self.keys.clone()?,
-            init_section: self.init_section.clone()?,
-            duration: self.duration,
-            title: self.title.clone()?,
-            program_date_time: self.program_date_time,
-        })
-    }
-}
-
 /// A date range (EXT-X-DATERANGE; RFC 8216, section 4.3.2.7).
 #[derive(PartialEq, Drop)]
 pub struct DateRange {
@@ -259,7 +214,7 @@ pub struct Playlist {
     pub date_ranges: Items<Shared<DateRange>>,
     /// The segments, in their order. The list has several owners: the playlist in which it was read, and each of its segments
     /// that is shown.
-    pub segments: Shared<Items<Segment>>,
+    pub segments: Shared<Segments>,
 }
 
 // Whether a byte is an ASCII character that is no control character.

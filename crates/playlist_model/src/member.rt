@@ -1,43 +1,42 @@
-//! Owners of a shared list, each of which stands for one of its values.
+//! Owners of a shared list of segments, each of which stands for one of them.
 ghost use Rattle.std.specs.Prelude.{◌≡◌, ◌<◌, [], ◌∷◌, IfOk, IfErr, MatchOption, length, drop};
 
-use crate::{Items, Shared};
+use crate::{SegmentRef, Segments, Shared};
 use std::alloc::AllocError;
 use std::marker::Model;
-use std::ops::Deref;
 
-/// A value of a shared list, of which it is an owner: a copy of it takes no memory. To a contract it is that value.
+/// A segment of a shared list, of which it is an owner: a copy of it takes no memory. To a contract it is that segment.
 #[derive(Drop)]
-pub struct Member<T> {
-    list: Shared<Items<T>>,
+pub struct Member {
+    list: Shared<Segments>,
     place: usize,
     ghost within: { place < length list },
 }
 
-impl<T> Model for Member<T> {
+impl Model for Member {
+    ghost use Rattle.playlist_model.specs.Segments.{Segment};
     ghost use Rattle.playlist_model.specs.Members.{value_at};
 
-    ghost Value = { T };
+    ghost Value = { Segment };
 
     ghost view = { λ a. value_at a.list a.place a.within };
 }
 
-impl<T> Deref for Member<T> {
-    type Target = T;
-
-    ghost deref_gives = { λ member value. value ≡ member };
-
-    fn deref(&self) -> &T
-        ensures { result.now ≡ self.now }
+impl Member {
+    #[tactic(auto, using(crate::proofs::MemberLists::value_got))]
+    /// The segment, lent.
+    #[inline(always)]
+    pub fn get(&self) -> SegmentRef<'_>
+        ensures { result ≡ self.now }
     {
-        &self.list.as_slice()[self.place]
+        self.list.get(self.place)
     }
 }
 
-impl<T: Drop> Clone for Member<T> {
+impl Clone for Member {
     ghost is_clone = { λ a b. b ≡ a };
 
-    fn clone(&self) -> Result<Member<T>, AllocError>
+    fn clone(&self) -> Result<Member, AllocError>
         ensures { IfOk result (λ member. member ≡ self.now) }
     {
         let list = self.list.clone()?;
@@ -48,39 +47,40 @@ impl<T: Drop> Clone for Member<T> {
     }
 }
 
-/// The values of a shared list from a place on, one after the other.
+/// The segments of a shared list from a place on, one after the other.
 #[derive(Drop)]
-pub struct Members<'a, T> {
-    list: &'a Shared<Items<T>>,
+pub struct Members<'a> {
+    list: &'a Shared<Segments>,
     place: usize,
 }
 
-impl<'a, T> Model for Members<'a, T> {
+impl<'a> Model for Members<'a> {
     ghost use Rattle.std.specs.Prelude.{List, drop};
+    ghost use Rattle.playlist_model.specs.Segments.{Segment};
 
-    ghost Value = { List T };
+    ghost Value = { List Segment };
 
     ghost view = { λ a. drop a.place a.list.now };
 }
 
-impl<'a, T: Drop> Members<'a, T> {
-    /// The values of `list` from `place` on, from 0; none past the end.
-    pub fn from_place(list: &'a Shared<Items<T>>, place: usize) -> Members<'a, T>
+impl<'a> Members<'a> {
+    /// The segments of `list` from `place` on, from 0; none past the end.
+    pub fn from_place(list: &'a Shared<Segments>, place: usize) -> Members<'a>
         ensures { result ≡ drop place list.now }
     {
         Members { list, place }
     }
 
-    /// How many values are left.
+    /// How many segments are left.
     pub fn len(&self) -> usize
         ensures { result ≡ length self.now }
     {
         self.list.len().saturating_sub(self.place)
     }
 
-    /// The next value, if there is one. Takes no memory, and fails only if a list would have more than 2^64 - 1 owners;
+    /// The next segment, if there is one. Takes no memory, and fails only if a list would have more than 2^64 - 1 owners;
     /// then all are still to come.
-    pub fn next(&mut self) -> Result<Option<Member<T>>, AllocError>
+    pub fn next(&mut self) -> Result<Option<Member>, AllocError>
         ensures next { IfOk result
             (λ next. MatchOption next ((self.old ≡ []) × (self.new ≡ []))
             (λ member. self.old ≡ member ∷ self.new)) }

@@ -3,7 +3,7 @@ ghost use Rattle.std.specs.Prelude.{◌≡◌, true, ◌↔◌};
 ghost use Rattle.std.specs.Cmp.Lexicographic.{pointwise};
 ghost use Rattle.playlist_model.specs.Same.{kept_parts, same_key, same_media, same_number, same_numbers, same_option, same_protection, same_init_section, same_segment};
 
-use crate::{InitSection, KeyRef, Keys, Segment, Shared};
+use crate::{InitSection, KeyRef, KeysRef, SegmentRef, Shared};
 
 fn is_same_iv(iv: Option<u128>, other: Option<u128>) -> bool
     ensures { result ≡ same_option same_number iv other }
@@ -27,7 +27,7 @@ pub fn is_same_key(a: &KeyRef<'_>, b: &KeyRef<'_>) -> bool
 }
 
 /// Whether the keys `one` and the keys `other` are the same in all their parts, in their order. Takes no memory.
-pub fn are_same_keys(one: &Keys, other: &Keys) -> bool
+pub fn are_same_keys(one: &KeysRef<'_>, other: &KeysRef<'_>) -> bool
     ensures { result ≡ pointwise same_key one.now other.now }
 {
     let mut others = other.iter();
@@ -46,7 +46,7 @@ pub fn are_same_keys(one: &Keys, other: &Keys) -> bool
 pub fn is_same_init_section(a: &InitSection, b: &InitSection) -> bool
     ensures { result ≡ same_init_section a.now b.now }
 {
-    a.uri == b.uri && a.byte_range == b.byte_range && are_same_keys(&a.keys, &b.keys)
+    a.uri == b.uri && a.byte_range == b.byte_range && are_same_keys(&a.keys.lent(), &b.keys.lent())
 }
 
 fn are_same_init_sections(
@@ -62,25 +62,27 @@ fn are_same_init_sections(
     }
 }
 
-fn same_numbers(a: &Segment, b: &Segment) -> bool
+fn same_numbers(a: &SegmentRef<'_>, b: &SegmentRef<'_>) -> bool
     ensures { result ≡ same_numbers a.now b.now }
 {
-    a.media_sequence == b.media_sequence && a.discontinuity_sequence == b.discontinuity_sequence
+    a.media_sequence() == b.media_sequence()
+        && a.discontinuity_sequence() == b.discontinuity_sequence()
 }
 
-fn same_media(a: &Segment, b: &Segment) -> bool
+fn same_media(a: &SegmentRef<'_>, b: &SegmentRef<'_>) -> bool
     ensures { result ≡ same_media a.now b.now }
 {
-    a.uri == b.uri && a.byte_range == b.byte_range && a.duration == b.duration
+    a.uri() == b.uri() && a.byte_range() == b.byte_range() && a.duration() == b.duration()
 }
 
-fn same_protection(a: &Segment, b: &Segment) -> bool
+fn same_protection(a: &SegmentRef<'_>, b: &SegmentRef<'_>) -> bool
     ensures { result ≡ same_protection a.now b.now }
 {
-    are_same_keys(&a.keys, &b.keys) && are_same_init_sections(&a.init_section, &b.init_section)
+    are_same_keys(&a.keys(), &b.keys())
+        && are_same_init_sections(a.init_section(), b.init_section())
 }
 
-fn are_same_segments(a: &Segment, b: &Segment) -> bool
+fn are_same_segments(a: &SegmentRef<'_>, b: &SegmentRef<'_>) -> bool
     ensures { result ≡ same_segment a.now b.now }
 {
     same_numbers(a, b) && same_media(a, b) && same_protection(a, b)
@@ -95,7 +97,7 @@ fn are_same_segments(a: &Segment, b: &Segment) -> bool
 /// same_segment(&a, &b)    true, if `b` is `a` with another title
 /// same_segment(&a, &b)    false, if `b` is `a` with another URI
 /// ```
-pub fn same_segment(a: &Segment, b: &Segment) -> bool
+pub fn same_segment(a: &SegmentRef<'_>, b: &SegmentRef<'_>) -> bool
     ensures value { result ≡ same_segment a.now b.now }
 
     // It is equality of all else.

@@ -81,14 +81,6 @@ impl ShortText {
         ShortText::heap_text(alloc, front, back)
     }
 
-    /// A copy of `text`. Fails only if an allocation fails, and never if `text` has at most 48 bytes.
-    pub fn copy_of(alloc: Global, text: &str) -> Result<ShortText, AllocError>
-        ensures text { IfOk result (λ t. t ≡ text.now) }
-        ensures memory { IsErr result → most_inline < length text.now }
-    {
-        ShortText::join(alloc, text, "")
-    }
-
     /// Its characters; a contract sees their bytes in UTF-8.
     pub fn as_str(&self) -> &str
         ensures text { result.now ≡ self.now }

@@ -7,6 +7,7 @@ use Rattle.playlist_model.specs.declared.FaultKind.{FaultKind}
 use Rattle.playlist_model.specs.Lines.{has_control}
 use Rattle.playlist_model.specs.Said.{duration_tag}
 use Rattle.playlist_model.specs.Reading.{said_by, said_by_tag, limited}
+use Rattle.playlist_model.specs.Segments.{Segment}
 use Rattle.segment_state.specs.Running.{Running}
 use Rattle.segment_state.specs.Repeated.{IsLineOf, IsRepeated}
 use Rattle.playlist_parse.specs.LineViews.{lines_from}
@@ -46,17 +47,17 @@ says_line old new line stated is free takes = λ before e.
     subst (λ o. IsOk o × (new ≡ progress_at old.base (with_said before o))) (sym (duration_line old.base before line stated is free)) (takes before e)
 
 -- the line that is passed, with what it says
-pub line_again : (p q : Progress) (new : Running) (start more : ℕ) (left later : List ℕ) (ls later_lines : List ((ℕ × ℕ) × List ℕ))
-    → ls ≡ lines_from start left → later_lines ≡ lines_from more later → p ≡ q → IsRepeated left later (running_of p) new
-    → IsLineAgain ls later_lines q (with_running p new)
-line_again p q new start more left later ls later_lines lines_are later_are is r = record {
+pub line_again : (p q : Progress) (rows segments : List Segment) (new : Running) (start more : ℕ) (left later : List ℕ) (ls later_lines : List ((ℕ × ℕ) × List ℕ))
+    → ls ≡ lines_from start left → later_lines ≡ lines_from more later → p ≡ q → segments ≡ p.segments → IsRepeated left later (running_of p rows) new
+    → IsLineAgain ls later_lines q (with_running p new segments)
+line_again p q rows segments new start more left later ls later_lines lines_are later_are is same r = record {
   line = codes "#EXTINF:" ++ r.stated;
   cut = one_less r.line _ _ _
       (ap (map line_text) lines_are ∙ after_front start more left r.line later r.is (record { front = r.is_line.front; is = r.is_line.ends }) ∙ ap (λ xs. lines r.line ++ map line_text xs) (sym later_are))
       r.is_line.is;
   heavy = heavy (codes "#EXTINF:" ++ r.stated) r.stated refl;
-  takes = λ free. says_line q (with_running p new) (codes "#EXTINF:" ++ r.stated) r.stated refl free
-      (takes_tag (λ base before. said_by_tag limited base before duration_tag r.stated) p q new (Ok (record {})) is (λ base before. duration_tag_says limited base before r.stated) r.takes);
+  takes = λ free. says_line q (with_running p new segments) (codes "#EXTINF:" ++ r.stated) r.stated refl free
+      (takes_tag (λ base before. said_by_tag limited base before duration_tag r.stated) p q rows segments new (Ok (record {})) is same (λ base before. duration_tag_says limited base before r.stated) r.takes);
 }
 
 pub shorter : (left line later : List ℕ) → left ≡ line ++ later → length later ≤ length left

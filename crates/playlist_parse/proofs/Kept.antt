@@ -8,7 +8,8 @@ use Rattle.playlist_model.specs.Said.{Reader, key_tag, init_section_tag, time_ta
 use Rattle.playlist_model.specs.declared.FaultKind.TheVariants as fault
 use Rattle.playlist_model.specs.LookBack.{Standing, standing_at, with_said}
 use Rattle.playlist_model.specs.Reading.{said_by_tag}
-use Rattle.segment_state.specs.Running.{Running, running_at, Takes as StateTakes, TakesExactly}
+use Rattle.playlist_model.specs.Segments.{Segment}
+use Rattle.segment_state.specs.Running.{Running, after_lines, Takes as StateTakes, TakesExactly}
 use Rattle.playlist_parse.specs.Inner.Progress.{Progress, progress_at, TakesLine}
 
 abbrev with_standing : Progress → Standing → Progress
@@ -53,35 +54,36 @@ goes : (base : Parts) (before : List Said) (o : Outcome Said) → Says o → pro
 goes base before (Ok said) h = h base before
 goes base before (Err e) h = refl
 
-abbrev pub running_of : Progress → Running
-running_of p = record { base = p.base; standing = p.standing }
+abbrev pub running_of : Progress → List Segment → Running
+running_of p rows = record { base = p.base; standing = p.standing; segments = rows }
 
-abbrev pub with_running : Progress → Running → Progress
-with_running p r = record p { base = r.base; standing = r.standing }
+-- the reading in which this stands, and these are the segments
+abbrev pub with_running : Progress → Running → List Segment → Progress
+with_running p r segments = record p { base = r.base; standing = r.standing; segments = segments }
 
-finish : (p : Progress) (new : Running) (before : List Said) (o : Outcome Said) → p ≡ progress_at p.base before → Says o → new ≡ running_at p.base (with_said before o)
-    → with_running p new ≡ progress_at p.base (with_said before o)
-finish p new before o e says is =
-    ap (with_running p) is ∙ ap (λ q. with_standing q (standing_at (with_said before o))) e ∙ sym (goes p.base before o says)
+finish : (p : Progress) (rows segments : List Segment) (new : Running) (before : List Said) (o : Outcome Said) → p ≡ progress_at p.base before → segments ≡ p.segments → Says o → new ≡ after_lines (running_of p rows) (with_said before o)
+    → with_running p new segments ≡ progress_at p.base (with_said before o)
+finish p rows segments new before o e same says is =
+    ap (with_running p new) same ∙ ap (λ r. with_running p r p.segments) is ∙ ap (λ q. with_standing q (standing_at (with_said before o))) e ∙ sym (goes p.base before o says)
 
-takes_of : (p : Progress) (new : Running) (result : Result (Unit {0}) FaultKind) (before : List Said) (o : Outcome Said) (refuses : FaultKind → Type 0) (kept : FaultKind → Type 0) → p ≡ progress_at p.base before → Says o
-    → MatchResult result (λ _. IsOk o × (new ≡ running_at p.base (with_said before o))) (λ e. refuses e × kept e)
-    → MatchResult result (λ _. IsOk o × (with_running p new ≡ progress_at p.base (with_said before o))) refuses
-takes_of p new (Ok x) before o refuses kept e says h = (h.0, finish p new before o e says h.1)
-takes_of p new (Err fault) before o refuses kept e says h = h.0
+takes_of : (p : Progress) (rows segments : List Segment) (new : Running) (result : Result (Unit {0}) FaultKind) (before : List Said) (o : Outcome Said) (refuses : FaultKind → Type 0) (kept : FaultKind → Type 0) → p ≡ progress_at p.base before → segments ≡ p.segments → Says o
+    → MatchResult result (λ _. IsOk o × (new ≡ after_lines (running_of p rows) (with_said before o))) (λ e. refuses e × kept e)
+    → MatchResult result (λ _. IsOk o × (with_running p new segments ≡ progress_at p.base (with_said before o))) refuses
+takes_of p rows segments new (Ok x) before o refuses kept e same says h = (h.0, finish p rows segments new before o e same says h.1)
+takes_of p rows segments new (Err fault) before o refuses kept e same says h = h.0
 
 -- what the state takes, the reading takes
-pub takes_tag : (outcome : Parts → List Said → Outcome Said) (p q : Progress) (new : Running) (result : Result (Unit {0}) FaultKind) → p ≡ q
-    → ((base : Parts) (before : List Said) → Says (outcome base before)) → StateTakes outcome (running_of p) new result → TakesLine outcome q (with_running p new) result
-takes_tag outcome p q new result is says takes =
-    subst (λ (x : Progress). TakesLine outcome x (with_running p new) result) is
-    (λ before e. takes_of p new result before (outcome p.base before) _ _ e (says p.base before) (takes before (ap (λ (x : Progress). x.standing) e)))
+pub takes_tag : (outcome : Parts → List Said → Outcome Said) (p q : Progress) (rows segments : List Segment) (new : Running) (result : Result (Unit {0}) FaultKind) → p ≡ q → segments ≡ p.segments
+    → ((base : Parts) (before : List Said) → Says (outcome base before)) → StateTakes outcome (running_of p rows) new result → TakesLine outcome q (with_running p new segments) result
+takes_tag outcome p q rows segments new result is same says takes =
+    subst (λ (x : Progress). TakesLine outcome x (with_running p new segments) result) is
+    (λ before e. takes_of p rows segments new result before (outcome p.base before) _ _ e same (says p.base before) (takes before (ap (λ (x : Progress). x.standing) e)))
 
 refused_so : (result : Result (Unit {0}) FaultKind) (P : Type 0) (o : Outcome Said) (kept : Type 0) → MatchResult result (λ _. P) (λ e. (o ≡ Err e) × kept) → MatchResult result (λ _. P) (λ e. (e ≢ fault.OutOfMemory → o ≡ Err e) × kept)
 refused_so (Ok x) P o kept h = h
 refused_so (Err e) P o kept h = (λ _. h.0, h.1)
 
 -- what the state takes with no memory, the reading takes
-pub takes_tag_exactly : (outcome : Parts → List Said → Outcome Said) (p q : Progress) (new : Running) (result : Result (Unit {0}) FaultKind) → p ≡ q
-    → ((base : Parts) (before : List Said) → Says (outcome base before)) → TakesExactly outcome (running_of p) new result → TakesLine outcome q (with_running p new) result
-takes_tag_exactly outcome p q new result is says takes = grind (arith, takes_tag, refused_so)
+pub takes_tag_exactly : (outcome : Parts → List Said → Outcome Said) (p q : Progress) (rows segments : List Segment) (new : Running) (result : Result (Unit {0}) FaultKind) → p ≡ q → segments ≡ p.segments
+    → ((base : Parts) (before : List Said) → Says (outcome base before)) → TakesExactly outcome (running_of p rows) new result → TakesLine outcome q (with_running p new segments) result
+takes_tag_exactly outcome p q rows segments new result is same says takes = takes_tag outcome p q rows segments new result is same says (λ before e. refused_so result _ (outcome p.base before) _ (takes before e))

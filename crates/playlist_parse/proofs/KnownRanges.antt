@@ -3,7 +3,7 @@ use Rattle.std.proofs.Common.{List, [], ◌∷◌, take, subst}
 use Rattle.std.specs.Str.Lines.{lines}
 use Rattle.url.specs.Parts.{Parts}
 use Rattle.playlist_model.specs.declared.DateRange.{DateRange}
-use Rattle.playlist_model.specs.declared.Segment.{Segment}
+use Rattle.playlist_model.specs.Segments.{Segment}
 use Rattle.playlist_model.specs.Said.{nothing}
 use Rattle.playlist_kept.specs.KeptLines.{LinesWereRead}
 use Rattle.playlist_kept.specs.declared.source.KeptLines.{KeptLines}

@@ -20,3 +20,4 @@ pub mod DateRanges
 pub mod SaidAgain
 pub mod KnownRanges
 pub mod Mixed
+pub mod Rows

@@ -12,7 +12,7 @@ ghost use Rattle.playlist_parse.specs.Light.{IsOfWhole, IsLight};
 ghost use Rattle.playlist_parse.specs.Inner.Progress.{progress_at, playlist_from, target_owed, IsLineAgain, TakesLine, TakesLineExactly, TakesTag, TakesTagExactly, EndsIn};
 ghost use Rattle.playlist_parse.specs.Inner.HeadingView.{heading_view};
 ghost use Rattle.playlist_parse.specs.Inner.Source.{gone_to};
-ghost use Rattle.playlist_kept.specs.Kept.{playlist_in};
+ghost use Rattle.playlist_kept.specs.Kept.{playlist_in, with_taken};
 
 use crate::date_ranges::{DateRanges, Known};
 use crate::line::{LineKind, Lines, is_blank, kind_of, stated_in, whole_line};
@@ -20,12 +20,11 @@ use crate::tag::{Tag, tag_of};
 use attr_list::read_decimal;
 use playlist_kept::{Read, ReadHeading};
 use playlist_model::{
-    DateRange, FaultKind, Items, Member, Playlist, PlaylistKind, Segment, Shared, has_control,
+    DateRange, FaultKind, Member, Playlist, PlaylistKind, SegmentSlice, Shared, has_control,
 };
 use segment_state::{ReaderState, Stop};
 use std::alloc::{AllocError, Global};
 use std::marker::Model;
-use std::mem::swap;
 use uri_resolver::Base;
 
 /// A playlist as far as it has been read.
@@ -35,31 +34,21 @@ pub struct Progress<'a> {
     heading: ReadHeading,
     state: ReaderState<'a>,
     date_ranges: DateRanges<'a>,
-    // The segments: those that were read before others were taken over, these, and those that were read since.
-    front: Vec<Segment>,
-    taken: &'a [Member<Segment>],
-    back: Vec<Segment>,
+    // How many segments were read before others were taken over, and these.
+    front: usize,
+    taken: &'a [Member],
 }
 
 impl<'a> Model for Progress<'a> {
+    ghost use Rattle.std.specs.Prelude.{◌≤◌, length};
     ghost use Rattle.playlist_parse.specs.Inner.Progress.{Progress};
     ghost use Rattle.playlist_parse.specs.Inner.Views.{progress_of};
 
     ghost Value = { Progress };
 
     ghost view = { progress_of };
-}
 
-// The values of the one after those of the other, which stay where they are if nothing is before them.
-fn join_lists(front: Vec<Segment>, back: Vec<Segment>) -> Result<Vec<Segment>, AllocError>
-    ensures { IfOk result (λ all. all.items ≡ front.items ++ back.items) }
-{
-    if front.is_empty() {
-        return Ok(back);
-    }
-    let (mut all, mut back) = (front, back);
-    all.append(&mut back)?;
-    Ok(all)
+    ghost invariant = { λ a. a.front ≤ length a.state.segments };
 }
 
 impl<'a> Progress<'a> {
@@ -82,9 +71,8 @@ impl<'a> Progress<'a> {
             },
             state: ReaderState::new(alloc, base),
             date_ranges: DateRanges::new(alloc, known),
-            front: Vec::new(alloc),
+            front: 0,
             taken: &[],
-            back: Vec::new(alloc),
         }
     }
 
@@ -191,13 +179,13 @@ impl<'a> Progress<'a> {
         self.uri(line)
     }
 
+    #[tactic(auto, using(crate::proofs::Rows::one_more))]
     fn uri(&mut self, reference: &str) -> Result<(), FaultKind>
         ensures { TakesLine
             (λ base before. said_by_uri limited base before reference.now) self.old self.new result }
     {
-        let segment = self.state.take_segment(reference)?;
+        self.state.take_segment(reference)?;
         self.heading.has_media = true;
-        self.back.push(segment)?;
         Ok(())
     }
 
@@ -368,7 +356,7 @@ impl<'a> Progress<'a> {
         if !self.heading.has_media {
             return Err(FaultKind::NoSegments);
         }
-        if are_mixed(self.front.as_slice(), self.taken, self.back.as_slice()) {
+        if are_mixed(self.front, &self.state.segments(), self.taken) {
             return Err(FaultKind::MixedMaps);
         }
         Ok(target)
@@ -379,8 +367,6 @@ impl<'a> Progress<'a> {
         ensures playlist { IfOk result (λ read. playlist_in read ≡ playlist_from self.entry target) }
         ensures front { IfOk result (λ read. read.front ≤ length read.playlist.segments) }
     {
-        let front = self.front.len();
-        let segments = join_lists(self.front, self.back)?;
         Ok(Read {
             playlist: Playlist {
                 version: self.heading.version.unwrap_or(1),
@@ -389,9 +375,9 @@ impl<'a> Progress<'a> {
                 independent_segments: self.heading.independent_segments,
                 end_list: self.heading.end_list,
                 date_ranges: self.date_ranges.into_items(self.alloc)?,
-                segments: Shared::new(self.alloc, Items::from_vec(segments))?,
+                segments: Shared::new(self.alloc, self.state.into_segments())?,
             },
-            front,
+            front: self.front,
             taken: self.taken,
             from: 0,
             till: 0,
@@ -399,13 +385,13 @@ impl<'a> Progress<'a> {
         })
     }
 
+    #[tactic(auto, using(playlist_kept::proofs::Parts::count_of_all))]
     /// How many segments are read, with those that were taken over; none if that is 2^64 or more.
     pub fn segment_count(&self) -> Option<usize>
         ensures { MatchOption result (2 ^ 64 ≤ length self.now.segments)
             (λ count. count ≡ length self.now.segments) }
     {
-        let before = self.front.len().checked_add(self.taken.len())?;
-        before.checked_add(self.back.len())
+        self.state.segment_count().checked_add(self.taken.len())
     }
 
     /// Whether fewer than `most` segments are read.
@@ -438,8 +424,8 @@ impl<'a> Progress<'a> {
 
     /// The number of the first segment, if one is read and none was taken over.
     pub fn first_number(&self) -> Option<u64> {
-        match self.back.as_slice().first() {
-            Some(segment) => Some(segment.media_sequence),
+        match self.state.segments().first() {
+            Some(segment) => Some(segment.media_sequence()),
             None => None,
         }
     }
@@ -466,6 +452,7 @@ impl<'a> Progress<'a> {
         self.state.stands_at(stop)
     }
 
+    #[tactic(auto, using(crate::proofs::Rows::gone_on))]
     /// Goes to `stop`, under `heading` and with the `date_ranges` and the `segments` up to it, of which the former have an owner more.
     /// False if the first numbers of this playlist don't lead there, or if segments were taken over before; all is then as
     /// it was. Fails only if an allocation fails.
@@ -474,21 +461,21 @@ impl<'a> Progress<'a> {
         heading: &ReadHeading,
         stop: &Stop,
         date_ranges: &[Shared<DateRange>],
-        segments: &'a [Member<Segment>],
+        segments: &'a [Member],
     ) -> Result<bool, AllocError>
         ensures gone { IfOk result
             (λ done. done ≡ true
             → self.new ≡ gone_to self.old (heading_view heading.now) stop.now date_ranges.now segments.now) }
         ensures kept { IfOk result (λ done. done ≡ false → self.new ≡ self.old) }
     {
-        if !self.front.is_empty() || !self.taken.is_empty() {
+        if !self.taken.is_empty() {
             return Ok(false);
         }
         if !self.state.go_to(stop)? {
             return Ok(false);
         }
         self.date_ranges.append_shared(date_ranges)?;
-        swap(&mut self.front, &mut self.back);
+        self.front = self.state.segment_count();
         self.taken = segments;
         self.heading = *heading;
         Ok(true)
@@ -546,44 +533,55 @@ fn playlist_type_of(rest: &str) -> Result<PlaylistKind, FaultKind>
     }
 }
 
-fn some_have_init_sections(segments: &[Segment]) -> bool
-    ensures { result ≡ list_any has_init_section segments.now }
+fn some_have_init_sections(segments: SegmentSlice<'_>) -> bool
+    ensures { result ≡ list_any has_init_section segments.entry }
 {
-    segments.iter().any(|s: &Segment| s.init_section.is_some())
+    let mut rest = segments;
+    while let Some((segment, later)) = rest.split_first() {
+        if segment.init_section().is_some() {
+            return true;
+        }
+        rest = later;
+    }
+    false
 }
 
-fn all_have_init_sections(segments: &[Segment]) -> bool
-    ensures { result ≡ list_all has_init_section segments.now }
+fn all_have_init_sections(segments: SegmentSlice<'_>) -> bool
+    ensures { result ≡ list_all has_init_section segments.entry }
 {
-    segments.iter().all(|s: &Segment| s.init_section.is_some())
+    let mut rest = segments;
+    while let Some((segment, later)) = rest.split_first() {
+        if segment.init_section().is_none() {
+            return false;
+        }
+        rest = later;
+    }
+    true
 }
 
-fn some_taken_have_init_sections(segments: &[Member<Segment>]) -> bool
+fn some_taken_have_init_sections(segments: &[Member]) -> bool
     ensures { result ≡ list_any has_init_section segments.now }
 {
     segments
         .iter()
-        .any(|s: &Member<Segment>| s.init_section.is_some())
+        .any(|s: &Member| s.get().init_section().is_some())
 }
 
-fn all_taken_have_init_sections(segments: &[Member<Segment>]) -> bool
+fn all_taken_have_init_sections(segments: &[Member]) -> bool
     ensures { result ≡ list_all has_init_section segments.now }
 {
     segments
         .iter()
-        .all(|s: &Member<Segment>| s.init_section.is_some())
+        .all(|s: &Member| s.get().init_section().is_some())
 }
 
-#[tactic(auto, using(crate::proofs::Mixed::any_of_three, crate::proofs::Mixed::all_of_three))]
-// Whether some of these segments have an initialisation section, and others have none (RFC 8216, section 4.3.2.5).
-fn are_mixed(front: &[Segment], taken: &[Member<Segment>], back: &[Segment]) -> bool
-    ensures { result ≡ are_mixed (front.now ++ (taken.now ++ back.now)) }
+#[tactic(auto, using(crate::proofs::Mixed::any_with_taken, crate::proofs::Mixed::all_with_taken))]
+// Whether some of these segments, with those that were taken over after the first `front`, have an initialisation section, and
+// others have none (RFC 8216, section 4.3.2.5).
+fn are_mixed(front: usize, segments: &SegmentSlice<'_>, taken: &[Member]) -> bool
+    ensures { result ≡ are_mixed (with_taken front segments.now taken.now) }
 {
-    let some = some_have_init_sections(front)
-        || some_taken_have_init_sections(taken)
-        || some_have_init_sections(back);
-    let all = all_have_init_sections(front)
-        && all_taken_have_init_sections(taken)
-        && all_have_init_sections(back);
+    let some = some_have_init_sections(segments.again()) || some_taken_have_init_sections(taken);
+    let all = all_have_init_sections(segments.again()) && all_taken_have_init_sections(taken);
     some && !all
 }

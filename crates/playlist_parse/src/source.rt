@@ -70,7 +70,7 @@ fn place_in(source: &LastPlaylist, reading: &Reading<'_>) -> Option<usize> {
         return None;
     }
     let first = reading.progress.first_number()?;
-    let before = source.segments.as_slice().first()?.media_sequence;
+    let before = source.segments.as_slice().first()?.get().media_sequence();
     let place = first.checked_sub(before)? as usize;
     place.checked_add(1)
 }

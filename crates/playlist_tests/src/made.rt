@@ -3,7 +3,7 @@ ghost use Rattle.std.specs.Prelude.{◌≡◌, IfOk, None, codes, []};
 ghost use Rattle.pod_store.specs.Store.{nothing_decided};
 ghost use Rattle.stitcher.specs.StitchedSegments.{AreDecided, KnowRuns};
 
-use playlist_model::{Items, Key, Members, OtherAttributes, Segment, Shared};
+use playlist_model::{Key, Members, OtherAttributes, Segments, Shared};
 use pod_store::PodStore;
 use std::alloc::{AllocError, Global};
 use std::hash::RandomState;
@@ -28,7 +28,7 @@ pub fn key(alloc: Global, format: &str, uri: &str, iv: Option<u128>) -> Result<K
 /// The `segments` with a time and no mark.
 pub(crate) fn unmarked(
     alloc: Global,
-    segments: &Shared<Items<Segment>>,
+    segments: &Shared<Segments>,
 ) -> Result<Vec<MarkedSegment>, AllocError>
     ensures decided { IfOk result (λ v. AreDecided nothing_decided v.items) }
     ensures runs { IfOk result (λ v. KnowRuns None v.items) }

@@ -1,10 +1,12 @@
 //! Playlists that are well formed or not, and sinks that take few bytes or fail. Each kind of line that is written is tried on
 //! the built program (`tests/run_playlists`).
-use crate::beginnings::segment;
+use crate::beginnings::parts;
 use crate::made::{key, listed, unmarked};
 use byte_streams::TestSink;
 use fixed_duration::Nanos;
-use playlist_model::{ByteRange, InitSection, Items, Keys, PlaylistKind, Segment, Shared, Text};
+use playlist_model::{
+    ByteRange, GrowingSegments, InitSection, Items, Keys, PlaylistKind, Segments, Shared, Text,
+};
 use playlist_write::resumed::laid_out;
 use playlist_write::{OutPlaylist, WriteFault, write};
 use std::alloc::{AllocError, Global};
@@ -51,25 +53,20 @@ fn init_section(alloc: Global) -> Result<Shared<InitSection>, AllocError> {
     Ok(Shared::new(alloc, init_section)?)
 }
 
-// A part of a file, encrypted, with a section under another key.
-fn encrypted_segment(alloc: Global) -> Result<Segment, AllocError> {
-    let mut segment = segment(alloc, Nanos(9_500_000_000), "one")?;
-    segment.init_section = Some(init_section(alloc)?);
-    segment.keys = keys(alloc, "http://origin.example/ch/kb", 2)?;
-    segment.byte_range = Some(ByteRange {
+// So many segments, each a part of a file, encrypted, with a section under another key.
+fn segments(alloc: Global, count: usize) -> Result<Shared<Segments>, AllocError> {
+    let mut parts = parts(Nanos(9_500_000_000), "one");
+    parts.byte_range = Some(ByteRange {
         length: 30,
         offset: 120,
     });
-    Ok(segment)
-}
-
-// So many segments.
-fn segments(alloc: Global, count: usize) -> Result<Shared<Items<Segment>>, AllocError> {
-    let mut segments = Vec::new(alloc);
+    let mut segments = GrowingSegments::new(alloc);
+    segments.set_keys(keys(alloc, "http://origin.example/ch/kb", 2)?);
+    segments.set_init_section(Some(init_section(alloc)?));
     for _ in 0..count {
-        segments.push(encrypted_segment(alloc)?)?;
+        segments.push(&parts)?;
     }
-    Shared::new(alloc, Items::from_vec(segments))
+    Shared::new(alloc, segments.into_segments())
 }
 
 fn playlist<'a>(

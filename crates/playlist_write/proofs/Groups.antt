@@ -7,7 +7,7 @@ use Rattle.std.proofs.lemmas.List.{append-nil, append_assoc}
 use Rattle.playlist_model.specs.declared.Key.{Key}
 use Rattle.playlist_model.specs.declared.ByteRange.{ByteRange}
 use Rattle.playlist_model.specs.declared.InitSection.{InitSection}
-use Rattle.playlist_model.specs.declared.Segment.{Segment}
+use Rattle.playlist_model.specs.Segments.{Segment}
 use Rattle.playlist_model.specs.Said.{Said, discontinuity, key, key_tag_said, duration, media}
 use Rattle.playlist_model.specs.EffectiveKeys.{effective_key}
 use Rattle.playlist_model.specs.LookBack.{or_earlier, put_key, Extent, Standing, extent_with}

@@ -3,7 +3,7 @@ use Rattle.std.specs.Prelude.{ℕ, List, [], ◌∷◌, map, Ok}
 use Rattle.std.specs.List.{flat_map}
 use Rattle.playlist_model.specs.declared.DateRange.{DateRange}
 use Rattle.playlist_model.specs.declared.Playlist.{Playlist}
-use Rattle.playlist_model.specs.declared.Segment.{Segment}
+use Rattle.playlist_model.specs.Segments.{Segment}
 use Rattle.playlist_model.specs.Said.{Said, date_range, Outcome, date_range_said}
 use Rattle.playlist_model.specs.Reading.{unlimited}
 use Rattle.stitcher.specs.declared.OutSegment.{OutSegment}

@@ -2,7 +2,7 @@
 use Rattle.std.specs.Prelude.{ℕ, ◌^◌, Bool, not, ◌&&◌, ◌||◌, ◌==◌, nat_lt, List, is_some}
 use Rattle.std.specs.List.{list_any, list_all}
 use Rattle.date_times.specs.Instant.{in_range}
-use Rattle.playlist_model.specs.declared.Segment.{Segment}
+use Rattle.playlist_model.specs.Segments.{Segment}
 use Rattle.playlist_model.specs.Numbering.{Numbers, numbers_rise}
 use Rattle.stitcher.specs.declared.OutSegment.{OutSegment}
 use Rattle.playlist_write.specs.declared.OutPlaylist.{OutPlaylist}

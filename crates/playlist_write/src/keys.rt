@@ -16,7 +16,9 @@ ghost use Rattle.fixed_duration.specs.Appended.{Appends};
 
 use crate::digits::{push_last_iv, push_quote_and_iv};
 use crate::lines::{push_byte_range, push_feed, push_line};
-use playlist_model::{ByteRange, InitSection, KeyRef, Keys, KeysIter, are_same_keys, is_same_key};
+use playlist_model::{
+    ByteRange, InitSection, KeyRef, KeysIter, KeysRef, are_same_keys, is_same_key,
+};
 use std::alloc::AllocError;
 use stitcher::{is_new_key, keeps_formats};
 
@@ -108,7 +110,7 @@ fn push_key(out: &mut String, key: &KeyRef<'_>) -> Result<(), AllocError>
     Ok(())
 }
 
-fn push_keys(out: &mut String, keys: &Keys) -> Result<(), AllocError>
+fn push_keys(out: &mut String, keys: &KeysRef<'_>) -> Result<(), AllocError>
     ensures { Appends result out.old out.new (said_text (set_tags keys.now)) }
 {
     for key in keys.iter() {
@@ -128,7 +130,7 @@ fn passes_same(keys: &mut KeysIter<'_>, key: &KeyRef<'_>) -> bool
     }
 }
 
-fn push_new_keys(out: &mut String, old: &Keys, new: &Keys) -> Result<(), AllocError>
+fn push_new_keys(out: &mut String, old: &KeysRef<'_>, new: &KeysRef<'_>) -> Result<(), AllocError>
     ensures { Appends result out.old out.new
         (said_text (set_tags (filter (is_new_key old.now) new.now))) }
 {
@@ -151,7 +153,7 @@ fn push_no_keys(out: &mut String) -> Result<(), AllocError>
 
 // Appends the key tags that lead from any keys to others.
 #[inline(never)]
-fn push_any_tags(out: &mut String, old: &Keys, new: &Keys) -> Result<(), AllocError>
+fn push_any_tags(out: &mut String, old: &KeysRef<'_>, new: &KeysRef<'_>) -> Result<(), AllocError>
     ensures { Appends result out.old out.new (said_text (keys_owed old.now new.now)) }
 {
     // Mostly no tag stands between two segments: then each key is compared once.
@@ -187,7 +189,11 @@ fn has_next_iv(old: &KeyRef<'_>, new: &KeyRef<'_>) -> bool
 }
 
 #[inline(always)]
-fn push_tags_between(out: &mut String, old: &Keys, new: &Keys) -> Result<(), AllocError>
+fn push_tags_between(
+    out: &mut String,
+    old: &KeysRef<'_>,
+    new: &KeysRef<'_>,
+) -> Result<(), AllocError>
     ensures { Appends result out.old out.new (said_text (keys_owed old.now new.now)) }
 {
     // Most segments have one key, with an initialisation vector of their own (RFC 8216, 5.2).
@@ -205,7 +211,11 @@ fn push_tags_between(out: &mut String, old: &Keys, new: &Keys) -> Result<(), All
 /// Appends to `out` the key tags that lead from the keys `old` to the keys `new` (RFC 8216, section 4.3.2.4). Fails
 /// only if an allocation fails.
 #[inline(always)]
-pub fn push_key_tags(out: &mut String, old: &Keys, new: &Keys) -> Result<(), AllocError>
+pub fn push_key_tags(
+    out: &mut String,
+    old: &KeysRef<'_>,
+    new: &KeysRef<'_>,
+) -> Result<(), AllocError>
     ensures { Appends result out.old out.new (said_text (keys_owed old.now new.now)) }
 {
     // Most playlists have no keys.

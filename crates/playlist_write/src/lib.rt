@@ -12,17 +12,19 @@ ghost use Rattle.playlist_write.specs.Denoted.{denoted};
 ghost use Rattle.byte_streams.specs.Handed.{TookFront};
 
 use crate::header::{push_date_ranges, push_end, push_header};
+use crate::in_force::InForce;
 use crate::lines::push_line;
 use crate::pieces::{PIECE_ROOM, write_date_ranges, write_segments};
 use crate::room::room_for;
 use byte_streams::{Sink, SinkFailed, hand_out};
-use playlist_model::{Items, PlaylistKind};
+use playlist_model::{Items, Keys, PlaylistKind};
 use std::alloc::{AllocError, Global};
 use stitcher::{StitchedList, TextRef};
 
 mod date_ranges;
 mod digits;
 mod header;
+mod in_force;
 mod keys;
 mod last_duration;
 pub mod laws;
@@ -137,7 +139,9 @@ fn write_text<S: Sink>(
 {
     let mut held = lines_before_date_ranges(alloc, PIECE_ROOM, playlist)?;
     write_date_ranges(&mut held, playlist.date_ranges.as_slice(), sink)?;
-    write_segments(alloc, &mut held, playlist.segments.items(), sink)?;
+    let (no_keys, no_init_section) = (Keys::none(), None);
+    let nothing = InForce::new(&no_keys, &no_init_section);
+    write_segments(alloc, &mut held, nothing, playlist.segments.items(), sink)?;
     write_end(&mut held, playlist.end_list, sink)
 }
 

@@ -2,16 +2,16 @@
 ghost use Rattle.std.specs.Prelude.{◌≡◌, ◌++◌, ◌<◌, length, OnOk, OnErr, IsErrOf, string_bytes};
 ghost use Rattle.byte_streams.specs.Devices.{FailedAtLast, NoneFailed};
 ghost use Rattle.byte_streams.specs.Handed.{TookFront};
-ghost use Rattle.playlist_write.specs.Owed.{none_yet, said_text, segments_owed, date_ranges_text};
+ghost use Rattle.playlist_write.specs.Owed.{said_text, segments_owed, date_ranges_text};
 ghost use Rattle.playlist_write.specs.Inner.Taken.{TookAllBut};
 
 use crate::WriteFault;
 use crate::header::push_date_range;
+use crate::in_force::InForce;
 use crate::last_duration::LastDuration;
-use crate::segments::{init_section_in, push_segment};
+use crate::segments::push_next;
 use byte_streams::{Sink, SinkFailed, hand_out};
 use date_times::TimeWriter;
-use playlist_model::{InitSection, Keys};
 use std::alloc::Global;
 use stitcher::{StitchedItems, TextRef};
 
@@ -72,20 +72,21 @@ pub fn write_date_ranges<S: Sink>(
     Ok(())
 }
 
-/// Appends the lines of all `segments` to the text `held`, and hands its front to `sink` each time that a piece is
-/// full. The faults, and what `sink` has taken after one, are those of `write`.
-pub fn write_segments<S: Sink>(
+/// Appends the lines of all `segments` to the text `held`, after lines with `before` in force, and hands its front to
+/// `sink` each time that a piece is full. The faults, and what `sink` has taken after one, are those of `write`.
+pub fn write_segments<'a, S: Sink>(
     alloc: Global,
     held: &mut String,
-    segments: StitchedItems<'_>,
+    before: InForce<'a>,
+    segments: StitchedItems<'a>,
     sink: &mut S,
 ) -> Result<(), WriteFault>
     ensures ok { OnOk result
         (TookAllBut (S.stand sink.old).contents (S.stand sink.new).contents (string_bytes held.new)
-        (string_bytes held.old ++ said_text (segments_owed none_yet segments.entry))) }
+        (string_bytes held.old ++ said_text (segments_owed before.entry segments.entry))) }
     ensures err { OnErr result
         (TookFront (S.stand sink.old).contents (S.stand sink.new).contents
-        (string_bytes held.old ++ said_text (segments_owed none_yet segments.entry))) }
+        (string_bytes held.old ++ said_text (segments_owed before.entry segments.entry))) }
     ensures unfailed { OnOk result
         (NoneFailed (S.stand sink.old).failed (S.stand sink.new).failed) }
     ensures io { IsErrOf result WriteFault.Io
@@ -96,15 +97,10 @@ pub fn write_segments<S: Sink>(
     let mut segments = segments;
     let mut times = TimeWriter::new();
     let mut last = LastDuration::new(alloc);
-    let no_keys = Keys::none();
-    let mut keys = &no_keys;
-    let mut init_section: Option<&InitSection> = None;
+    let mut force = before;
     while let Some(next) = segments.next() {
-        push_segment(held, &mut times, &mut last, keys, init_section, &next)?;
+        force = push_next(held, &mut times, &mut last, force, &next)?;
         hand_out_piece(held, sink)?;
-        let segment = next.segment.get();
-        keys = &segment.keys;
-        init_section = init_section_in(&segment.init_section).or(init_section);
     }
     Ok(())
 }

@@ -2,21 +2,20 @@
 //! the segment before it alone, so those of segments that stood there are copied in one piece.
 ghost use Rattle.std.specs.Prelude.{◌≡◌, ◌++◌, ◌+◌, List, drop, take, length, IfOk, OnOk, IfSome, string_bytes};
 ghost use Rattle.stitcher.specs.declared.OutSegment.{OutSegment};
-ghost use Rattle.playlist_model.specs.LookBack.{or_earlier};
-ghost use Rattle.playlist_write.specs.Owed.{none_yet, said_text, segment_owed, segments_owed, after_segment, ended_owed, playlist_text};
+ghost use Rattle.playlist_write.specs.Owed.{none_yet, said_text, segments_owed, ended_owed, playlist_text};
 ghost use Rattle.playlist_write.specs.Laid.{after_segments, states_all, current_of, IsLaid, IsFrontLength, StandsAgain, HasEnds, IsTextWith};
 ghost use Rattle.playlist_write.specs.Inner.Laid.{front_text};
 
 use crate::header::{push_date_ranges, push_end};
+use crate::in_force::InForce;
 use crate::last_duration::LastDuration;
 use crate::room::room_for;
-use crate::segments::{init_section_in, push_segment};
+use crate::segments::push_next;
 use crate::{OutPlaylist, lines_before_date_ranges};
 use date_times::TimeWriter;
-use playlist_model::{InitSection, Keys, Segment, Shared, Text};
+use playlist_model::{InitSection, Keys, Shared, Text};
 use std::alloc::{AllocError, Global};
-use std::marker::Model;
-use stitcher::{OutSegment, StitchedItems, StitchedList};
+use stitcher::{StitchedItems, StitchedList};
 
 /// A text that was written, with what its next version needs: the places where the lines of its segments begin and end, how
 /// many segments they are of, and the keys and the initialisation section that are in force at their end.
@@ -34,60 +33,6 @@ pub struct WrittenText {
     pub keys: Keys,
     /// The initialisation section in force there.
     pub init_section: Option<Shared<InitSection>>,
-}
-
-// Keys and an initialisation section that are in force.
-#[derive(Drop)]
-struct InForce<'a> {
-    keys: &'a Keys,
-    init_section: &'a Option<Shared<InitSection>>,
-}
-
-impl<'a> Model for InForce<'a> {
-    ghost use Rattle.playlist_write.specs.Owed.{Current};
-
-    ghost Value = { Current };
-
-    ghost view = { λ a. record { keys = a.keys.now; init_section = a.init_section.now } };
-}
-
-fn force_after<'a>(before: &InForce<'a>, segment: &'a Segment) -> InForce<'a>
-    ensures { result ≡ record { keys = segment.now.keys; init_section = or_earlier segment.now.init_section before.now.init_section } }
-{
-    let init_section = if segment.init_section.is_some() {
-        &segment.init_section
-    } else {
-        before.init_section
-    };
-    InForce {
-        keys: &segment.keys,
-        init_section,
-    }
-}
-
-// Appends the lines of the segment `next` after lines with `before` in force. Answers what is in force then.
-#[inline(always)]
-fn push_next<'a>(
-    out: &mut String,
-    times: &mut TimeWriter,
-    last: &mut LastDuration<'a>,
-    before: &InForce<'a>,
-    next: &OutSegment<'a>,
-) -> Result<InForce<'a>, AllocError>
-    ensures text { OnOk result
-        (string_bytes out.new ≡ string_bytes out.old
-        ++ said_text (segment_owed before.now next.now)) }
-    ensures force { IfOk result (λ f. f ≡ after_segment before.now next.now) }
-{
-    push_segment(
-        out,
-        times,
-        last,
-        before.keys,
-        init_section_in(before.init_section),
-        next,
-    )?;
-    Ok(force_after(before, next.segment.get()))
 }
 
 // Appends the lines of the first `most` segments, or of all, after lines with `before` in force. Answers what is in force then.
@@ -112,7 +57,7 @@ fn push_first<'a>(
         let Some(next) = segments.next() else {
             return Ok(force);
         };
-        force = push_next(out, &mut times, &mut last, &force, &next)?;
+        force = push_next(out, &mut times, &mut last, force, &next)?;
         left -= 1;
     }
     Ok(force)
@@ -135,7 +80,7 @@ fn push_all<'a>(
     let mut last = LastDuration::new(alloc);
     let mut force = before;
     while let Some(next) = segments.next() {
-        force = push_next(out, &mut times, &mut last, &force, &next)?;
+        force = push_next(out, &mut times, &mut last, force, &next)?;
     }
     Ok(force)
 }
@@ -144,10 +89,7 @@ fn push_all<'a>(
 fn force_at_end(last: &WrittenText) -> InForce<'_>
     ensures { result ≡ current_of last.now }
 {
-    InForce {
-        keys: &last.keys,
-        init_section: &last.init_section,
-    }
+    InForce::new(&last.keys, &last.init_section)
 }
 
 // A written text, the lines of whose `count` segments stand from `from` up to `till` with `end` in force after them.
@@ -170,7 +112,7 @@ fn with_end(
         from,
         till,
         count,
-        keys: end.keys.clone()?,
+        keys: end.keys.to_keys()?,
         init_section: end.init_section.clone()?,
     })
 }
@@ -201,10 +143,7 @@ pub fn laid_out(alloc: Global, playlist: &OutPlaylist<'_>) -> Result<WrittenText
     let mut text = all_before(alloc, room_for(playlist), playlist)?;
     let from = length_of(&text);
     let (no_keys, no_init_section) = (Keys::none(), None);
-    let nothing = InForce {
-        keys: &no_keys,
-        init_section: &no_init_section,
-    };
+    let nothing = InForce::new(&no_keys, &no_init_section);
     let end = push_all(alloc, &mut text, nothing, playlist.segments.items())?;
     let till = length_of(&text);
     push_end(&mut text, playlist.end_list)?;
@@ -218,9 +157,7 @@ fn states_all(before: &InForce<'_>, segments: StitchedItems<'_>) -> bool
 {
     let mut segments = segments;
     match segments.next() {
-        Some(first) => {
-            first.segment.get().init_section.is_some() || before.init_section.is_none()
-        }
+        Some(first) => first.segment.init_section().is_some() || before.init_section.is_none(),
         None => false,
     }
 }
@@ -237,10 +174,7 @@ pub fn front_length(
 {
     let mut lines = String::new(alloc);
     let (no_keys, no_init_section) = (Keys::none(), None);
-    let nothing = InForce {
-        keys: &no_keys,
-        init_section: &no_init_section,
-    };
+    let nothing = InForce::new(&no_keys, &no_init_section);
     let force = push_first(alloc, &mut lines, nothing, segments.items(), gone)?;
     if !states_all(&force, segments.items_from(gone)) {
         return Ok(None);
@@ -288,10 +222,7 @@ fn join_parts(
     let mut text = all_before(alloc, room, playlist)?;
     let from = length_of(&text);
     let (no_keys, no_init_section) = (Keys::none(), None);
-    let nothing = InForce {
-        keys: &no_keys,
-        init_section: &no_init_section,
-    };
+    let nothing = InForce::new(&no_keys, &no_init_section);
     push_first(alloc, &mut text, nothing, playlist.segments.items(), 1)?;
     text.push_str(lines)?;
     let end = push_all(alloc, &mut text, force_at_end(last), fresh)?;

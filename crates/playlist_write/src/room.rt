@@ -13,13 +13,9 @@ const MAX_ROOM: usize = 1024;
 
 // The room that a segment takes, generously.
 fn room_of(next: &OutSegment<'_>) -> usize {
-    let segment = next.segment.get();
-    let texts = segment
-        .uri
-        .as_str()
-        .len()
-        .saturating_add(segment.title.as_str().len());
-    let keys = segment.keys.len().saturating_mul(160);
+    let segment = &next.segment;
+    let texts = segment.uri().len().saturating_add(segment.title().len());
+    let keys = segment.keys().len().saturating_mul(160);
     texts.saturating_add(keys).saturating_add(88)
 }
 

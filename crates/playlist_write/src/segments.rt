@@ -1,21 +1,22 @@
 //! The lines of segments (RFC 8216, section 4.3.2).
-ghost use Rattle.std.specs.Prelude.{◌≡◌, ◌++◌, ◌∷◌, [], OnOk, string_bytes, replicate, Some};
+ghost use Rattle.std.specs.Prelude.{◌≡◌, ◌++◌, ◌∷◌, [], IfOk, OnOk, string_bytes, replicate, Some, false, true};
 ghost use Rattle.std.specs.Option.{option_copied};
 ghost use Rattle.spec_words.specs.Bytes.{comma};
 ghost use Rattle.playlist_model.specs.Said as Said;
 ghost use Rattle.playlist_model.specs.Same.{same_option, same_init_section};
 ghost use Rattle.playlist_write.specs.Inner.Changes.{changes_nothing, changes_owed};
-ghost use Rattle.playlist_write.specs.Owed.{none_yet, line_saying, with_feed, said_text, changed_init_section, init_section_owed, keys_then, time_owed, byte_range_owed, media_owed, segment_owed, segments_owed};
+ghost use Rattle.playlist_write.specs.Owed.{none_yet, line_saying, with_feed, said_text, changed_init_section, init_section_owed, keys_then, time_owed, byte_range_owed, media_owed, segment_owed, after_segment};
 ghost use Rattle.fixed_duration.specs.Duration.{duration_text};
 ghost use Rattle.fixed_duration.specs.Appended.{Appends};
 
+use crate::in_force::InForce;
 use crate::keys::{push_init_section, push_key_tags};
 use crate::last_duration::LastDuration;
 use crate::lines::{push_byte_range, push_feed, push_line};
 use date_times::TimeWriter;
 use fixed_duration::Nanos;
 use playlist_model::{
-    ByteRange, InitSection, Instant, Keys, Segment, Shared, is_same_init_section,
+    ByteRange, InitSection, Instant, KeysRef, SegmentRef, Shared, is_same_init_section,
 };
 use std::alloc::{AllocError, Global};
 use stitcher::{OutSegment, StitchedItems};
@@ -67,40 +68,39 @@ fn changed_init_section<'a>(
 }
 
 // The keys in force after a changed initialisation section.
-fn keys_then<'a>(keys: &'a Keys, changed: Option<&'a InitSection>) -> &'a Keys
-    ensures { result.now ≡ keys_then keys.now (option_copied changed.entry) }
+fn keys_then<'a>(keys: &KeysRef<'a>, changed: Option<&'a InitSection>) -> KeysRef<'a>
+    ensures { result ≡ keys_then keys.now (option_copied changed.entry) }
 {
     match changed {
-        Some(init_section) => &init_section.keys,
-        None => keys,
+        Some(init_section) => init_section.keys.lent(),
+        None => keys.again(),
     }
 }
 
 // Whether the segment `next` says nothing before its time, after lines at whose end `keys` are in force: it has no
 // discontinuity and no initialisation section, and there are no keys.
 #[inline(always)]
-fn changes_nothing(keys: &Keys, next: &OutSegment<'_>) -> bool
+fn changes_nothing(keys: &KeysRef<'_>, next: &OutSegment<'_>) -> bool
     ensures { result ≡ changes_nothing keys.now next.now }
 {
-    let segment = next.segment.get();
     next.discontinuities == 0
-        && segment.init_section.is_none()
         && keys.is_empty()
-        && segment.keys.is_empty()
+        && next.segment.init_section().is_none()
+        && next.segment.keys().is_empty()
 }
 
 // Appends the EXT-X-MAP of the initialisation section that changed, if one did, under its keys (RFC 8216, section
 // 4.3.2.5).
 fn push_changed_init_section(
     out: &mut String,
-    keys: &Keys,
+    keys: &KeysRef<'_>,
     changed: Option<&InitSection>,
 ) -> Result<(), AllocError>
     ensures { Appends result out.old out.new
         (said_text (init_section_owed keys.now (option_copied changed.entry))) }
 {
     if let Some(init_section) = changed {
-        push_key_tags(out, keys, &init_section.keys)?;
+        push_key_tags(out, keys, &init_section.keys.lent())?;
         push_init_section(out, init_section)?;
     }
     Ok(())
@@ -183,13 +183,13 @@ fn push_uri(out: &mut String, uri: &str) -> Result<(), AllocError>
 fn push_media<'a>(
     out: &mut String,
     last: &mut LastDuration<'a>,
-    segment: &'a Segment,
+    segment: &SegmentRef<'a>,
 ) -> Result<(), AllocError>
     ensures { Appends result out.old out.new (said_text (media_owed segment.now)) }
 {
-    last.push(out, segment.duration, segment.title.as_str())?;
-    push_byte_range_tag(out, segment.byte_range)?;
-    push_uri(out, segment.uri.as_str())?;
+    last.push(out, segment.duration(), segment.title())?;
+    push_byte_range_tag(out, segment.byte_range())?;
+    push_uri(out, segment.uri())?;
     Ok(())
 }
 
@@ -198,7 +198,7 @@ fn push_media<'a>(
 #[inline(never)]
 fn push_each_change(
     out: &mut String,
-    keys: &Keys,
+    keys: &KeysRef<'_>,
     init_section: Option<&InitSection>,
     next: &OutSegment<'_>,
 ) -> Result<(), AllocError>
@@ -206,58 +206,68 @@ fn push_each_change(
         (said_text (changes_owed
         (record { keys = keys.now; init_section = option_copied init_section.entry }) next.now)) }
 {
-    let segment = next.segment.get();
-    let changed = changed_init_section(init_section, &segment.init_section);
+    let changed = changed_init_section(init_section, next.segment.init_section());
     push_steps(out, next.discontinuities)?;
     push_changed_init_section(out, keys, changed)?;
-    push_key_tags(out, keys_then(keys, changed), &segment.keys)?;
+    push_key_tags(out, &keys_then(keys, changed), &next.segment.keys())?;
     Ok(())
 }
 
-// The same. Most segments change nothing.
+// The same, and answers whether the segment changes anything. Most change nothing.
 #[inline(always)]
 fn push_changes(
     out: &mut String,
-    keys: &Keys,
+    keys: &KeysRef<'_>,
     init_section: Option<&InitSection>,
     next: &OutSegment<'_>,
-) -> Result<(), AllocError>
-    ensures { Appends result out.old out.new
-        (said_text (changes_owed
+) -> Result<bool, AllocError>
+    ensures text { OnOk result
+        (string_bytes out.new ≡ string_bytes out.old
+        ++ said_text (changes_owed
         (record { keys = keys.now; init_section = option_copied init_section.entry }) next.now)) }
+    ensures nothing { IfOk result
+        (λ changes. changes ≡ false → changes_nothing keys.now next.now ≡ true) }
 {
     if changes_nothing(keys, next) {
-        return Ok(());
+        return Ok(false);
     }
-    push_each_change(out, keys, init_section, next)
+    push_each_change(out, keys, init_section, next)?;
+    Ok(true)
 }
 
-/// Appends to `out` the lines of the segment `next`, after lines at whose end `keys` and `init_section` are in force (RFC
-/// 8216, section 4.3.2). `times` and `last` keep the time and the duration that were written last, so that equal ones
-/// are copied. Fails only if an allocation fails.
-#[inline(always)]
-pub fn push_segment<'a>(
-    out: &mut String,
-    times: &mut TimeWriter,
-    last: &mut LastDuration<'a>,
-    keys: &Keys,
-    init_section: Option<&InitSection>,
-    next: &OutSegment<'a>,
-) -> Result<(), AllocError>
-    ensures { OnOk result (string_bytes out.new ≡ string_bytes out.old
-        ++ said_text (segment_owed (record { keys = keys.now; init_section = option_copied init_section.entry }) next.now)) }
-{
-    push_changes(out, keys, init_section, next)?;
-    push_time_tag(out, times, next.program_date_time)?;
-    push_media(out, last, next.segment.get())
-}
-
-/// What `init_section`, a segment's, holds, if it has one.
-pub fn init_section_in(init_section: &Option<Shared<InitSection>>) -> Option<&InitSection>
+// What a segment's initialisation section holds, if it has one.
+fn init_section_in(init_section: &Option<Shared<InitSection>>) -> Option<&InitSection>
     ensures { option_copied result ≡ init_section.now }
 {
     match init_section {
         Some(init_section) => Some(init_section),
         None => None,
     }
+}
+
+/// Appends to `out` the lines of the segment `next`, after lines with `before` in force (RFC 8216, section 4.3.2), and
+/// answers what is in force then. `times` and `last` keep the time and the duration that were written last, so that
+/// equal ones are copied. Fails only if an allocation fails.
+#[tactic(auto, using(crate::proofs::Changes::nothing_after))]
+#[inline(always)]
+pub fn push_next<'a>(
+    out: &mut String,
+    times: &mut TimeWriter,
+    last: &mut LastDuration<'a>,
+    before: InForce<'a>,
+    next: &OutSegment<'a>,
+) -> Result<InForce<'a>, AllocError>
+    ensures text { OnOk result
+        (string_bytes out.new ≡ string_bytes out.old
+        ++ said_text (segment_owed before.entry next.now)) }
+    ensures force { IfOk result (λ f. f ≡ after_segment before.entry next.now) }
+{
+    let init_section = init_section_in(before.init_section);
+    let changes = push_changes(out, &before.keys, init_section, next)?;
+    push_time_tag(out, times, next.program_date_time)?;
+    push_media(out, last, &next.segment)?;
+    if changes {
+        return Ok(before.after(&next.segment));
+    }
+    Ok(before)
 }

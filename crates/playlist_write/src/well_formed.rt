@@ -8,7 +8,7 @@ ghost use Rattle.playlist_write.specs.WellFormed.{well_formed, fits_without_date
 
 use crate::OutPlaylist;
 use crate::date_ranges::date_ranges_fit;
-use playlist_model::{InitSection, Instant, Segment, Shared};
+use playlist_model::{InitSection, Instant, SegmentRef, Shared};
 use std::alloc::{AllocError, Global};
 use stitcher::{OutSegment, StitchedItems, StitchedList};
 use writable::{
@@ -28,10 +28,10 @@ fn numbers_are_words(out: &OutSegment<'_>) -> bool
     is_word(out.media_sequence) && is_word(out.discontinuity_sequence)
 }
 
-fn resource_fits(segment: &Segment) -> bool
+fn resource_fits(segment: &SegmentRef<'_>) -> bool
     ensures { result ≡ resource_fits segment.now }
 {
-    uri_fits(segment.uri.as_str()) && byte_range_fits(segment.byte_range)
+    uri_fits(segment.uri()) && byte_range_fits(segment.byte_range())
 }
 
 fn optional_init_section_fits(init_section: &Option<Shared<InitSection>>) -> bool
@@ -56,13 +56,13 @@ fn optional_time_fits(time: Option<Instant>) -> bool
 fn segment_fits(out: &OutSegment<'_>) -> bool
     ensures { result ≡ segment_fits out.now }
 {
-    let segment = out.segment.get();
+    let segment = &out.segment;
     numbers_are_words(out)
         && resource_fits(segment)
-        && effective_keys_fit(&segment.keys)
-        && optional_init_section_fits(&segment.init_section)
-        && duration_fits(segment.duration)
-        && is_clean(segment.title.as_str())
+        && effective_keys_fit(&segment.keys())
+        && optional_init_section_fits(segment.init_section())
+        && duration_fits(segment.duration())
+        && is_clean(segment.title())
         && optional_time_fits(out.program_date_time)
 }
 
@@ -126,7 +126,7 @@ fn numbers_fit(segments: StitchedItems<'_>) -> bool
 fn out_has_init_section(out: &OutSegment<'_>) -> bool
     ensures { result ≡ out_has_init_section out.now }
 {
-    out.segment.get().init_section.is_some()
+    out.segment.init_section().is_some()
 }
 
 fn all_have_init_sections(segments: StitchedItems<'_>) -> bool

@@ -1,7 +1,7 @@
 -- The segments of the origin that were ever shown, each with the break that it is marked with. A list of
 -- them has the newest first.
 use Rattle.std.specs.Prelude.{ℕ, Bool, false, List, [], ◌∷◌, ℤ, Option, Some, None, bytes_eq}
-use Rattle.playlist_model.specs.declared.Segment.{Segment}
+use Rattle.playlist_model.specs.Segments.{Segment}
 use Rattle.pod_store.specs.Pods.{Pod}
 use Rattle.pod_store.specs.Store.{Store, pod_for}
 

@@ -7,7 +7,6 @@ use Rattle.std.proofs.lemmas.Bool.Decides.{nat_tests}
 use Rattle.attr_list.specs.Attributes.{Pair, is_named, is_name, is_name_byte, is_pair, are_apart, attribute, attributes_of, pieces, pair_spelling, value_spelling}
 use Rattle.attr_list.proofs.Elements.{all_from}
 use Rattle.attr_list.proofs.Grammar.{pairs_are, pieces_joined}
-use Rattle.playlist_model.specs.declared.FaultKind.TheVariants as fault
 use Rattle.spec_words.specs.Outcomes.{optional, some_value}
 use Rattle.playlist_model.specs.Said.{Outcome, attributes, required, value_if, quoted_of}
 use Rattle.playlist_model.specs.Carried.{after_commas, carried, is_key_attribute}

@@ -2,7 +2,7 @@
 use Rattle.std.proofs.Common.{◌≡◌, ℕ, ◌+◌, ◌<◌, true, not, List, [], ◌∷◌, ◌++◌, length, refl, ap, ◌∙◌, arith, length-append}
 use Rattle.std.specs.Prelude.{unwrap_or}
 use Rattle.std.proofs.lemmas.Bool.{and_parts, and_from, lt-ltb, ltb-true, le-leb, not-true}
-use Rattle.playlist_model.specs.declared.Segment.{Segment}
+use Rattle.playlist_model.specs.Segments.{Segment}
 use Rattle.playlist_model.specs.Said.{Said, sequence, discontinuity_sequence, discontinuity, media}
 use Rattle.playlist_model.specs.LookBack.{latest, the_sequence, the_discontinuity_sequence, is_media, is_discontinuity, count, segments_of, segment_at, discontinuity_at, steps_at}
 use Rattle.playlist_model.specs.Reading.{has}

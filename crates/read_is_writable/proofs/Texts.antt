@@ -6,7 +6,7 @@ use Rattle.std.specs.Str.{is_utf8}
 use Rattle.std.proofs.lemmas.Bool.{and_from, and_parts}
 use Rattle.playlist_model.specs.declared.Key.{Key}
 use Rattle.playlist_model.specs.declared.InitSection.{InitSection}
-use Rattle.playlist_model.specs.declared.Segment.{Segment}
+use Rattle.playlist_model.specs.Segments.{Segment}
 use Rattle.playlist_model.specs.LookBack.{are_sorted}
 use Rattle.playlist_model.proofs.ListTests.{all_with}
 use Rattle.writable.specs.Fitting.{if_some, uri_fits, quoted_uri_fits, key_fits, keys_fit, init_section_fits}

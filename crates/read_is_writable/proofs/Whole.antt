@@ -9,7 +9,7 @@ use Rattle.playlist_model.specs.declared.FaultKind.{FaultKind}
 use Rattle.playlist_model.specs.declared.Playlist.{Playlist}
 use Rattle.playlist_model.specs.Said.{Said, nothing, version, target, Reader}
 use Rattle.playlist_model.specs.LookBack.{latest, the_version, the_target, is_media, segments_of}
-use Rattle.playlist_model.specs.Reading.{has, has_init_section, are_mixed, is_set, said_by, said_from, whole_fault, whole, playlist_of, reading, unlimited}
+use Rattle.playlist_model.specs.Reading.{has, has_init_section, are_mixed, is_set, said_by, said_from, whole_fault, playlist_of, reading, unlimited}
 use Rattle.playlist_model.proofs.LimitLaws.{reads_what_is_denoted}
 use Rattle.playlist_write.specs.WellFormed.{is_word}
 use Rattle.writable.specs.Fitting.{if_some}

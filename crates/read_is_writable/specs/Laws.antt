@@ -2,7 +2,7 @@
 use Rattle.std.specs.Prelude.{◌≡◌, ◌↔◌, ℕ, true, List, Ok}
 use Rattle.url.specs.Parts.{Parts}
 use Rattle.playlist_model.specs.declared.Playlist.{Playlist}
-use Rattle.playlist_model.specs.declared.Segment.{Segment}
+use Rattle.playlist_model.specs.Segments.{Segment}
 use Rattle.playlist_model.specs.Said.{Reader}
 use Rattle.playlist_model.specs.Reading.{reading, limited, Denotes}
 use Rattle.read_is_writable.specs.Limits.{KeepsLimits}

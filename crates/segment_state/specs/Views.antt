@@ -22,8 +22,9 @@ running_of a = record {
     duration = a.durations;
     byte_range = a.byte_range;
     program_date_time = a.program_date_time;
-    keys = a.keys;
-    init_section = a.init_section;
+    keys = a.segments.keys;
+    init_section = a.segments.init_section;
     extent = extent_after a.last;
   };
+  segments = a.segments.segments;
 }

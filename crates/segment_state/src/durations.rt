@@ -1,25 +1,24 @@
 //! The durations and titles of a playlist's segments (RFC 8216, 4.3.2.1), of which most are the same.
-ghost use Rattle.std.specs.Prelude.{◌≡◌, false, Some, None, Ok, Err, IfOk, IfErr, OnOk, OnErr, MatchResult, MatchOption};
+ghost use Rattle.std.specs.Prelude.{◌≡◌, false, Some, None, Ok, Err, IfErr, OnOk, OnErr, MatchResult, MatchOption};
 ghost use Rattle.std.specs.List.{before_first, after_first};
 ghost use Rattle.attr_list.specs.Attributes.{is_comma};
-ghost use Rattle.spec_words.specs.Outcomes.{Tells};
 ghost use Rattle.playlist_model.specs.Said.{duration, duration_said};
-ghost use Rattle.playlist_model.specs.Refusals.{GivesOrPlaylistFault, RefusesByPlaylistFault};
-ghost use Rattle.segment_state.specs.Kept.{IsDue};
+ghost use Rattle.segment_state.specs.Kept.{IsDue, own_of};
 ghost use Rattle.segment_state.specs.Repeated.{IsLineOf, IsTakenAgain};
 
 use fixed_duration::Nanos;
-use playlist_model::{FaultKind, Shared, ShortText};
-use std::alloc::{AllocError, Global};
+use playlist_model::FaultKind;
 use std::marker::Model;
 
 /// What EXTINF stated last: the next one says the same if its text is the same.
 #[derive(Drop)]
 pub struct Durations<'a> {
-    alloc: Global,
     seconds: SecondsReader<'a>,
     text: &'a str,
-    said: Option<(Nanos, Shared<ShortText>)>,
+    // Whether an EXTINF stood; if so, its duration and its title.
+    is_said: bool,
+    nanos: Nanos,
+    title: &'a str,
     is_due: bool,
     // Whether the text stood twice.
     is_repeated: bool,
@@ -29,7 +28,7 @@ pub struct Durations<'a> {
 
 impl<'a> Model for Durations<'a> {
     ghost use Rattle.std.specs.Prelude.{List, ℕ, Option};
-    ghost use Rattle.segment_state.specs.Kept.{StatesDuration, due_of};
+    ghost use Rattle.segment_state.specs.Kept.{StatesDuration, due_of, kept_own};
     ghost use Rattle.segment_state.specs.Repeated.{IsAgain};
     ghost use Rattle.std.specs.Option.{option_copied};
 
@@ -37,7 +36,7 @@ impl<'a> Model for Durations<'a> {
 
     ghost view = { due_of };
 
-    ghost invariant = { λ a. StatesDuration a.text.now a.said × IsAgain (option_copied a.line) a.said };
+    ghost invariant = { λ a. StatesDuration a.text.now (kept_own a) × IsAgain (option_copied a.line) (kept_own a) };
 }
 
 // Reads the seconds and the title that EXTINF states. Most texts begin as the one before, up to their comma: what that
@@ -107,53 +106,30 @@ fn parts_at_comma(text: &str) -> (&str, &str)
 
 impl<'a> Durations<'a> {
     /// None was stated yet.
-    pub fn new(alloc: Global) -> Durations<'a>
+    pub fn new() -> Durations<'a>
         ensures { result ≡ None }
     {
         Durations {
-            alloc,
             seconds: SecondsReader::new(),
             text: "",
-            said: None,
+            is_said: false,
+            nanos: Nanos(0),
+            title: "",
             is_due: false,
             is_repeated: false,
             line: None,
         }
     }
 
-    // A title, to be shared. Takes no memory if it is the last one.
-    fn title(&self, text: &str) -> Result<Shared<ShortText>, AllocError>
-        ensures { IfOk result (λ title. title ≡ text.now) }
-    {
-        if let Some((_, last)) = &self.said {
-            if text == last.as_str() {
-                return last.clone();
-            }
-        }
-        let title = ShortText::copy_of(self.alloc, text)?;
-        Ok(Shared::new(self.alloc, title)?)
-    }
-
-    // What EXTINF states by itself: a duration, and a title after the comma (RFC 8216, section 4.3.2.1).
-    fn parse(&mut self, text: &'a str) -> Result<(Nanos, Shared<ShortText>), FaultKind>
-        ensures said { GivesOrPlaylistFault (λ own. duration own.0 own.1) result
-            (duration_said text.now) }
-        ensures told { Tells result (duration_said text.now) }
-        ensures kept { self.new ≡ self.old }
-    {
-        match self.seconds.read(text) {
-            Ok((nanos, title)) => Ok((nanos, self.title(title)?)),
-            Err(fault) => Err(fault),
-        }
-    }
-
     // Keeps a text with what it says.
-    fn keep(&mut self, text: &'a str, own: (Nanos, Shared<ShortText>))
-        requires { duration_said text.now ≡ Ok (duration own.0 own.1) }
-        ensures { self.new ≡ Some own }
+    fn keep(&mut self, text: &'a str, nanos: Nanos, title: &'a str)
+        requires { duration_said text.now ≡ Ok (duration nanos title.now) }
+        ensures { self.new ≡ Some (nanos, title.now) }
     {
         self.text = text;
-        self.said = Some(own);
+        self.is_said = true;
+        self.nanos = nanos;
+        self.title = title;
         self.is_due = true;
         self.is_repeated = false;
         self.line = None;
@@ -163,33 +139,32 @@ impl<'a> Durations<'a> {
     #[inline(never)]
     fn read_other(&mut self, text: &'a str) -> Result<(), FaultKind>
         ensures due { OnOk result (IsDue text.now self.new) }
-        ensures err { IfErr result (λ e. RefusesByPlaylistFault e (duration_said text.now)) }
-        ensures told { Tells result (duration_said text.now) }
+        ensures err { IfErr result (λ e. duration_said text.now ≡ Err e) }
         ensures kept { OnErr result (self.new ≡ self.old) }
     {
-        let own = self.parse(text)?;
-        self.keep(text, own);
-        Ok(())
+        match self.seconds.read(text) {
+            Ok((nanos, title)) => {
+                self.keep(text, nanos, title);
+                Ok(())
+            }
+            Err(fault) => Err(fault),
+        }
     }
 
     /// Reads the duration and the title that `text`, the value of EXTINF, states for the next segment (RFC 8216,
-    /// section 4.3.2.1). `BadDuration` if it states none, `OutOfMemory` only if an allocation fails; all is then as
-    /// it was.
+    /// section 4.3.2.1). `BadDuration` if it states none; all is then as it was. Takes no memory.
     #[inline]
     pub fn read(&mut self, text: &'a str) -> Result<(), FaultKind>
         ensures due { OnOk result (IsDue text.now self.new) }
-        ensures err { IfErr result (λ e. RefusesByPlaylistFault e (duration_said text.now)) }
-        ensures told { Tells result (duration_said text.now) }
+        ensures err { IfErr result (λ e. duration_said text.now ≡ Err e) }
         ensures kept { OnErr result (self.new ≡ self.old) }
     {
-        match &self.said {
-            Some(_) if text == self.text => {
-                self.is_due = true;
-                self.is_repeated = true;
-                Ok(())
-            }
-            _ => self.read_other(text),
+        if self.is_said && text == self.text {
+            self.is_due = true;
+            self.is_repeated = true;
+            return Ok(());
         }
+        self.read_other(text)
     }
 
     /// Whether `keep_line` may keep a line: the last two stated the same. It has no contract, since `keep_line` looks
@@ -204,7 +179,7 @@ impl<'a> Durations<'a> {
         requires { IsLineOf line.now stated.now }
         ensures { self.new ≡ self.old }
     {
-        if self.said.is_some() && stated == self.text {
+        if self.is_said && stated == self.text {
             self.line = Some(line);
         }
     }
@@ -230,15 +205,14 @@ impl<'a> Durations<'a> {
     }
 
     /// The duration and the title that the next segment has.
-    #[inline]
-    pub fn own(&self) -> Result<Option<(Nanos, Shared<ShortText>)>, AllocError>
-        ensures value { IfOk result (λ own. own ≡ self.now) }
-        ensures none { self.now ≡ None → result ≡ Ok None }
+    #[inline(always)]
+    pub fn own(&self) -> Option<(Nanos, &'a str)>
+        ensures { own_of result ≡ self.now }
     {
-        match &self.said {
-            Some((nanos, title)) if self.is_due => Ok(Some((*nanos, title.clone()?))),
-            _ => Ok(None),
+        if self.is_due && self.is_said {
+            return Some((self.nanos, self.title));
         }
+        None
     }
 
     /// The segment ends: the next one has none yet.

@@ -2,16 +2,15 @@
 //! to what RFC 8216 says by looking back over the lines before.
 #![tactic(auto)]
 
-ghost use Rattle.std.specs.Prelude.{◌≡◌, ◌+◌, ◌^◌, ◌<◌, ◌≤◌, [], map, Some, None, Ok, Err, IfOk, MatchOption, nat_lt, length};
+ghost use Rattle.std.specs.Prelude.{◌≡◌, ◌+◌, ◌++◌, ◌^◌, ◌<◌, ◌≤◌, [], ◌∷◌, Some, None, Ok, Err, MatchOption, OnErr, OnOk, nat_lt, length};
 ghost use Rattle.std.specs.Option.{SomeIff};
 ghost use Rattle.playlist_model.specs.LookBack.{byte_range_from, byte_range_after, extent_with};
 ghost use Rattle.playlist_model.specs.Reading.{limited, said_by_uri};
-ghost use Rattle.playlist_model.specs.EffectiveKeys.{effective_key};
 ghost use Rattle.playlist_model.specs.Said as said;
 ghost use Rattle.spec_words.specs.Outcomes.{Tells};
 ghost use Rattle.playlist_model.specs.Said.{uri_of, duration_said};
 ghost use Rattle.playlist_model.specs.Refusals.{GivesOrPlaylistFault};
-ghost use Rattle.segment_state.specs.Running.{running_at, SayingLeadsTo, TakesTag, TakesTagExactly, TakesSegment};
+ghost use Rattle.segment_state.specs.Running.{unread, ReadsOne, SayingLeadsTo, TakesTag, TakesTagExactly, TakesSegment};
 ghost use Rattle.segment_state.specs.Inner.Running.{after_uri_line, segment_from};
 ghost use Rattle.segment_state.specs.Views.{extent_after};
 ghost use Rattle.segment_state.specs.Repeated.{IsLineOf, IsRepeated};
@@ -23,8 +22,8 @@ use crate::tags::{byte_range_of, init_section_said, key_said};
 use date_times::TimeReader;
 use fixed_duration::Nanos;
 use playlist_model::{
-    ByteRange, FaultKind, InitSection, Instant, KeyTag, Keys, MAX_SEGMENTS, Segment, Shared,
-    ShortText, is_iv_needed,
+    ByteRange, FaultKind, GrowingSegments, InitSection, Instant, KeyTag, Keys, MAX_SEGMENTS,
+    SegmentParts, SegmentSlice, Segments, Shared, ShortText, is_iv_needed,
 };
 use std::alloc::{AllocError, Global};
 use std::marker::Model;
@@ -58,10 +57,10 @@ pub struct ReaderState<'a> {
     discontinuities: u64,
     byte_range: Option<(u64, Option<u64>)>,
     program_date_time: Option<Instant>,
-    keys: Keys,
-    init_section: Option<Shared<InitSection>>,
     times: TimeReader,
     last: Option<Part>,
+    // The segments that were read, with the keys and the initialisation section in force.
+    segments: GrowingSegments,
 }
 
 impl<'a> Model for ReaderState<'a> {
@@ -80,12 +79,12 @@ impl<'a> Model for ReaderState<'a> {
 impl<'a> ReaderState<'a> {
     /// The state before any line of a playlist whose references are resolved against `base`.
     pub fn new(alloc: Global, base: &'a Base) -> ReaderState<'a>
-        ensures { result ≡ running_at base.now [] }
+        ensures { result ≡ unread base.now }
     {
         ReaderState {
             alloc,
             references: References::new(alloc, base),
-            durations: Durations::new(alloc),
+            durations: Durations::new(),
             media_sequence: 0,
             discontinuity_sequence: 0,
             media_count: 0,
@@ -93,16 +92,16 @@ impl<'a> ReaderState<'a> {
             discontinuities: 0,
             byte_range: None,
             program_date_time: None,
-            keys: Keys::none(),
-            init_section: None,
             times: TimeReader::new(),
             last: None,
+            segments: GrowingSegments::new(alloc),
         }
     }
 
     /// Sets the Media Sequence Number of the first segment to `number` (RFC 8216, section 4.3.3.2).
     pub fn sequence(&mut self, number: u64)
-        ensures { SayingLeadsTo (said.sequence number) self.old self.new }
+        ensures takes { SayingLeadsTo (said.sequence number) self.old self.new }
+        ensures segments { self.new.segments ≡ self.old.segments }
     {
         self.media_sequence = number;
     }
@@ -110,7 +109,8 @@ impl<'a> ReaderState<'a> {
     /// Sets the Discontinuity Sequence Number before any discontinuity to `number` (RFC 8216, section 4.3.3.3).
     pub fn discontinuity_sequence(&mut self, number: u64)
         requires { self.old.standing.discontinuity_count ≡ 0 }
-        ensures { SayingLeadsTo (said.discontinuity_sequence number) self.old self.new }
+        ensures takes { SayingLeadsTo (said.discontinuity_sequence number) self.old self.new }
+        ensures segments { self.new.segments ≡ self.old.segments }
     {
         self.discontinuity_sequence = number;
     }
@@ -125,7 +125,8 @@ impl<'a> ReaderState<'a> {
     /// A discontinuity before the next segment (4.3.2.3). `BadValue` if its number passes 2^64 - 1. Takes no
     /// memory.
     pub fn discontinuity(&mut self) -> Result<(), FaultKind>
-        ensures { TakesTagExactly said.discontinuity_tag [] self.old self.new result }
+        ensures takes { TakesTagExactly said.discontinuity_tag [] self.old self.new result }
+        ensures segments { self.new.segments ≡ self.old.segments }
     {
         let Some(total) = self.discontinuity_count.checked_add(1) else {
             return Err(FaultKind::BadValue);
@@ -145,6 +146,7 @@ impl<'a> ReaderState<'a> {
 
         // The fault is answered whatever memory there is.
         ensures told { Tells result (duration_said rest.now) }
+        ensures segments { self.new.segments ≡ self.old.segments }
     {
         self.durations.read(rest)
     }
@@ -170,8 +172,9 @@ impl<'a> ReaderState<'a> {
     /// `duration_tag` would, and gives what is left after it (RFC 8216, section 4.3.2.1). Takes no memory.
     #[inline(always)]
     pub fn duration_again(&mut self, left: &'a str) -> Option<&'a str>
-        ensures { MatchOption result (self.new ≡ self.old)
+        ensures again { MatchOption result (self.new ≡ self.old)
             (λ later. IsRepeated left.now later.now self.old self.new) }
+        ensures segments { self.new.segments ≡ self.old.segments }
     {
         self.durations.again(left)
     }
@@ -181,11 +184,15 @@ impl<'a> ReaderState<'a> {
     /// METHOD, URI, IV and KEYFORMAT, `BadUri`, `TooMany` if 17 formats would be in force; `OutOfMemory` only if an
     /// allocation fails.
     pub fn key_tag(&mut self, rest: &str) -> Result<(), FaultKind>
-        ensures { TakesTag said.key_tag rest.now self.old self.new result }
+        ensures takes { TakesTag said.key_tag rest.now self.old self.new result }
+        ensures segments { self.new.segments ≡ self.old.segments }
     {
         match key_said(self.alloc, self.references.base(), rest)? {
-            KeyTag::End => self.keys = Keys::none(),
-            KeyTag::Set(key) => self.keys = keys_with(self.alloc, &self.keys, key)?,
+            KeyTag::End => self.segments.set_keys(Keys::none()),
+            KeyTag::Set(key) => {
+                let keys = keys_with(self.alloc, self.segments.keys(), key)?;
+                self.segments.set_keys(keys);
+            }
         }
         Ok(())
     }
@@ -195,25 +202,29 @@ impl<'a> ReaderState<'a> {
     /// `MissingAttribute` or `BadAttributes` for URI, `BadAttributes` or `BadRange` for BYTERANGE, `BadUri`,
     /// `MapWithoutIv` if a key of METHOD AES-128 has no IV; `OutOfMemory` only if an allocation fails.
     pub fn init_section_tag(&mut self, rest: &str) -> Result<(), FaultKind>
-        ensures { TakesTag said.init_section_tag rest.now self.old self.new result }
+        ensures takes { TakesTag said.init_section_tag rest.now self.old self.new result }
+        ensures segments { self.new.segments ≡ self.old.segments }
     {
         let tag = init_section_said(self.alloc, self.references.base(), rest)?;
-        if is_iv_needed(&self.keys) {
+        let keys = self.segments.keys().clone()?;
+        if is_iv_needed(&keys.lent()) {
             return Err(FaultKind::MapWithoutIv);
         }
         let init_section = InitSection {
             uri: tag.uri,
             byte_range: tag.byte_range,
-            keys: self.keys.clone()?,
+            keys,
         };
-        self.init_section = Some(Shared::new(self.alloc, init_section)?);
+        let shared = Shared::new(self.alloc, init_section)?;
+        self.segments.set_init_section(Some(shared));
         Ok(())
     }
 
     /// Takes `rest`, the value of EXT-X-BYTERANGE: the byte range of the next segment, in bytes (RFC 8216, section
     /// 4.3.2.2). `BadRange` if it states none, or its end passes 2^64 - 1. Takes no memory.
     pub fn byte_range_tag(&mut self, rest: &str) -> Result<(), FaultKind>
-        ensures { TakesTagExactly said.byte_range_tag rest.now self.old self.new result }
+        ensures takes { TakesTagExactly said.byte_range_tag rest.now self.old self.new result }
+        ensures segments { self.new.segments ≡ self.old.segments }
     {
         self.byte_range = Some(byte_range_of(rest)?);
         Ok(())
@@ -222,7 +233,8 @@ impl<'a> ReaderState<'a> {
     /// Takes `rest`, the value of EXT-X-PROGRAM-DATE-TIME: the instant at which the next segment begins (RFC 8216,
     /// section 4.3.2.6). Of several, the last counts. `BadTime` if it states none. Takes no memory.
     pub fn time_tag(&mut self, rest: &str) -> Result<(), FaultKind>
-        ensures { TakesTagExactly said.time_tag rest.now self.old self.new result }
+        ensures takes { TakesTagExactly said.time_tag rest.now self.old self.new result }
+        ensures segments { self.new.segments ≡ self.old.segments }
     {
         let Ok(instant) = self.times.read(rest) else {
             return Err(FaultKind::BadTime);
@@ -266,51 +278,42 @@ impl<'a> ReaderState<'a> {
         self.discontinuity_sequence + self.discontinuity_count
     }
 
-    // The keys of the segment of this number (RFC 8216, section 5.2).
+    // Lists the next segment, of the resource whose URI is these two texts, of this byte range, and of this duration with this
+    // title. Fails only if an allocation fails.
     #[inline(always)]
-    fn keys_of(&self, number: u64) -> Result<Keys, AllocError>
-        ensures { IfOk result (λ keys. keys ≡ map (effective_key number) self.now.standing.keys) }
-    {
-        self.keys.under(number)
-    }
-
-    // The initialisation section in force.
-    fn init_section(&self) -> Result<Option<Shared<InitSection>>, AllocError>
-        ensures { IfOk result (λ init_section. init_section ≡ self.now.standing.init_section) }
-    {
-        self.init_section.clone()
-    }
-
-    // The next segment, of this resource, byte range, and duration with its title, under these keys and this
-    // initialisation section. It can't fail, so that the segment is made where it stays.
-    #[inline(always)]
-    fn segment_here(
-        &self,
+    fn list(
+        &mut self,
         number: u64,
-        uri: ShortText,
+        uri_front: &str,
+        uri_rest: &str,
         byte_range: Option<ByteRange>,
-        own: (Nanos, Shared<ShortText>),
-        keys: Keys,
-        init_section: Option<Shared<InitSection>>,
-    ) -> Segment
-        requires number { number ≡ self.now.standing.media_sequence + self.now.standing.media_count }
-        requires keys { keys ≡ map (effective_key number) self.now.standing.keys }
-        requires init_section { init_section ≡ self.now.standing.init_section }
-        ensures { result ≡ segment_from self.now.standing uri byte_range own }
+        duration: Nanos,
+        title: &str,
+    ) -> Result<(), AllocError>
+        requires { number ≡ self.old.standing.media_sequence + self.old.standing.media_count }
+        ensures listed { OnOk result
+            (self.new ≡ record self.old {
+              segments = self.old.segments
+                  ++ segment_from self.old.standing (uri_front.now ++ uri_rest.now) byte_range (duration, title.now) ∷ [];
+            }) }
+        ensures refused { OnErr result (self.new ≡ self.old) }
     {
-        let (duration, title) = own;
-        Segment {
+        let (discontinuity_sequence, discontinuities) = (
+            self.discontinuity_number(),
+            self.discontinuities,
+        );
+        let program_date_time = self.program_date_time;
+        self.segments.push(&SegmentParts {
             media_sequence: number,
-            discontinuity_sequence: self.discontinuity_number(),
-            discontinuities: self.discontinuities,
-            uri,
+            discontinuity_sequence,
+            discontinuities,
+            uri_front,
+            uri_rest,
             byte_range,
-            keys,
-            init_section,
             duration,
             title,
-            program_date_time: self.program_date_time,
-        }
+            program_date_time,
+        })
     }
 
     // What holds after a URI line, of whose segment this part is kept: a segment's own tags end with it (RFC 8216,
@@ -330,11 +333,12 @@ impl<'a> ReaderState<'a> {
         }
     }
 
-    /// The segment of the URI line `reference` (RFC 8216, sections 4.3.2 and 5.2), which takes the tags of one
+    /// Lists the segment of the URI line `reference` (RFC 8216, sections 4.3.2 and 5.2), which takes the tags of one
     /// segment.
     ///
     /// The faults, in this order: `TooMany` past 10,000 segments, `NoDuration`, `BadValue` if its media sequence
-    /// number passes 2^64 - 1, `BadUri`, `RangeNoStart`, `BadRange`; `OutOfMemory` only if an allocation fails.
+    /// number passes 2^64 - 1, `BadUri`, `RangeNoStart`, `BadRange`; `OutOfMemory` only if an allocation fails, or the
+    /// segments' texts have 2^32 bytes or more.
     ///
     /// ```text
     /// let mut state = ReaderState::new(alloc, &base);
@@ -342,9 +346,11 @@ impl<'a> ReaderState<'a> {
     /// state.take_segment("s0.ts")    Ok: 6 s of base/s0.ts, with the number 0
     /// state.take_segment("s1.ts")    Err(FaultKind::NoDuration)
     /// ```
-    pub fn take_segment(&mut self, reference: &str) -> Result<Segment, FaultKind>
+    pub fn take_segment(&mut self, reference: &str) -> Result<(), FaultKind>
         ensures takes { TakesSegment
             (λ base before. said_by_uri limited base before reference.now) self.old self.new result }
+        ensures one { OnOk result (ReadsOne self.old.segments self.new.segments) }
+        ensures refused { OnErr result (self.new.segments ≡ self.old.segments) }
 
         // These two faults are answered whatever memory there is.
         ensures full { self.old.standing.media_count ≡ MAX_SEGMENTS
@@ -355,60 +361,127 @@ impl<'a> ReaderState<'a> {
         if self.is_full() {
             return Err(FaultKind::TooMany);
         }
-        let Some(own) = self.durations.own()? else {
+        let Some((duration, title)) = self.durations.own() else {
             return Err(FaultKind::NoDuration);
         };
         let Some(number) = self.next_number() else {
             return Err(FaultKind::BadValue);
         };
         if self.byte_range.is_some() {
-            return self.take_part(number, reference, own);
+            return self.take_part(number, reference, duration, title);
         }
-        let uri = self.references.resolve(reference)?;
-        let keys = self.keys_of(number)?;
-        let init_section = self.init_section()?;
-        let segment = self.segment_here(number, uri, None, own, keys, init_section);
-        self.segment_stands(None);
-        Ok(segment)
+        let Some(front) = self.references.front_of(reference) else {
+            return self.take_other(number, reference, duration, title);
+        };
+        self.take_joined(number, front, reference, duration, title)
     }
 
-    // The segment of the URI line `reference` if it is a part of its resource. Out of line, since most segments are
-    // whole resources, and what a function holds is cleared at each call.
+    // The same of a segment whose resource is a text before its reference.
+    #[inline(always)]
+    fn take_joined(
+        &mut self,
+        number: u64,
+        front: &str,
+        reference: &str,
+        duration: Nanos,
+        title: &str,
+    ) -> Result<(), FaultKind>
+        requires fits { self.old.standing.media_count < MAX_SEGMENTS }
+        requires number { number
+            ≡ self.old.standing.media_sequence + self.old.standing.media_count }
+        requires own { self.old.standing.duration ≡ Some (duration, title.now) }
+        requires whole { self.old.standing.byte_range ≡ None }
+        requires joined { uri_of self.old.base reference.now ≡ Ok (front.now ++ reference.now) }
+        ensures takes { TakesSegment
+            (λ base before. said_by_uri limited base before reference.now) self.old self.new result }
+        ensures one { OnOk result (ReadsOne self.old.segments self.new.segments) }
+        ensures refused { OnErr result (self.new.segments ≡ self.old.segments) }
+    {
+        self.list(number, front, reference, None, duration, title)?;
+        self.segment_stands(None);
+        Ok(())
+    }
+
+    // The same of a segment before whose reference nothing is just put. Out of line, since few are so.
+    #[inline(never)]
+    fn take_other(
+        &mut self,
+        number: u64,
+        reference: &str,
+        duration: Nanos,
+        title: &str,
+    ) -> Result<(), FaultKind>
+        requires fits { self.old.standing.media_count < MAX_SEGMENTS }
+        requires number { number
+            ≡ self.old.standing.media_sequence + self.old.standing.media_count }
+        requires own { self.old.standing.duration ≡ Some (duration, title.now) }
+        requires whole { self.old.standing.byte_range ≡ None }
+        ensures takes { TakesSegment
+            (λ base before. said_by_uri limited base before reference.now) self.old self.new result }
+        ensures one { OnOk result (ReadsOne self.old.segments self.new.segments) }
+        ensures refused { OnErr result (self.new.segments ≡ self.old.segments) }
+    {
+        let uri = self.references.resolve(reference)?;
+        self.list(number, uri.as_str(), "", None, duration, title)?;
+        self.segment_stands(None);
+        Ok(())
+    }
+
+    // The same of a segment that is a part of its resource. Out of line, since most segments are whole resources.
     #[inline(never)]
     fn take_part(
         &mut self,
         number: u64,
         reference: &str,
-        own: (Nanos, Shared<ShortText>),
-    ) -> Result<Segment, FaultKind>
+        duration: Nanos,
+        title: &str,
+    ) -> Result<(), FaultKind>
         requires fits { self.old.standing.media_count < MAX_SEGMENTS }
         requires number { number
             ≡ self.old.standing.media_sequence + self.old.standing.media_count }
-        requires own { self.old.standing.duration ≡ Some own }
-        ensures { TakesSegment
+        requires own { self.old.standing.duration ≡ Some (duration, title.now) }
+        ensures takes { TakesSegment
             (λ base before. said_by_uri limited base before reference.now) self.old self.new result }
+        ensures one { OnOk result (ReadsOne self.old.segments self.new.segments) }
+        ensures refused { OnErr result (self.new.segments ≡ self.old.segments) }
     {
         let uri = self.references.resolve_part(reference)?;
         let byte_range = self.next_byte_range(uri.as_str())?;
-        let keys = self.keys_of(number)?;
-        let init_section = self.init_section()?;
-        let segment = self.segment_here(number, uri, byte_range, own, keys, init_section);
-        let last = last_part(&segment)?;
-        self.segment_stands(last);
-        Ok(segment)
+        self.list(number, uri.as_str(), "", byte_range, duration, title)?;
+        self.segment_stands(last_part(uri, byte_range));
+        Ok(())
+    }
+
+    /// The segments that were read, lent.
+    pub fn segments(&self) -> SegmentSlice<'_>
+        ensures { result ≡ self.now.segments }
+    {
+        self.segments.as_slice()
+    }
+
+    /// How many segments were read.
+    pub fn segment_count(&self) -> usize
+        ensures { result ≡ length self.now.segments }
+    {
+        self.segments.len()
+    }
+
+    /// The list of the segments that were read.
+    pub fn into_segments(self) -> Segments
+        ensures { result ≡ self.entry.segments }
+    {
+        self.segments.into_segments()
     }
 }
 
-// What is kept of a segment for the next one's byte range, if it is a part of its resource (4.3.2.2).
-fn last_part(segment: &Segment) -> Result<Option<Part>, AllocError>
-    ensures { IfOk result
-        (λ last. extent_after last ≡ extent_with segment.now.uri segment.now.byte_range) }
+// What is kept of a segment of this resource for the next one's byte range, if it is a part of it (4.3.2.2).
+fn last_part(uri: ShortText, byte_range: Option<ByteRange>) -> Option<Part>
+    ensures { extent_after result ≡ extent_with uri byte_range }
 {
-    let Some(byte_range) = segment.byte_range else {
-        return Ok(None);
-    };
-    let uri = segment.uri.clone()?;
-    Ok(Some(Part { uri, byte_range }))
+    match byte_range {
+        Some(byte_range) => Some(Part { uri, byte_range }),
+        None => None,
+    }
 }
 
 // The byte range of `length` bytes that states no offset: it follows `last`, the one before, if that is of the same

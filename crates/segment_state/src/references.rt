@@ -1,5 +1,6 @@
 //! The references of a playlist, resolved against its base (RFC 3986, section 5).
-ghost use Rattle.std.specs.Prelude.{◌≡◌};
+ghost use Rattle.std.specs.Prelude.{◌≡◌, ◌++◌, Ok, IfSome};
+ghost use Rattle.std.specs.Option.{option_copied};
 ghost use Rattle.playlist_model.specs.Said.{uri_of};
 ghost use Rattle.playlist_model.specs.Refusals.{GivesOrPlaylistFault};
 
@@ -55,9 +56,19 @@ impl<'a> References<'a> {
         self.base
     }
 
+    /// What stands before `reference` in the resource that it names, if that is just put before it, as for most (RFC
+    /// 3986, section 5). Takes no memory.
+    #[inline(always)]
+    pub fn front_of(&self, reference: &str) -> Option<&'a str>
+        ensures { IfSome (option_copied result)
+            (λ front. uri_of self.now reference.now ≡ Ok (front ++ reference.now)) }
+    {
+        let base = self.base;
+        base.front_of(reference)
+    }
+
     /// The resource that `reference` names (RFC 8216, section 4.1). `BadUri` if it can't be resolved; `OutOfMemory`
     /// only if an allocation fails.
-    #[inline(always)]
     pub fn resolve(&self, reference: &str) -> Result<ShortText, FaultKind>
         ensures { GivesOrPlaylistFault (λ uri. uri) result (uri_of self.now reference.now) }
     {

@@ -35,7 +35,7 @@ impl Model for Stop {
 fn are_equal_keys(one: &Keys, other: &Keys) -> bool
     ensures { result ≡ true → one.now ≡ other.now }
 {
-    are_same_keys(one, other)
+    are_same_keys(&one.lent(), &other.lent())
 }
 
 #[tactic(auto, using(crate::proofs::EqualParts::some_init_section))]
@@ -119,8 +119,8 @@ impl<'a> ReaderState<'a> {
         Ok(Some(Stop {
             number,
             discontinuity: self.discontinuity_number(),
-            keys: self.keys.clone()?,
-            init_section: self.init_section()?,
+            keys: self.segments.keys().clone()?,
+            init_section: self.segments.init_section().clone()?,
             last: copied_part(&self.last)?,
         }))
     }
@@ -141,10 +141,10 @@ impl<'a> ReaderState<'a> {
         if self.discontinuity_number() != stop.discontinuity {
             return false;
         }
-        if !are_equal_keys(&self.keys, &stop.keys) {
+        if !are_equal_keys(self.segments.keys(), &stop.keys) {
             return false;
         }
-        if !are_equal_init_sections(&self.init_section, &stop.init_section) {
+        if !are_equal_init_sections(self.segments.init_section(), &stop.init_section) {
             return false;
         }
         are_equal_parts(&self.last, &stop.last)
@@ -170,8 +170,8 @@ impl<'a> ReaderState<'a> {
         self.durations.end();
         self.byte_range = None;
         self.program_date_time = None;
-        self.keys = keys;
-        self.init_section = init_section;
+        self.segments.set_keys(keys);
+        self.segments.set_init_section(init_section);
         self.last = last;
     }
 

@@ -11,7 +11,7 @@ use Rattle.playlist_model.specs.declared.DateRange.{DateRange}
 use Rattle.pod_store.specs.Marks.{Mark, Marked}
 use Rattle.channel_spec.specs.Live as live
 use Rattle.live_channel.specs.Channel.{Given, decided, withdrawn, refreshed, events_of}
-use Rattle.playlist_model.specs.declared.Segment.{Segment}
+use Rattle.playlist_model.specs.Segments.{Segment}
 use Rattle.playlist_model.specs.declared.Key.{Key}
 use Rattle.read_is_writable.specs.Limits.{line_keeps}
 use Rattle.read_is_writable.specs.Read.{uri_reads, quoted_uri_reads, numbers_read, segment_reads, segment_can_be_written, uris_are_text}

@@ -2,7 +2,7 @@
 use Rattle.std.proofs.Common.{◌≡◌, ◌+◌, List, [], ◌∷◌, ◌++◌, map, refl, ap, sym, ◌∙◌, append_assoc, drop, length, arith, length-append}
 use Rattle.std.specs.Prelude.{Option, Some, None, MatchOption}
 use Rattle.std.proofs.lemmas.List.{append-nil, length-map}
-use Rattle.playlist_model.specs.declared.Segment.{Segment}
+use Rattle.playlist_model.specs.Segments.{Segment}
 use Rattle.stitcher.specs.Stitched.{Numbers}
 use Rattle.stitcher.specs.declared.OutSegment.{OutSegment}
 use Rattle.stitcher.specs.declared.marked.MarkedSegment.{MarkedSegment}
@@ -44,6 +44,10 @@ last_stretch before after s ads e f g =
     ads_moved before after s ads e f ∙ (ap (λ (k : List MarkedSegment). (stretches_items before ++ map ad_item ads) ++ segment_items s.numbers k) g ∙ append-nil (stretches_items before ++ map ad_item ads))
 
 -- ---- the end of a stretch
+
+pub none_of_ads : (ads : List Segment) (n : Numbers) (kept : List MarkedSegment) → map ad_item ads ++ segment_items n kept ≡ [] → length ads ≡ 0
+none_of_ads [] n kept h = refl
+none_of_ads (s ∷ ads) n kept h = cc
 
 pub none_kept : (ads : List Segment) (n : Numbers) (kept : List MarkedSegment) → map ad_item ads ++ segment_items n kept ≡ [] → length kept ≡ 0
 none_kept [] n [] h = refl

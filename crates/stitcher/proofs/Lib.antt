@@ -1,3 +1,4 @@
+pub mod Ads
 pub mod TagLaws
 pub mod Putting
 pub mod Counting

@@ -1,13 +1,14 @@
 -- What a list comes to when pieces are put after it.
-use Rattle.std.proofs.Common.{◌≡◌, Bool, true, false, List, [], ◌∷◌, ◌++◌, refl, ap, sym, ◌∙◌, append_assoc, length, arith}
+use Rattle.std.proofs.Common.{◌≡◌, Bool, true, false, List, [], ◌∷◌, ◌++◌, refl, ap, sym, subst, ◌∙◌, append_assoc, length, arith}
 use Rattle.std.specs.Prelude.{◌&&◌}
 use Rattle.std.specs.List.{list_all}
 use Rattle.std.proofs.lemmas.List.{append-nil}
 use Rattle.std.proofs.lemmas.List.Folds.{list_all-append}
+use Rattle.pod_store.specs.Pods.{Ad}
 use Rattle.stitcher.specs.Stitched.{Piece, Numbers}
 use Rattle.stitcher.specs.Written.{written_segment}
 use Rattle.stitcher.specs.StitchedSegments.{item_fits}
-use Rattle.stitcher.specs.Inner.Making.{Made, numbers_fit, numbers_after, origin_discontinuity, comes_to, PutsPieces, Passes, pushed}
+use Rattle.stitcher.specs.Inner.Making.{Made, numbers_fit, numbers_after, origin_discontinuity, comes_to, PutsPieces, Passes, pushed, under_ad}
 
 false_and : (a b c : Bool) → a ≡ true → b ≡ true → (a && (b && true)) ≡ true
 false_and true true c p q = refl
@@ -32,6 +33,9 @@ pub record Walks (old new : Made) (all rest : List Piece) : Type 0 where
 
 pub walks_none : (made : Made) (all : List Piece) → Walks made made all all
 walks_none made all = record { first = refl; comes = λ later. refl; fit = λ h. h }
+
+pub walks_under : (old begun : Made) (ad : Ad) (all : List Piece) → begun ≡ under_ad old ad → Walks old begun all all
+walks_under old begun ad all e = subst (λ (made : Made). Walks old made all all) (sym e) (record { first = refl; comes = λ later. refl; fit = λ h. h })
 
 pub walks_on : (old mid new : Made) (all pieces rest : List Piece) → Walks old mid all (pieces ++ rest) → PutsPieces mid new pieces → Walks old new all rest
 walks_on old mid new all pieces rest w p = grind (arith, append_assoc)

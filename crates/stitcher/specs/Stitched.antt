@@ -1,7 +1,7 @@
 -- The stitched list: the origin's segments with each marked run replaced by its pod, and the numbers of its
 -- items (RFC 8216, sections 4.3.2.3, 4.3.3.2, 4.3.3.3). Each list has the newest first, the window apart.
 use Rattle.std.specs.Prelude.{ℕ, ◌+◌, ◌-◌, ◌^◌, Bool, true, false, ◌&&◌, nat_lt, List, [], ◌∷◌, ◌++◌, map, reverse, take, length, ℤ, Option, Some, None, option_map, is_none, if◌then◌else◌}
-use Rattle.playlist_model.specs.declared.Segment.{Segment}
+use Rattle.playlist_model.specs.Segments.{Segment}
 use Rattle.playlist_model.specs.declared.Key.{Key}
 use Rattle.playlist_model.specs.declared.InitSection.{InitSection}
 use Rattle.pod_store.specs.Pods.{PodSegment, Ad}

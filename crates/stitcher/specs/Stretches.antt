@@ -1,7 +1,7 @@
 -- A stitched list as it is held: stretches, each of ads' segments and of the segments that are kept after them.
-use Rattle.std.specs.Prelude.{◌≡◌, ℕ, ◌-◌, ◌≤◌, true, List, [], ◌∷◌, ◌++◌, length, map, None}
+use Rattle.std.specs.Prelude.{◌≡◌, ℕ, ◌-◌, ◌≤◌, true, List, [], ◌∷◌, ◌++◌, length, map, Option, Some, None}
 use Rattle.std.specs.List.{list_all}
-use Rattle.playlist_model.specs.declared.Segment.{Segment}
+use Rattle.playlist_model.specs.Segments.{Segment}
 use Rattle.stitcher.specs.Stitched.{Numbers, next_numbers}
 use Rattle.stitcher.specs.StitchedSegments.{item_fits}
 use Rattle.stitcher.specs.declared.OutSegment.{OutSegment}
@@ -35,9 +35,14 @@ abbrev pub stretches_items : List Stretch → List OutSegment
 stretches_items [] = []
 stretches_items (s ∷ later) = stretch_items s ++ stretches_items later
 
+-- what is left of the ads' segments of a stretch; nothing before the first stretch
+abbrev pub ads_left : Option (List Segment) → List Segment
+ads_left None = []
+ads_left (Some ads) = ads
+
 -- what is left of the stretch at which a walk is, and all that is left
 abbrev pub here_items : Cursor → List OutSegment
-here_items c = map ad_item c.ads.now ++ segment_items c.numbers c.kept.now
+here_items c = map ad_item (ads_left c.ads) ++ segment_items c.numbers c.kept.now
 
 abbrev pub left_items : Cursor → List OutSegment
 left_items c = here_items c ++ stretches_items c.later.now

@@ -6,10 +6,10 @@ ghost use Rattle.playlist_model.specs.Same.{same_key};
 ghost use Rattle.stitcher.specs.KeyTags.{is_new_key, keeps_formats, transition, after_tags};
 
 use crate::StitchFault;
-use playlist_model::{KeyRef, KeyTag, Keys, is_same_key};
+use playlist_model::{KeyRef, KeyTag, KeysRef, is_same_key};
 use std::alloc::{AllocError, Global};
 
-fn has_format(keys: &Keys, format: &str) -> bool
+fn has_format(keys: &KeysRef<'_>, format: &str) -> bool
     ensures { result ≡ list_any (has_format format.now) keys.now }
 {
     for key in keys.iter() {
@@ -21,7 +21,7 @@ fn has_format(keys: &Keys, format: &str) -> bool
 }
 
 // Whether `new` has the formats of `old` in front, each at its place.
-fn has_formats_in_front(old: &Keys, new: &Keys) -> bool
+fn has_formats_in_front(old: &KeysRef<'_>, new: &KeysRef<'_>) -> bool
     ensures { result ≡ true → keeps_formats old.now new.now ≡ true }
 {
     let mut others = new.iter();
@@ -36,7 +36,7 @@ fn has_formats_in_front(old: &Keys, new: &Keys) -> bool
     true
 }
 
-fn keeps_each_format(old: &Keys, new: &Keys) -> bool
+fn keeps_each_format(old: &KeysRef<'_>, new: &KeysRef<'_>) -> bool
     ensures { result ≡ keeps_formats old.now new.now }
 {
     for key in old.iter() {
@@ -49,14 +49,14 @@ fn keeps_each_format(old: &Keys, new: &Keys) -> bool
 
 /// Whether each format among the keys `old` is one among `new` too. If not, the tags between them state METHOD=NONE
 /// (RFC 8216, section 4.3.2.4).
-pub fn keeps_formats(old: &Keys, new: &Keys) -> bool
+pub fn keeps_formats(old: &KeysRef<'_>, new: &KeysRef<'_>) -> bool
     ensures { result ≡ keeps_formats old.now new.now }
 {
     // Mostly each format is compared with one other alone: long ones cost much.
     has_formats_in_front(old, new) || keeps_each_format(old, new)
 }
 
-fn is_among(keys: &Keys, key: &KeyRef<'_>) -> bool
+fn is_among(keys: &KeysRef<'_>, key: &KeyRef<'_>) -> bool
     ensures { result ≡ list_any (same_key key.now) keys.now }
 {
     for other in keys.iter() {
@@ -68,7 +68,7 @@ fn is_among(keys: &Keys, key: &KeyRef<'_>) -> bool
 }
 
 /// Whether `key` is not one of `keys`, in all its parts.
-pub fn is_new_key(keys: &Keys, key: &KeyRef<'_>) -> bool
+pub fn is_new_key(keys: &KeysRef<'_>, key: &KeyRef<'_>) -> bool
     ensures { result ≡ is_new_key keys.now key.now }
 {
     !is_among(keys, key)
@@ -81,7 +81,11 @@ fn tag_of(key: &KeyRef<'_>) -> Result<KeyTag, AllocError>
 }
 
 // A tag for each key that is not among the old ones as it is.
-fn tags_of_new(alloc: Global, old: &Keys, new: &Keys) -> Result<Vec<KeyTag>, AllocError>
+fn tags_of_new(
+    alloc: Global,
+    old: &KeysRef<'_>,
+    new: &KeysRef<'_>,
+) -> Result<Vec<KeyTag>, AllocError>
     ensures { IfOk result
         (λ tags. tags.items ≡ map KeyTag.Set (filter (is_new_key old.now) new.now)) }
 {
@@ -95,7 +99,7 @@ fn tags_of_new(alloc: Global, old: &Keys, new: &Keys) -> Result<Vec<KeyTag>, All
 }
 
 // The end of all keys, and a tag for each of these.
-fn tags_after_end(alloc: Global, keys: &Keys) -> Result<Vec<KeyTag>, AllocError>
+fn tags_after_end(alloc: Global, keys: &KeysRef<'_>) -> Result<Vec<KeyTag>, AllocError>
     ensures { IfOk result (λ tags. tags.items ≡ KeyTag.End ∷ map KeyTag.Set keys.now) }
 {
     let mut tags = Vec::new(alloc);
@@ -106,7 +110,11 @@ fn tags_after_end(alloc: Global, keys: &Keys) -> Result<Vec<KeyTag>, AllocError>
     Ok(tags)
 }
 
-fn tags_between(alloc: Global, old: &Keys, new: &Keys) -> Result<Vec<KeyTag>, AllocError>
+fn tags_between(
+    alloc: Global,
+    old: &KeysRef<'_>,
+    new: &KeysRef<'_>,
+) -> Result<Vec<KeyTag>, AllocError>
     ensures { IfOk result (λ tags. tags.items ≡ transition old.now new.now) }
 {
     if keeps_formats(old, new) {
@@ -118,7 +126,11 @@ fn tags_between(alloc: Global, old: &Keys, new: &Keys) -> Result<Vec<KeyTag>, Al
 /// The key tags that lead from the keys `old` to the keys `new`, each sorted by format with one key for each (RFC
 /// 8216, section 4.3.2.4). If a format ends: METHOD=NONE, and every key of `new`; else each key of `new` that isn't
 /// in `old`. `OutOfMemory` only if an allocation fails.
-pub fn transition(alloc: Global, old: &Keys, new: &Keys) -> Result<Vec<KeyTag>, StitchFault>
+pub fn transition(
+    alloc: Global,
+    old: &KeysRef<'_>,
+    new: &KeysRef<'_>,
+) -> Result<Vec<KeyTag>, StitchFault>
     ensures tags { IfOk result (λ tags. tags.items ≡ transition old.now new.now) }
 
     // It counts nothing.

@@ -1,7 +1,7 @@
 //! What is put into a playlist: segments with their numbers, runs replaced by their pods, and the key tags between them.
 #![tactic(auto)]
 
-use playlist_model::Instant;
+use playlist_model::{Instant, SegmentRef};
 
 mod copies;
 mod ends;
@@ -10,7 +10,6 @@ mod key_tags;
 pub mod laws;
 mod making;
 mod marked;
-mod segment_ref;
 mod stitched_list;
 mod text_ref;
 
@@ -19,7 +18,6 @@ pub use fault::StitchFault;
 pub use key_tags::{is_new_key, keeps_formats, transition};
 pub use making::{goes_on, is_same_run, stitch};
 pub use marked::{MarkedSegment, Numbers, SharedMark};
-pub use segment_ref::SegmentRef;
 pub use stitched_list::{StitchedItems, StitchedList};
 pub use text_ref::TextRef;
 

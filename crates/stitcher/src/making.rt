@@ -1,23 +1,23 @@
 //! The stitched list of marked segments, as it is made.
-ghost use Rattle.std.specs.Prelude.{◌≡◌, ◌++◌, ◌<◌, ◌≤◌, ◌^◌, Bool, true, false, List, [], ◌∷◌, map, take, drop, length, None, OnOk, IfOk, IfErr, option_map};
+ghost use Rattle.std.specs.Prelude.{◌≡◌, ◌<◌, ◌≤◌, ◌^◌, Bool, true, false, [], ◌∷◌, map, take, drop, length, None, OnOk, IfOk, IfErr};
 ghost use Rattle.std.specs.List.{list_all};
 ghost use Rattle.pod_store.specs.Marks.{Mark};
-ghost use Rattle.pod_store.specs.Pods.{Pod};
-ghost use Rattle.stitcher.specs.Stitched.{ad_piece, ad_pieces, next_numbers, pieces_of_ads, with_keys};
+ghost use Rattle.pod_store.specs.Rules.{ad_keeps};
+ghost use Rattle.stitcher.specs.Stitched.{ad_piece, ad_pieces, next_numbers, pieces_of_ads};
 ghost use Rattle.stitcher.specs.StitchedSegments.{AreDecided, KnowRuns, KnowsRun, RefusesNumber, item_fits, stitched_segments};
 ghost use Rattle.pod_store.specs.Store.{pod_for};
-ghost use Rattle.playlist_model.specs.Numbering.{segment_numbers};
 ghost use Rattle.stitcher.specs.Making.{is_same_run, unmarked_piece, pod_with};
-ghost use Rattle.stitcher.specs.Inner.Making.{Passes, PutsPieces, after_front, front_pieces, goes_on_to_last, kept_on, last_of_run, numbers_fit, numbers_with, part_after, part_after_one, part_at, part_here, pieces_in_part, pushed, pieces_of_rest, shows_next, steps_from, unmarked_front, whole_from};
+ghost use Rattle.stitcher.specs.Inner.Making.{IsUnder, Passes, PutsPieces, after_front, front_pieces, goes_on_to_last, kept_on, last_of_run, nothing_made, numbers_fit, numbers_with, part_after, part_after_one, part_at, part_here, pieces_in_part, pushed, pieces_of_rest, shows_next, steps_from, under_ad, unmarked_front, whole_from};
 ghost use Rattle.stitcher.specs.Stretches.{segment_items};
+ghost use Rattle.stitcher.specs.Written.{written_segment};
 
-use crate::copies::{AdParts, ad_parts, ad_segment};
+use crate::copies::ad_init_section;
 use crate::ends::{Ends, Rest};
 use crate::fault::StitchFault;
 use crate::marked::{MarkedSegment, Numbers};
 use crate::stitched_list::{StitchedList, Stretch};
 use fixed_duration::Nanos;
-use playlist_model::{Items, Segment, Shared, Text};
+use playlist_model::{GrowingSegments, SegmentParts, Shared, Text};
 use pod_store::{Ad, Pod, PodSegment, PodStore};
 use std::alloc::{AllocError, Global};
 use std::marker::Model;
@@ -52,7 +52,7 @@ pub struct Stitching<'a> {
     last: Option<Last>,
     stretches: Vec<Stretch<'a>>,
     // The segments of ads after the last stretch.
-    ads: Vec<Segment>,
+    ads: GrowingSegments,
 }
 
 impl<'a> Model for Stitching<'a> {
@@ -62,7 +62,7 @@ impl<'a> Model for Stitching<'a> {
 
     ghost Value = { Made };
 
-    ghost view = { λ a. record { first = a.first; last = a.last; items = stretches_items a.stretches.items ++ map ad_item a.ads.items } };
+    ghost view = { λ a. record { first = a.first; last = a.last; items = stretches_items a.stretches.items ++ map ad_item a.ads.segments; keys = a.ads.keys; init_section = a.ads.init_section } };
 }
 
 fn numbers_of(media: u64, discontinuity: u64, steps: u64) -> Numbers
@@ -111,15 +111,19 @@ fn last_of_run(
     let mut here = first;
     let mut rest = later;
     while let Some((next, later)) = rest.split_first() {
-        let before = here.segment.discontinuity_sequence;
-        let steps = next.segment.discontinuity_sequence.saturating_sub(before);
+        let before = here.segment.get().discontinuity_sequence();
+        let steps = next
+            .segment
+            .get()
+            .discontinuity_sequence()
+            .saturating_sub(before);
         numbers = next_numbers(numbers, steps)?;
         here = next;
         rest = later;
     }
     Ok(Last {
         numbers,
-        origin: Some(here.segment.discontinuity_sequence),
+        origin: Some(here.segment.get().discontinuity_sequence()),
     })
 }
 
@@ -236,13 +240,13 @@ fn part_at(ends: &Ends, mark: &Option<Shared<Text>>, later: &[MarkedSegment]) ->
 impl<'a> Stitching<'a> {
     // An empty list.
     fn new(alloc: Global, first: Numbers) -> Stitching<'a>
-        ensures { result ≡ record { first = first; last = None; items = [] } }
+        ensures { result ≡ nothing_made first }
     {
         Stitching {
             first,
             last: None,
             stretches: Vec::new(alloc),
-            ads: Vec::new(alloc),
+            ads: GrowingSegments::new(alloc),
         }
     }
 
@@ -275,17 +279,35 @@ impl<'a> Stitching<'a> {
         }
     }
 
-    fn push_ad(&mut self, segment: Segment) -> Result<(), StitchFault>
-        ensures ok { OnOk result
-            (self.new ≡ pushed self.old segment None (segment_numbers segment) None) }
+    // From here on the segments of ads are those of `ad`.
+    fn begin_ad(&mut self, alloc: Global, ad: &Ad) -> Result<(), StitchFault>
+        ensures ok { OnOk result (self.new ≡ under_ad self.old ad.now) }
         ensures err { IfErr result (λ e. e ≡ StitchFault.OutOfMemory) }
     {
-        let numbers = numbers_of(
-            segment.media_sequence,
-            segment.discontinuity_sequence,
-            segment.discontinuities,
-        );
-        self.ads.push(segment)?;
+        self.ads.set_keys(ad.keys.clone()?);
+        self.ads.set_init_section(ad_init_section(alloc, ad)?);
+        Ok(())
+    }
+
+    // Puts a segment of the ad at the end, with these numbers. It has no time of its own.
+    fn push_ad(&mut self, segment: &PodSegment, numbers: Numbers) -> Result<(), StitchFault>
+        ensures ok { OnOk result
+            ((mark : Mark) (first : Bool) (ad : Ad) → IsUnder self.old ad → self.new
+            ≡ pushed self.old (written_segment (ad_piece mark first ad segment.now) numbers) None numbers None) }
+        ensures under { OnOk result ((ad : Ad) → IsUnder self.old ad → IsUnder self.new ad) }
+        ensures err { IfErr result (λ e. e ≡ StitchFault.OutOfMemory) }
+    {
+        self.ads.push(&SegmentParts {
+            media_sequence: numbers.media_sequence,
+            discontinuity_sequence: numbers.discontinuity_sequence,
+            discontinuities: numbers.discontinuities,
+            uri_front: segment.uri.as_str(),
+            uri_rest: "",
+            byte_range: segment.byte_range,
+            duration: segment.duration,
+            title: "",
+            program_date_time: None,
+        })?;
         self.last = Some(Last {
             numbers,
             origin: None,
@@ -304,11 +326,9 @@ impl<'a> Stitching<'a> {
         ensures ok { OnOk result (self.new ≡ kept_on self.old kept.now numbers last) }
         ensures err { IfErr result (λ e. e ≡ StitchFault.OutOfMemory) }
     {
-        let mut ads = mem::replace(&mut self.ads, Vec::new(alloc));
-        // The list stands as long as the playlist is written: room that nothing takes is given back.
-        ads.shrink_to_fit();
+        let ads = mem::replace(&mut self.ads, GrowingSegments::new(alloc));
         self.stretches.push(Stretch {
-            ads: Items::from_vec(ads),
+            ads: ads.into_segments(),
             kept,
             numbers,
         })?;
@@ -326,7 +346,7 @@ impl<'a> Stitching<'a> {
         let Some((first, later)) = kept.split_first() else {
             return Ok(());
         };
-        let steps = self.steps_to(first.segment.discontinuity_sequence);
+        let steps = self.steps_to(first.segment.get().discontinuity_sequence());
         let numbers = self.numbers_with(steps)?;
         let last = last_of_run(numbers, first, later)?;
         self.push_kept(alloc, kept, numbers, last)
@@ -374,59 +394,44 @@ impl<'a> Stitching<'a> {
         Ok(left)
     }
 
-    // Puts `segment`, one of `ad`, at the end, after a discontinuity if it is the `first` of its ad (RFC 8216,
+    // Puts `segment`, one of the ad, at the end, after a discontinuity if it is the `first` of its ad (RFC 8216,
     // section 4.3.2.3).
-    fn put_segment(
-        &mut self,
-        alloc: Global,
-        ad: &Ad,
-        parts: &AdParts,
-        segment: &PodSegment,
-        first: bool,
-    ) -> Result<(), StitchFault>
-        requires fits { numbers_fit self.old.first ≡ true }
-        requires parts { parts.now ≡ option_map (with_keys ad.now.keys) ad.now.init_section }
+    fn put_segment(&mut self, segment: &PodSegment, first: bool) -> Result<(), StitchFault>
+        requires { numbers_fit self.old.first ≡ true }
         ensures ok { OnOk result
-            ((mark : Mark)
-            → PutsPieces self.old self.new (ad_piece mark first ad.now segment.now ∷ [])) }
+            ((mark : Mark) (ad : Ad) → IsUnder self.old ad
+            → PutsPieces self.old self.new (ad_piece mark first ad segment.now ∷ [])) }
+        ensures under { OnOk result ((ad : Ad) → IsUnder self.old ad → IsUnder self.new ad) }
         ensures err { IfErr result
-            (λ e. RefusesNumber e ((mark : Mark)
-            → Passes self.old (ad_piece mark first ad.now segment.now ∷ []))) }
+            (λ e. RefusesNumber e ((mark : Mark) (ad : Ad)
+            → Passes self.old (ad_piece mark first ad segment.now ∷ []))) }
     {
         let numbers = self.numbers_with(u64::from(first))?;
-        let segment = ad_segment(alloc, ad, parts, segment, numbers)?;
-        self.push_ad(segment)
+        self.push_ad(segment, numbers)
     }
 
-    // Puts a segment of an ad at the end, if it is shown. Answers the part of those after it.
-    fn offer(
-        &mut self,
-        alloc: Global,
-        ad: &Ad,
-        parts: &AdParts,
-        segment: &PodSegment,
-        first: bool,
-        part: &Part,
-    ) -> Result<Part, StitchFault>
-        requires fits { numbers_fit self.old.first ≡ true }
-        requires parts { parts.now ≡ option_map (with_keys ad.now.keys) ad.now.init_section }
+    // Puts a segment of the ad at the end, if it is shown. Answers the part of those after it.
+    fn offer(&mut self, segment: &PodSegment, first: bool, part: &Part) -> Result<Part, StitchFault>
+        requires { numbers_fit self.old.first ≡ true }
         ensures ok { OnOk result
-            ((mark : Mark) → PutsPieces self.old self.new
-            (part_here part.now (ad_piece mark first ad.now segment.now))) }
+            ((mark : Mark) (ad : Ad) → IsUnder self.old ad
+            → PutsPieces self.old self.new (part_here part.now (ad_piece mark first ad segment.now))) }
+        ensures under { OnOk result ((ad : Ad) → IsUnder self.old ad → IsUnder self.new ad) }
         ensures part { IfOk result (λ after. after ≡ part_after_one part.now segment.now.duration) }
         ensures err { IfErr result
-            (λ e. RefusesNumber e ((mark : Mark)
-            → Passes self.old (part_here part.now (ad_piece mark first ad.now segment.now)))) }
+            (λ e. RefusesNumber e ((mark : Mark) (ad : Ad)
+            → Passes self.old (part_here part.now (ad_piece mark first ad segment.now)))) }
     {
         if !shows_next(part) {
             return Ok(part_after(part, segment.duration));
         }
-        self.put_segment(alloc, ad, parts, segment, first)?;
+        self.put_segment(segment, first)?;
         Ok(part_after(part, segment.duration))
     }
 
     fn put_ad(&mut self, alloc: Global, ad: &Ad, part: Part) -> Result<Part, StitchFault>
-        requires { numbers_fit self.old.first ≡ true }
+        requires fits { numbers_fit self.old.first ≡ true }
+        requires rules { ad_keeps ad.now ≡ true }
         ensures ok { OnOk result
             ((mark : Mark) → PutsPieces self.old self.new
             (pieces_in_part part (ad_pieces mark ad.now ad.now.segments))) }
@@ -437,14 +442,14 @@ impl<'a> Stitching<'a> {
             (λ e. RefusesNumber e ((mark : Mark)
             → Passes self.old (pieces_in_part part (ad_pieces mark ad.now ad.now.segments)))) }
     {
-        let parts = ad_parts(alloc, ad)?;
         let Some((first, later)) = ad.segments.as_slice().split_first() else {
             return Ok(part);
         };
-        let mut left = self.offer(alloc, ad, &parts, first, true, &part)?;
+        self.begin_ad(alloc, ad)?;
+        let mut left = self.offer(first, true, &part)?;
         let mut rest = later;
         while let Some((segment, later)) = rest.split_first() {
-            left = self.offer(alloc, ad, &parts, segment, false, &left)?;
+            left = self.offer(segment, false, &left)?;
             rest = later;
         }
         Ok(left)
@@ -563,7 +568,7 @@ impl<'a> Stitching<'a> {
             ads,
         } = self;
         stretches.push(Stretch {
-            ads: Items::from_vec(ads),
+            ads: ads.into_segments(),
             kept: &[],
             numbers: first,
         })?;

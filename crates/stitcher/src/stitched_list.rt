@@ -1,15 +1,14 @@
 //! A stitched list. It holds no item: each is made when it is asked for.
-ghost use Rattle.std.specs.Prelude.{◌≡◌, ◌∷◌, ◌+◌, ◌^◌, nat_le, ◌<◌, ◌≤◌, [], drop, length, true, MatchOption, IfSome, IfOk};
+ghost use Rattle.std.specs.Prelude.{◌≡◌, ◌==◌, ◌∷◌, ◌+◌, ◌^◌, nat_le, ◌<◌, ◌≤◌, [], drop, length, true, MatchOption, IfSome, IfOk};
 ghost use Rattle.std.specs.List.{list_all};
 ghost use Rattle.stitcher.specs.StitchedSegments.{item_fits};
 ghost use Rattle.stitcher.specs.Inner.Making.{numbers_fit};
 ghost use Rattle.stitcher.specs.Inner.Cuts.{stretches_within, left_from};
-ghost use Rattle.stitcher.specs.Stretches.{ad_item, here_items, kept_item, left_items, numbers_on, stretch_items, stretches_items};
+ghost use Rattle.stitcher.specs.Stretches.{ad_item, ads_left, here_items, kept_item, left_items, numbers_on, stretch_items, stretches_items};
 
 use crate::OutSegment;
 use crate::marked::{MarkedSegment, Numbers};
-use crate::segment_ref::SegmentRef;
-use playlist_model::{Items, Segment};
+use playlist_model::{SegmentRef, SegmentSlice, Segments};
 use std::alloc::AllocError;
 use std::marker::Model;
 
@@ -17,7 +16,7 @@ use std::marker::Model;
 #[derive(Drop)]
 pub(crate) struct Stretch<'a> {
     /// The ads' segments, which repeat the numbers that are written.
-    pub ads: Items<Segment>,
+    pub ads: Segments,
     /// The kept segments.
     pub kept: &'a [MarkedSegment],
     /// The numbers of the first of those.
@@ -27,22 +26,23 @@ pub(crate) struct Stretch<'a> {
 // A place in a list of stretches.
 #[derive(Drop)]
 struct Cursor<'a> {
-    ads: &'a [Segment],
+    // What is left of the segments of ads; none before the first stretch.
+    ads: Option<SegmentSlice<'a>>,
     kept: &'a [MarkedSegment],
     numbers: Numbers,
     later: &'a [Stretch<'a>],
 }
 
 #[inline(always)]
-fn ad_item(segment: &Segment) -> OutSegment<'_>
-    ensures { result ≡ ad_item segment.now }
+fn ad_item(segment: SegmentRef<'_>) -> OutSegment<'_>
+    ensures { result ≡ ad_item segment.entry }
 {
     OutSegment {
-        segment: SegmentRef::new(segment),
-        media_sequence: segment.media_sequence,
-        discontinuity_sequence: segment.discontinuity_sequence,
-        discontinuities: segment.discontinuities,
+        media_sequence: segment.media_sequence(),
+        discontinuity_sequence: segment.discontinuity_sequence(),
+        discontinuities: segment.discontinuities(),
         program_date_time: None,
+        segment,
     }
 }
 
@@ -51,7 +51,7 @@ fn kept_item<'a>(numbers: &Numbers, marked: &'a MarkedSegment) -> OutSegment<'a>
     ensures { result ≡ kept_item numbers.now marked.now }
 {
     OutSegment {
-        segment: SegmentRef::new(&marked.segment),
+        segment: marked.segment.get(),
         media_sequence: numbers.media_sequence,
         discontinuity_sequence: numbers.discontinuity_sequence,
         discontinuities: numbers.discontinuities,
@@ -68,12 +68,39 @@ fn numbers_on(numbers: &Numbers, here: &MarkedSegment, later: &[MarkedSegment]) 
     let Some(next) = later.first() else {
         return *numbers;
     };
-    let before = here.segment.discontinuity_sequence;
-    let steps = next.segment.discontinuity_sequence.saturating_sub(before);
+    let before = here.segment.get().discontinuity_sequence();
+    let steps = next
+        .segment
+        .get()
+        .discontinuity_sequence()
+        .saturating_sub(before);
     Numbers {
         media_sequence: numbers.media_sequence + 1,
         discontinuity_sequence: numbers.discontinuity_sequence + steps,
         discontinuities: steps,
+    }
+}
+
+// Whether no segment of an ad is left.
+#[inline(always)]
+fn is_past(ads: &Option<SegmentSlice<'_>>) -> bool
+    ensures { result ≡ (length (ads_left ads.now) == 0) }
+{
+    match ads {
+        Some(ads) => ads.len() == 0,
+        None => true,
+    }
+}
+
+// The first of the ads' segments that are left, and those after it.
+#[inline(always)]
+fn next_ad<'a>(ads: &Option<SegmentSlice<'a>>) -> Option<(SegmentRef<'a>, SegmentSlice<'a>)>
+    ensures { MatchOption result (ads_left ads.now ≡ [])
+        (λ parts. ads_left ads.now ≡ parts.0 ∷ parts.1) }
+{
+    match ads {
+        Some(ads) => ads.split_first(),
+        None => None,
     }
 }
 
@@ -83,12 +110,12 @@ fn open_stretch<'a>(cursor: &mut Cursor<'a>)
     ensures same { left_items cursor.new ≡ left_items cursor.old }
     ensures open { here_items cursor.new ≡ [] → left_items cursor.new ≡ [] }
 {
-    while cursor.ads.is_empty() && cursor.kept.is_empty() {
+    while is_past(&cursor.ads) && cursor.kept.is_empty() {
         let stretches = cursor.later;
         let [stretch, later @ ..] = stretches else {
             return;
         };
-        cursor.ads = stretch.ads.as_slice();
+        cursor.ads = Some(stretch.ads.as_slice());
         cursor.kept = stretch.kept;
         cursor.numbers = stretch.numbers;
         cursor.later = later;
@@ -103,9 +130,8 @@ fn next_here<'a>(cursor: &mut Cursor<'a>) -> Option<OutSegment<'a>>
         (λ item. here_items cursor.old ≡ item ∷ here_items cursor.new) }
     ensures later { cursor.new.later.now ≡ cursor.old.later.now }
 {
-    let ads = cursor.ads;
-    if let Some((segment, later)) = ads.split_first() {
-        cursor.ads = later;
+    if let Some((segment, later)) = next_ad(&cursor.ads) {
+        cursor.ads = Some(later);
         return Some(ad_item(segment));
     }
     let kept = cursor.kept;
@@ -166,7 +192,7 @@ fn items_of<'a>(stretches: &'a [Stretch<'a>]) -> StitchedItems<'a>
 {
     StitchedItems {
         cursor: Cursor {
-            ads: &[],
+            ads: None,
             kept: &[],
             numbers: Numbers::zero(),
             later: stretches,

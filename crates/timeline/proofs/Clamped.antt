@@ -1,7 +1,7 @@
 -- Walking back over segments.
 use Rattle.std.proofs.Common.{◌≡◌, List, [], ◌∷◌, ◌++◌, refl, ap, ℤ}
 use Rattle.std.specs.Prelude.{Option, None}
-use Rattle.playlist_model.specs.declared.Segment.{Segment}
+use Rattle.playlist_model.specs.Segments.{Segment}
 use Rattle.timeline.specs.Inner.Reckoned.{Walked}
 
 pub begun : (segments : List Segment) (stack : List (Option ℤ)) → stack ≡ [] → Walked segments segments stack None

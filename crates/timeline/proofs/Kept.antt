@@ -4,7 +4,7 @@ use Rattle.std.specs.Prelude.{Option, None, option_map, is_none}
 use Rattle.std.specs.List.{list_all}
 use Rattle.std.proofs.lemmas.Bool.{and_parts}
 use Rattle.std.proofs.lemmas.List.{same_from_push}
-use Rattle.playlist_model.specs.declared.Segment.{Segment}
+use Rattle.playlist_model.specs.Segments.{Segment}
 use Rattle.playlist_model.specs.Instants.{reckoned_back}
 use Rattle.timeline.specs.Inner.Reckoned.{is_unstated}
 use Rattle.timeline.specs.Reckoned.{clamped, reckoned, stack_of, IsKeptStack}

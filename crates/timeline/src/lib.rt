@@ -6,11 +6,12 @@ ghost use Rattle.std.specs.List.{list_all};
 ghost use Rattle.std.specs.Option.{is_some};
 ghost use Rattle.playlist_model.specs.Instants.{bounded, instants_after};
 ghost use Rattle.playlist_model.specs.LookBack.{or_earlier};
+ghost use Rattle.playlist_model.specs.Segments.{Segment};
 ghost use Rattle.timeline.specs.Reckoned.{clamped, reckoned, stack_of, IsKeptStack};
 ghost use Rattle.timeline.specs.Inner.Reckoned.{is_unstated};
 
 use date_times::FIRST_INSTANT;
-use playlist_model::{Instant, Segment};
+use playlist_model::{Instant, SegmentRef, SegmentSlice};
 use std::alloc::{AllocError, Global};
 use std::marker::Model;
 
@@ -40,69 +41,83 @@ fn earlier(nanos: i128, duration: u64) -> i128
 }
 
 // The first time that is stated from this segment on, less the durations before it.
-fn reckoned_here(segment: &Segment, after: Option<i128>) -> Option<i128>
+fn reckoned_here(segment: &SegmentRef<'_>, after: Option<i128>) -> Option<i128>
     ensures { result
         ≡ option_map clamped (or_earlier segment.now.program_date_time (option_map
         (λ nanos. nanos -ℤ pos segment.now.duration) after)) }
 {
-    if let Some(time) = segment.program_date_time {
+    if let Some(time) = segment.program_date_time() {
         return Some(i128::from(time.0).max(FIRST_INSTANT - 1));
     }
     match after {
-        Some(nanos) => Some(earlier(nanos, segment.duration.0)),
+        Some(nanos) => Some(earlier(nanos, segment.duration().0)),
         None => None,
     }
 }
 
 // When a segment begins (RFC 8216, section 4.3.2.6): at its stated time, else when the one before it ended, else
 // back from the first time that is stated later.
-fn begins_at(ended: Option<i128>, segment: &Segment, reckoned: Option<i128>) -> OptionalInstant
+fn begins_at(
+    ended: Option<i128>,
+    segment: &SegmentRef<'_>,
+    reckoned: Option<i128>,
+) -> OptionalInstant
     ensures { result
         ≡ bounded (or_earlier segment.now.program_date_time (or_earlier ended reckoned)) }
 {
-    OptionalInstant::from_nanos(nanos_of(segment.program_date_time).or(ended).or(reckoned))
+    OptionalInstant::from_nanos(nanos_of(segment.program_date_time()).or(ended).or(reckoned))
 }
 
 // Whether a segment states its time or follows one that begins somewhere, so that nothing is reckoned back for it.
 #[inline(always)]
-fn is_told(segment: &Segment, ended: &Option<i128>) -> bool
+fn is_told(segment: &SegmentRef<'_>, ended: &Option<i128>) -> bool
     ensures { result ≡ (is_some segment.now.program_date_time || is_some ended.now) }
 {
-    segment.program_date_time.is_some() || ended.is_some()
+    segment.program_date_time().is_some() || ended.is_some()
 }
 
 // For each segment the first time that is stated from it on, less the durations before it: the first
 // segment's stands last.
-fn reckoned_stack(alloc: Global, segments: &[Segment]) -> Result<Vec<Option<i128>>, AllocError>
+fn reckoned_stack(
+    alloc: Global,
+    segments: &SegmentSlice<'_>,
+) -> Result<Vec<Option<i128>>, AllocError>
     ensures { IfOk result (λ v. v.items ≡ stack_of segments.now) }
 {
     let mut stack = Vec::with_capacity(alloc, segments.len())?;
     let mut after: Option<i128> = None;
-    let mut rest = segments;
+    let mut rest = segments.again();
     while let Some((segment, before)) = rest.split_last() {
-        after = reckoned_here(segment, after);
+        after = reckoned_here(&segment, after);
         stack.push(after)?;
         rest = before;
     }
     Ok(stack)
 }
 
-fn is_unstated(segment: &Segment) -> bool
+fn is_unstated(segment: &SegmentRef<'_>) -> bool
     ensures { result ≡ is_unstated segment.now }
 {
-    segment.program_date_time.is_none()
+    segment.program_date_time().is_none()
 }
 
 // Whether none of these segments states its time.
-fn are_unstated(segments: &[Segment]) -> bool
+fn are_unstated(segments: &SegmentSlice<'_>) -> bool
     ensures { result ≡ list_all is_unstated segments.now }
 {
-    segments.iter().all(|segment| is_unstated(segment))
+    let mut rest = segments.again();
+    while let Some((segment, later)) = rest.split_first() {
+        if !is_unstated(&segment) {
+            return false;
+        }
+        rest = later;
+    }
+    true
 }
 
 #[tactic(auto, using(crate::proofs::Kept::unstated_kept, crate::proofs::Kept::stack_kept))]
 // What is kept of these segments. In most playlists either the first states its time or none does, and then no memory is taken.
-fn kept_of(alloc: Global, segments: &[Segment]) -> Result<Vec<Option<i128>>, AllocError>
+fn kept_of(alloc: Global, segments: &SegmentSlice<'_>) -> Result<Vec<Option<i128>>, AllocError>
     ensures { IfOk result (λ v. IsKeptStack v.items segments.now) }
 {
     if are_unstated(segments) {
@@ -130,7 +145,7 @@ fn pop_reckoned(kept: &mut Vec<Option<i128>>) -> Option<i128>
 pub struct Beginnings<'a> {
     alloc: Global,
     ended: Option<i128>,
-    segments: &'a [Segment],
+    segments: SegmentSlice<'a>,
     // What is kept of the segments that are left, once one of them needed what is reckoned back.
     kept: Option<Vec<Option<i128>>>,
 }
@@ -142,9 +157,9 @@ impl<'a> Model for Beginnings<'a> {
 
     ghost Value = { List (Option ℤ) };
 
-    ghost view = { λ a. instants_after a.ended a.segments.now };
+    ghost view = { λ a. instants_after a.ended a.segments };
 
-    ghost invariant = { λ a. IfSome (option_map (λ v. v.items) a.kept) (λ items. IsKeptStack items a.segments.now) };
+    ghost invariant = { λ a. IfSome (option_map (λ v. v.items) a.kept) (λ items. IsKeptStack items a.segments) };
 }
 
 impl<'a> Beginnings<'a> {
@@ -157,8 +172,8 @@ impl<'a> Beginnings<'a> {
     /// the segments' durations and times, with `ended` None:    6 s; 6 s, 12:00:06; 4 s
     /// their instants:                                          12:00:00, 12:00:06, 12:00:12
     /// ```
-    pub fn new(alloc: Global, ended: Option<i128>, segments: &'a [Segment]) -> Beginnings<'a>
-        ensures { result ≡ instants_after ended segments.now }
+    pub fn new(alloc: Global, ended: Option<i128>, segments: SegmentSlice<'a>) -> Beginnings<'a>
+        ensures { result ≡ instants_after ended segments.entry }
     {
         Beginnings {
             alloc,
@@ -176,19 +191,19 @@ impl<'a> Beginnings<'a> {
             (λ begun. self.old ≡ begun ∷ self.new)) }
         ensures refused { IfErr result (λ _. self.new ≡ self.old) }
     {
-        let (segments, ended) = (self.segments, self.ended);
-        let Some((segment, later)) = segments.split_first() else {
+        let ended = self.ended;
+        let Some((segment, later)) = self.segments.split_first() else {
             return Ok(None);
         };
-        if self.kept.is_none() && !is_told(segment, &ended) {
-            self.kept = Some(kept_of(self.alloc, segments)?);
+        if self.kept.is_none() && !is_told(&segment, &ended) {
+            self.kept = Some(kept_of(self.alloc, &self.segments)?);
         }
         let reckoned = match &mut self.kept {
             Some(kept) => pop_reckoned(kept),
             None => None,
         };
-        let begun = begins_at(ended, segment, reckoned);
-        self.ended = begun.end(segment.duration);
+        let begun = begins_at(ended, &segment, reckoned);
+        self.ended = begun.end(segment.duration());
         self.segments = later;
         Ok(Some(begun))
     }

@@ -144,9 +144,10 @@ impl Base {
         })
     }
 
-    // What stands before this reference, if it is plain.
+    /// What stands before `reference` in the URI that it is under this base, if that is just put before it: then the
+    /// reference is a plain one (RFC 3986, section 5). Takes no memory.
     #[inline(always)]
-    fn base_front(&self, reference: &str) -> Option<&str>
+    pub fn front_of(&self, reference: &str) -> Option<&str>
         ensures { IfSome (option_copied result)
             (λ front. resolved self.now reference.now ≡ Some (front ++ reference.now)) }
     {
@@ -193,7 +194,7 @@ impl Base {
             (λ text. resolved self.now reference.now ≡ Some (string_bytes text))
             (λ e. RefusesUri e (resolved self.now reference.now)) }
     {
-        if let Some(front) = self.base_front(reference) {
+        if let Some(front) = self.front_of(reference) {
             return Ok(join_texts(self.alloc, front, reference)?);
         }
         self.resolve_other(reference)
@@ -206,7 +207,7 @@ impl Base {
         ensures { MatchResult result (λ text. resolved self.now reference.now ≡ Some text)
             (λ e. RefusesUri e (resolved self.now reference.now)) }
     {
-        if let Some(front) = self.base_front(reference) {
+        if let Some(front) = self.front_of(reference) {
             return Ok(ShortText::join(self.alloc, front, reference)?);
         }
         Ok(ShortText::from_string(self.resolve_other(reference)?))

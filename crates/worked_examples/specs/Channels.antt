@@ -1,6 +1,6 @@
 -- Which playlist may follow which, and what a channel owes after decisions and refreshes.
 use Rattle.std.specs.Prelude.{ℕ, zero, suc, length, ◌+◌, ◌*◌, ◌==◌, Bool, true, false, List, [], ◌∷◌, ◌++◌, map, codes, ℤ, pos, Option, Some, None, option_map, if◌then◌else◌}
-use Rattle.playlist_model.specs.declared.Segment.{Segment}
+use Rattle.playlist_model.specs.Segments.{Segment}
 use Rattle.playlist_model.specs.declared.Playlist.{Playlist}
 use Rattle.playlist_model.specs.declared.PlaylistKind.{PlaylistKind}
 use Rattle.playlist_model.specs.declared.PlaylistKind.TheVariants.{Event, Vod}

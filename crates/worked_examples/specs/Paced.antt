@@ -1,6 +1,6 @@
 -- Pods at the pace of their runs, and fallbacks: what is written after decisions and refreshes, the newest of which stands first.
 use Rattle.std.specs.Prelude.{ℕ, zero, suc, ◌+◌, ◌*◌, ◌==◌, Bool, true, false, List, [], ◌∷◌, ◌++◌, map, codes, ℤ, pos, ◌+ℤ◌, Option, Some, None, option_map, Err, if◌then◌else◌}
-use Rattle.playlist_model.specs.declared.Segment.{Segment}
+use Rattle.playlist_model.specs.Segments.{Segment}
 use Rattle.playlist_model.specs.declared.Playlist.{Playlist}
 use Rattle.playlist_model.specs.declared.DateRange.{DateRange}
 use Rattle.pod_store.specs.Pods.{Pod}

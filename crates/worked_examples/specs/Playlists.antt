@@ -5,7 +5,7 @@ use Rattle.playlist_model.specs.declared.FaultKind.TheVariants as fault
 use Rattle.playlist_model.specs.declared.PlaylistFault.{PlaylistFault}
 use Rattle.playlist_model.specs.declared.PlaylistKind.TheVariants.{Event}
 use Rattle.playlist_model.specs.declared.Playlist.{Playlist}
-use Rattle.playlist_model.specs.declared.Segment.{Segment}
+use Rattle.playlist_model.specs.Segments.{Segment}
 use Rattle.playlist_model.specs.declared.Key.{Key}
 use Rattle.playlist_model.specs.declared.InitSection.{InitSection}
 use Rattle.playlist_model.specs.Said as said

@@ -6,7 +6,7 @@ ghost use Rattle.writable.specs.Fitting.{if_some, byte_range_fits, iv_fits, othe
 
 use crate::texts::{is_clean, quoted_uri_fits, value_fits};
 use playlist_model::{
-    ByteRange, InitSection, KeyRef, Keys, KeysIter, OtherAttributes, is_iv_needed,
+    ByteRange, InitSection, KeyRef, KeysIter, KeysRef, OtherAttributes, is_iv_needed,
 };
 
 /// Whether `byte_range` ends below byte 2^64 (RFC 8216, section 4.3.2.2), if there is one.
@@ -54,7 +54,7 @@ fn key_fits(key: &KeyRef<'_>) -> bool
         && others_fit(key.other_attributes())
 }
 
-fn all_fit(keys: &Keys) -> bool
+fn all_fit(keys: &KeysRef<'_>) -> bool
     ensures { result ≡ list_all key_fits keys.now }
 {
     for key in keys.iter() {
@@ -76,7 +76,7 @@ fn stands_before(key: &KeyRef<'_>, later: KeysIter<'_>) -> bool
     true
 }
 
-fn are_sorted(keys: &Keys) -> bool
+fn are_sorted(keys: &KeysRef<'_>) -> bool
     ensures { result ≡ are_sorted keys.now }
 {
     let mut later = keys.iter();
@@ -88,7 +88,7 @@ fn are_sorted(keys: &Keys) -> bool
     true
 }
 
-fn keys_fit(keys: &Keys) -> bool
+fn keys_fit(keys: &KeysRef<'_>) -> bool
     ensures { result ≡ keys_fit keys.now }
 {
     all_fit(keys) && are_sorted(keys)
@@ -100,7 +100,7 @@ fn states_iv(key: &KeyRef<'_>) -> bool
     !(key.format() == "identity" && key.iv().is_none())
 }
 
-fn all_state_ivs(keys: &Keys) -> bool
+fn all_state_ivs(keys: &KeysRef<'_>) -> bool
     ensures { result ≡ list_all states_iv keys.now }
 {
     for key in keys.iter() {
@@ -113,7 +113,7 @@ fn all_state_ivs(keys: &Keys) -> bool
 
 /// Whether `keys` can be the keys of a segment: as each can be written, and those of the format `identity` have an IV
 /// (RFC 8216, section 5.2).
-pub fn effective_keys_fit(keys: &Keys) -> bool
+pub fn effective_keys_fit(keys: &KeysRef<'_>) -> bool
     ensures { result ≡ effective_keys_fit keys.now }
 {
     keys_fit(keys) && all_state_ivs(keys)
@@ -124,9 +124,9 @@ pub fn effective_keys_fit(keys: &Keys) -> bool
 pub fn init_section_fits(init_section: &InitSection) -> bool
     ensures { result ≡ init_section_fits init_section.now }
 {
-    let keys = &init_section.keys;
+    let keys = init_section.keys.lent();
     quoted_uri_fits(init_section.uri.as_str())
         && byte_range_fits(init_section.byte_range)
-        && keys_fit(keys)
-        && !is_iv_needed(keys)
+        && keys_fit(&keys)
+        && !is_iv_needed(&keys)
 }

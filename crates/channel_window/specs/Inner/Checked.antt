@@ -1,7 +1,7 @@
 -- What proofs and inner functions say with the definitions of `Checked`.
 use Rattle.std.specs.Prelude.{◌==◌, Bool, List, is_none}
 use Rattle.std.specs.List.{find}
-use Rattle.playlist_model.specs.declared.Segment.{Segment}
+use Rattle.playlist_model.specs.Segments.{Segment}
 use Rattle.channel_spec.specs.Successor.{difference}
 
 -- the segment is as it was among these, or wasn't there

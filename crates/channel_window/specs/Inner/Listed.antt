@@ -1,6 +1,6 @@
 -- What proofs and inner functions say with the definitions of `Listed`.
 use Rattle.std.specs.Prelude.{◌≡◌, ℕ, ◌+◌, ◌-◌, ◌++◌, drop, length, if◌then◌else◌, Some, None, true, Bool, not, nat_lt, map, filter, List, ◌∷◌, [], Option, is_some}
-use Rattle.playlist_model.specs.declared.Segment.{Segment}
+use Rattle.playlist_model.specs.Segments.{Segment}
 use Rattle.playlist_kept.specs.declared.read_playlist.Read.{Read}
 use Rattle.stitcher.specs.Stitched.{Numbers}
 use Rattle.pod_store.specs.Rules.{ads_keep}

@@ -5,7 +5,7 @@ use Rattle.url.specs.Parts.{Parts}
 use Rattle.playlist_model.specs.declared.FaultKind.{FaultKind}
 use Rattle.playlist_model.specs.declared.FaultKind.TheVariants.{OutOfMemory, NoTarget, NoSegments, MixedMaps}
 use Rattle.playlist_model.specs.declared.DateRange.{DateRange}
-use Rattle.playlist_model.specs.declared.Segment.{Segment}
+use Rattle.playlist_model.specs.Segments.{Segment}
 use Rattle.playlist_model.specs.declared.Playlist.{Playlist}
 use Rattle.playlist_model.specs.Refusals.{RefusesByPlaylistFault}
 use Rattle.playlist_model.specs.Said.{Said, Name, Outcome}

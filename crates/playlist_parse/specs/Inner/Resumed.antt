@@ -3,7 +3,7 @@ use Rattle.std.specs.Prelude.{◌≡◌, ℕ, ◌+◌, ◌≤◌, true, List, �
 use Rattle.url.specs.Parts.{Parts}
 use Rattle.playlist_model.specs.declared.Key.{Key}
 use Rattle.playlist_model.specs.declared.InitSection.{InitSection}
-use Rattle.playlist_model.specs.declared.Segment.{Segment}
+use Rattle.playlist_model.specs.Segments.{Segment}
 use Rattle.playlist_model.specs.declared.DateRange.{DateRange}
 use Rattle.playlist_model.specs.Said.{Said, Reader}
 use Rattle.playlist_model.specs.LookBack.{Extent, latest, the_sequence, the_discontinuity_sequence, is_media, count, own_duration, own_byte_range, own_time, media_sequence_at, discontinuity_at, steps_at, keys_at, init_section_at, last_extent, segments_of, date_ranges_of}

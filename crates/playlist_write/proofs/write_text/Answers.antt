@@ -34,7 +34,7 @@ returns-in_err-write_segments-clause-err g c =
     let held = string_bytes c.write_date_ranges.new.held in
     let e = text_from p front c.as_slice.result.now c.items.result c.in_ok-held.ensures c.as_slice.ensures c.items.ensures in
     on_err c.from_residual-in_err-write_segments.result _
-    (front_in_segments _ _ _ front date_ranges held segments end (playlist_text p) e c.in_ok-write_date_ranges.ensures.ok c.in_err-write_segments.ensures.err)
+    (front_in_segments _ _ _ front date_ranges held segments end (playlist_text p) e c.in_ok-write_date_ranges.ensures.ok (rw (c.new-nothing.ensures, c.none-no_keys.ensures) at c.in_err-write_segments.ensures.err))
 
 pub returns-clause-err : goal.returns-clause-err
 returns-clause-err g c =
@@ -47,7 +47,7 @@ returns-clause-err g c =
     let last = string_bytes c.write_segments.new.held in
     let e = text_from p front c.as_slice.result.now c.items.result c.in_ok-held.ensures c.as_slice.ensures c.items.ensures in
     err_with c.write_end.result _ _
-    (front_in_last _ _ _ _ front date_ranges held segments last end (playlist_text p) e c.in_ok-write_date_ranges.ensures.ok c.in_ok-write_segments.ensures.ok)
+    (front_in_last _ _ _ _ front date_ranges held segments last end (playlist_text p) e c.in_ok-write_date_ranges.ensures.ok (rw (c.new-nothing.ensures, c.none-no_keys.ensures) at c.in_ok-write_segments.ensures.ok))
     c.write_end.ensures.err
 
 pub returns-clause-ok : goal.returns-clause-ok
@@ -61,5 +61,5 @@ returns-clause-ok g c =
     let last = string_bytes c.write_segments.new.held in
     let e = text_from p front c.as_slice.result.now c.items.result c.in_ok-held.ensures c.as_slice.ensures c.items.ensures in
     ok_with c.write_end.result _ _
-    (whole_text _ _ _ _ front date_ranges held segments last end (playlist_text p) e c.in_ok-write_date_ranges.ensures.ok c.in_ok-write_segments.ensures.ok)
+    (whole_text _ _ _ _ front date_ranges held segments last end (playlist_text p) e c.in_ok-write_date_ranges.ensures.ok (rw (c.new-nothing.ensures, c.none-no_keys.ensures) at c.in_ok-write_segments.ensures.ok))
     c.write_end.ensures.ok

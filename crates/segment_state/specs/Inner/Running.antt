@@ -1,7 +1,7 @@
 -- What proofs and inner functions say with the definitions of `Running`.
 use Rattle.segment_state.specs.Running.{Running}
 use Rattle.std.specs.Prelude.{◌+◌, ℕ, map, Option, None, List}
-use Rattle.playlist_model.specs.declared.Segment.{Segment}
+use Rattle.playlist_model.specs.Segments.{Segment}
 use Rattle.playlist_model.specs.declared.ByteRange.{ByteRange}
 use Rattle.playlist_model.specs.declared.InitSection.{InitSection}
 use Rattle.playlist_model.specs.declared.Key.{Key}

@@ -1,9 +1,13 @@
 -- What proofs and inner functions say with the definitions of `Making`.
 use Rattle.stitcher.specs.Making.{is_same_run, unmarked_piece, pod_with}
-use Rattle.std.specs.Prelude.{◌≡◌, ℕ, ◌+◌, ◌-◌, ◌^◌, ◌==◌, Bool, true, false, not, ◌&&◌, ◌||◌, nat_le, nat_lt, List, [], ◌∷◌, ◌++◌, map, take, drop, ℤ, Option, Some, None, is_some, if◌then◌else◌}
+use Rattle.std.specs.Prelude.{◌≡◌, ℕ, ◌+◌, ◌-◌, ◌^◌, ◌==◌, Bool, true, false, not, ◌&&◌, ◌||◌, nat_le, nat_lt, List, [], ◌∷◌, ◌++◌, map, take, drop, ℤ, Option, Some, None, is_some, option_map, if◌then◌else◌}
 use Rattle.std.specs.List.{list_all}
-use Rattle.playlist_model.specs.declared.Segment.{Segment}
-use Rattle.stitcher.specs.Stitched.{Piece, is_kept, Numbers, next_numbers, Item}
+use Rattle.playlist_model.specs.Segments.{Segment}
+use Rattle.playlist_model.specs.declared.Key.{Key}
+use Rattle.playlist_model.specs.declared.InitSection.{InitSection}
+use Rattle.pod_store.specs.Pods.{Ad}
+use Rattle.pod_store.specs.Rules.{ad_keeps}
+use Rattle.stitcher.specs.Stitched.{Piece, is_kept, Numbers, next_numbers, Item, with_keys}
 use Rattle.pod_store.specs.Store.{Store, pod_for}
 use Rattle.stitcher.specs.declared.OutSegment.{OutSegment}
 use Rattle.stitcher.specs.declared.marked.MarkedSegment.{MarkedSegment}
@@ -17,11 +21,27 @@ use Rattle.stitcher.specs.Stretches.{segment_items, numbers_on}
 
 -- ---- the list so far
 
--- the numbers of the first item, the last item, and the items so far
+-- the numbers of the first item, the last item, the items so far, and the keys and the initialisation section of the next
+-- segment of an ad
 pub record Made : Type 0 where
   pub first : Numbers
   pub last : Option Last
   pub items : List OutSegment
+  pub keys : List Key
+  pub init_section : Option InitSection
+
+abbrev pub nothing_made : Numbers → Made
+nothing_made first = record { first = first; last = None; items = []; keys = []; init_section = None }
+
+-- the list once an ad begins
+abbrev pub under_ad : Made → Ad → Made
+under_ad made ad = record made { keys = ad.keys; init_section = option_map (with_keys ad.keys) ad.init_section }
+
+-- the next segment of an ad is one of this ad, which keeps the rules
+pub record IsUnder (made : Made) (ad : Ad) : Type 0 where
+  pub keys : made.keys ≡ ad.keys
+  pub init_section : made.init_section ≡ option_map (with_keys ad.keys) ad.init_section
+  pub rules : ad_keeps ad ≡ true
 
 abbrev pub numbers_fit : Numbers → Bool
 numbers_fit n = nat_lt n.media_sequence (2 ^ 64) && nat_lt n.discontinuity_sequence (2 ^ 64)
@@ -56,8 +76,7 @@ numbers_after first last p = numbers_with first last (steps_of last p)
 
 -- the list with one more item
 abbrev pub pushed : Made → Segment → Option ℤ → Numbers → Option ℕ → Made
-pushed made s time n origin = record {
-  first = made.first;
+pushed made s time n origin = record made {
   last = Some (record { numbers = n; origin = origin });
   items = made.items ++ record { segment = s; media_sequence = n.media_sequence; discontinuity_sequence = n.discontinuity_sequence; discontinuities = n.discontinuities; program_date_time = time } ∷ [];
 }
@@ -67,7 +86,7 @@ last_of p n = record { numbers = n; origin = origin_discontinuity p }
 
 -- the list with kept segments more, of which the first has these numbers
 abbrev pub kept_on : Made → List MarkedSegment → Numbers → Last → Made
-kept_on made kept n last = record { first = made.first; last = Some last; items = made.items ++ segment_items n kept }
+kept_on made kept n last = record { first = made.first; last = Some last; items = made.items ++ segment_items n kept; keys = []; init_section = None }
 
 -- the last of kept segments that follow each other, the first of which has these numbers
 abbrev pub last_of_run : Numbers → MarkedSegment → List MarkedSegment → Last

@@ -1,7 +1,7 @@
 -- What proofs and inner functions say with the definitions of `Reckoned`.
 use Rattle.timeline.specs.Reckoned.{reckoned, stack_of}
 use Rattle.std.specs.Prelude.{◌≡◌, ℤ, Bool, List, ◌++◌, Option, is_none}
-use Rattle.playlist_model.specs.declared.Segment.{Segment}
+use Rattle.playlist_model.specs.Segments.{Segment}
 
 -- some of the last segments are reckoned
 pub record Walked (segments rest : List Segment) (stack : List (Option ℤ)) (after : Option ℤ) : Type 0 where

@@ -1,7 +1,7 @@
 use Rattle.std.proofs.Common.{◌≡◌, sym, ap, ◌∙◌, arith}
 use Rattle.std.specs.Prelude.{filter}
 use Rattle.std.proofs.lemmas.Grind.{common_steps}
-use Rattle.playlist_model.specs.declared.Segment.{Segment}
+use Rattle.playlist_model.specs.Segments.{Segment}
 use Rattle.channel_window.specs.Inner.Listed.{is_after}
 use Rattle.channel_window.proofs.Listed.{all_new, same_new}
 use Rattle.channel_window.proofs.Since.{are_contiguous, are_after, are_all}
@@ -13,9 +13,9 @@ after-requires c = grind (arith, common_steps, are_contiguous)
 pub returns-in-Some-clause-value : goal.returns-in-Some-clause-value
 returns-in-Some-clause-value c = λ store.
     let m = c.in-Some.newest.now in
-    let number : c.deref.result.now.media_sequence ≡ m.segment.media_sequence = ap
-    (λ (s : Segment). s.media_sequence) c.deref.ensures in
-    c.after.ensures.value ∙ (ap (λ n. filter (is_after n) c.since_taken-segments.result.now) number
+    let number : c.media_sequence.result ≡ m.segment.media_sequence = c.media_sequence.ensures ∙ ap
+    (λ (s : Segment). s.media_sequence) c.get.ensures in
+    c.after.ensures.value ∙ (ap (λ n. filter (is_after n) c.since_taken-segments.result) number
     ∙ (ap (filter (is_after m.segment.media_sequence)) c.since_taken-segments.ensures
     ∙ (are_after _ _ _ _ _ _ c.requires.contiguous c.requires.taken c.requires.rising c.in-Some.ensures.cases.0
     ∙ sym (same_new store _ _ _ _ c.in-Some.ensures.cases.0))))

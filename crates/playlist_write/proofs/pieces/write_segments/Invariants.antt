@@ -1,15 +1,14 @@
 use Rattle.std.proofs.Common.{◌++◌, length, string_bytes}
-use Rattle.std.specs.Option.{option_copied}
 use Rattle.byte_streams.specs.Devices.{NoneFailed}
-use Rattle.playlist_write.specs.Owed.{said_text, segments_owed, none_yet}
+use Rattle.playlist_write.specs.Owed.{said_text, segments_owed}
 use Rattle.playlist_write.specs.Inner.Taken.{TookAllBut}
 use Rattle.playlist_write.proofs.pieces.write_segments.Given as goal
 
 abbrev pub invariant-loop-next : goal.invariant-loop-next
 invariant-loop-next g l = record {
   taken : TookAllBut (g.S.Sink.stand l.fn.sink).contents (g.S.Sink.stand l.sink).contents
-      (string_bytes l.held ++ said_text (segments_owed (record { keys = l.keys; init_section = option_copied l.init_section }) l.segments))
-      (string_bytes l.fn.held ++ said_text (segments_owed none_yet l.fn.segments));
+      (string_bytes l.held ++ said_text (segments_owed l.force l.segments))
+      (string_bytes l.fn.held ++ said_text (segments_owed l.fn.before l.fn.segments));
   failed : NoneFailed (g.S.Sink.stand l.fn.sink).failed (g.S.Sink.stand l.sink).failed;
 }
 

@@ -4,5 +4,5 @@ use Rattle.std.proofs.lemmas.Grind.{common_steps}
 use Rattle.playlist_write.proofs.Changes.{nothing_owed}
 use Rattle.playlist_write.proofs.segments.push_changes.Goals as goal
 
-pub returns-then-changes_nothing : goal.returns-then-changes_nothing
-returns-then-changes_nothing c = grind (arith, common_steps, append-nil, nothing_owed)
+pub returns-then-changes_nothing-clause-text : goal.returns-then-changes_nothing-clause-text
+returns-then-changes_nothing-clause-text c = grind (arith, common_steps, append-nil, nothing_owed)

@@ -8,8 +8,8 @@ pub returns-clause-ok : goal.returns-clause-ok
 returns-clause-ok c =
     let inside = c.self.inside in
     let kept = c.args.kept.now in
-    let ads : c.from_vec.result ≡ inside.ads.items = cc in
-    let none : c.replace-ads.new.dest.items ≡ [] = cc in
-    let items : stretches_items c.push.new.self.items ++ map ad_item c.replace-ads.new.dest.items ≡ (stretches_items inside.stretches.items ++ map ad_item inside.ads.items) ++ segment_items c.args.numbers kept =
-    stretch_ended inside.stretches.items c.push.new.self.items (record { ads = c.from_vec.result; kept = c.args.kept; numbers = c.args.numbers }) inside.ads.items c.replace-ads.new.dest.items c.in_ok-push.ensures.items ads none in
+    let ads : c.into_segments.result ≡ inside.ads.segments = cc in
+    let none : c.replace-ads.new.dest.segments ≡ [] = cc in
+    let items : stretches_items c.push.new.self.items ++ map ad_item c.replace-ads.new.dest.segments ≡ (stretches_items inside.stretches.items ++ map ad_item inside.ads.segments) ++ segment_items c.args.numbers kept =
+    stretch_ended inside.stretches.items c.push.new.self.items (record { ads = c.into_segments.result; kept = c.args.kept; numbers = c.args.numbers }) inside.ads.segments c.replace-ads.new.dest.segments c.in_ok-push.ensures.items ads none in
     grind (arith, common_steps)

@@ -5,6 +5,7 @@ use Rattle.pod_store.specs.Pods.{Ad}
 use Rattle.stitcher.specs.Stitched.{Piece, ad_pieces, pieces_of_ads}
 use Rattle.stitcher.specs.declared.making.Part.{Part}
 use Rattle.stitcher.specs.Inner.Making.{numbers_fit, pieces_in_part, part_after}
+use Rattle.stitcher.proofs.Ads.{each_keeps, kept_first, kept_others}
 use Rattle.stitcher.proofs.Outcomes.{handed_on}
 use Rattle.stitcher.proofs.Parts.{part_append, done_of}
 use Rattle.stitcher.proofs.Putting.{Walks, walks_none, walks_on, walked, passes_there, none_left}
@@ -14,7 +15,10 @@ any_mark : Mark
 any_mark = record { id = []; pod = record { ads = [] } }
 
 pub loop-ad-init : goal.loop-ad-init
-loop-ad-init c = grind (arith, common_steps, walks_none)
+loop-ad-init c = grind (arith, common_steps, walks_none, each_keeps)
+
+pub put_ad-requires-clause-rules : goal.put_ad-requires-clause-rules
+put_ad-requires-clause-rules c = grind (arith, common_steps, kept_first)
 
 pub returns-then-left-clause-ok : goal.returns-then-left-clause-ok
 returns-then-left-clause-ok c mark =
@@ -43,6 +47,7 @@ loop-ad-preserved c =
     let put = c.in_ok-left.ensures.ok in
     record {
       fits = ap numbers_fit (put any_mark).first ∙ c.loop-ad.invariant.fits;
+      rules = grind (arith, common_steps, kept_others);
       walks = λ mark.
           let here = ad_pieces mark ad ad.segments in
           let all = pieces_in_part c.args.part (pieces_of_ads mark c.args.pod.now.ads) in

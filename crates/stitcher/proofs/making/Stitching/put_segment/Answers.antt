@@ -1,9 +1,7 @@
 use Rattle.std.proofs.Common.{◌≡◌, [], ◌∷◌, sym, subst, ◌∙◌, ap, Bool, true, false}
-use Rattle.std.specs.Prelude.{None, ℕ}
-use Rattle.playlist_model.specs.Numbering.{segment_numbers}
-use Rattle.playlist_model.specs.declared.Segment.{Segment}
+use Rattle.std.specs.Prelude.{ℕ}
 use Rattle.stitcher.specs.Stitched.{ad_piece}
-use Rattle.stitcher.specs.Inner.Making.{Made, PutsPieces, ad_steps, numbers_with, pushed}
+use Rattle.stitcher.specs.Inner.Making.{Made, PutsPieces, ad_steps, numbers_with}
 use Rattle.stitcher.proofs.Outcomes.{on_ok}
 use Rattle.stitcher.proofs.Putting.{puts_one}
 use Rattle.stitcher.proofs.making.Stitching.put_segment.Goals as goal
@@ -16,9 +14,8 @@ pub returns-clause-ok : goal.returns-clause-ok
 returns-clause-ok c =
     let made = c.args.self.now in
     let steps = steps_are c.args.first c.from.result c.from.ensures in
-    on_ok c.push_ad.result c.push_ad.ensures.ok (λ e mark.
-    let s = c.in_ok-segment.ensures mark c.args.first in
-    let p = ad_piece mark c.args.first c.args.ad.now c.args.segment.now in
-    subst (λ (m : Made). PutsPieces made m (p ∷ [])) (ap (λ (x : Segment). pushed made x None (segment_numbers x) None) (sym s) ∙ sym e)
+    on_ok c.push_ad.result c.push_ad.ensures.ok (λ e mark ad under.
+    let p = ad_piece mark c.args.first ad c.args.segment.now in
+    subst (λ (m : Made). PutsPieces made m (p ∷ [])) (sym (e mark c.args.first ad under))
     (puts_one made p c.in_ok-numbers.numbers
     (c.in_ok-numbers.ensures.ok.0 ∙ ap (numbers_with made.first made.last) steps) c.in_ok-numbers.ensures.ok.1))

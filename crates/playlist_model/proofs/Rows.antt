@@ -1,0 +1,165 @@
+-- Rows mean what they meant when a table grows.
+use Rattle.std.proofs.Common.{◌≡◌, ◌∙◌, ℕ, zero, suc, get_or, string_bytes, ◌+◌, ◌-◌, ◌<◌, ◌≤◌, List, [], ◌∷◌, ◌++◌, length, take, drop, refl, ap, sym, subst, arith, length-append, Some}
+use Rattle.std.specs.Prelude.{slice_range, slice_get, Option, Result, Ok, Err, OnErr}
+use Rattle.std.specs.List.{AllByRecursion}
+use Rattle.std.specs.Str.{IsUtf8}
+use Rattle.std.proofs.lemmas.List.{get_or_append_left, take-append-le, drop-append-le, length-drop, length-map}
+use Rattle.std.proofs.Math.Seq.{drop-append_seam, get_or-append_seam, take-length}
+use Rattle.std.proofs.lemmas.Str.{IsUtf8-append}
+use Rattle.std.proofs.lemmas.Option.{get_or_from_slice_get, slice_get_within}
+use Rattle.playlist_model.specs.declared.segments.Place.{Place}
+use Rattle.playlist_model.specs.declared.segments.Standing.{Standing}
+use Rattle.playlist_model.specs.declared.segments.Tables.{Tables}
+use Rattle.playlist_model.specs.declared.segments.Row.{Row}
+use Rattle.playlist_model.specs.declared.Key.{Key}
+use Rattle.playlist_model.specs.declared.ByteRange.{ByteRange}
+use Rattle.playlist_model.specs.declared.InitSection.{InitSection}
+use Rattle.playlist_model.specs.declared.segments.SegmentParts.{SegmentParts}
+use Rattle.playlist_model.specs.Segments.{Segment, segment_under}
+use Rattle.playlist_model.specs.Rows.{HasRange, no_range, range_at, Fits, HasText, no_standing, row_segment, row_segment_over, row_segments, row_standing, listed_text}
+use Rattle.playlist_model.specs.Inner.Rows.{Extends, Grows}
+
+pub long_rows : (tables : Tables) (rows : List Row) → length rows ≡ length (row_segments tables rows)
+long_rows tables rows = sym (length-map rows (row_segment tables))
+
+-- ---- a list that grows
+
+longer : {A : Type 0} (xs ys : List A) → Grows xs ys → length xs ≤ length ys
+longer xs ys g = let l : length (xs ++ g.more) ≡ length xs + length g.more = length-append xs g.more in rw g.is (omega (arith, l))
+
+range_grown : {A : Type 0} (xs ys : List A) (i j : ℕ) → Grows xs ys → i ≤ j → j ≤ length xs → slice_range ys i j ≡ slice_range xs i j
+range_grown xs ys i j g o h =
+    let front : i ≤ length xs = omega (arith, o, h) in
+    let d : length (drop i xs) ≡ length xs - i = length-drop i xs in
+    let within : j - i ≤ length (drop i xs) = omega (arith, o, h, d) in
+    ap (λ l. take (j - i) (drop i l)) g.is ∙ ap (take (j - i)) (drop-append-le i xs g.more front) ∙ take-append-le (j - i) (drop i xs) g.more within
+
+-- ---- texts that are put after others
+
+has_text_grown : (xs ys : List ℕ) (place : Place) → Grows xs ys → HasText xs place → HasText ys place
+has_text_grown xs ys place g h =
+    let l = longer xs ys g in
+    record { ordered = h.ordered; within = omega (arith, h.within, l); utf8 = subst IsUtf8 (sym (range_grown xs ys place.from place.to g h.ordered h.within)) h.utf8 }
+
+-- the text that was put after these
+pub text_put : (old new front rest : List ℕ) (place : Place) → new ≡ (old ++ front) ++ rest → place.from ≡ length old → place.to ≡ length new → IsUtf8 front → IsUtf8 rest
+    → HasText new place × (listed_text new place ≡ front ++ rest)
+text_put old new front rest place e from to f r =
+    let grown : new ≡ old ++ (front ++ rest) = e ∙ append_assoc old front rest in
+    let l : length (old ++ (front ++ rest)) ≡ length old + length (front ++ rest) = length-append old (front ++ rest) in
+    let here : length new ≡ length old + length (front ++ rest) = ap length grown ∙ l in
+    let count : place.to - place.from ≡ length (front ++ rest) = omega (arith, from, to, here) in
+    let is : listed_text new place ≡ front ++ rest =
+    ap (λ k. take (place.to - place.from) (drop k new)) from ∙ ap (λ t. take (place.to - place.from) (drop (length old) t)) grown
+    ∙ ap (take (place.to - place.from)) (drop-append_seam old (front ++ rest)) ∙ ap (λ k. take k (front ++ rest)) count ∙ take-length (front ++ rest) in
+    (record { ordered = omega (arith, from, to, here); within = omega (arith, to); utf8 = subst IsUtf8 (sym is) (IsUtf8-append front rest f r) }, is)
+  where
+    append_assoc : (a b c : List ℕ) → (a ++ b) ++ c ≡ a ++ (b ++ c)
+    append_assoc [] b c = refl
+    append_assoc (x ∷ a) b c = ap (λ l. x ∷ l) (append_assoc a b c)
+
+-- ---- rows under tables that grow
+
+at_grown : {A : Type 0} (xs ys : List A) (d : A) (i : ℕ) → Grows xs ys → i < length xs → get_or ys i d ≡ get_or xs i d
+at_grown xs ys d i g h = ap (λ l. get_or l i d) g.is ∙ get_or_append_left xs g.more d i h
+
+range_grown_at : (xs ys : List ByteRange) (place : ℕ) → Grows xs ys → HasRange xs place → range_at ys place ≡ range_at xs place
+range_grown_at xs ys zero g h = refl
+range_grown_at xs ys (suc place) g h = ap Some (at_grown xs ys no_range place g h)
+
+has_range_grown : (xs ys : List ByteRange) (place : ℕ) → Grows xs ys → HasRange xs place → HasRange ys place
+has_range_grown xs ys zero g h = h
+has_range_grown xs ys (suc place) g h = let l = longer xs ys g in omega (arith, h, l)
+
+-- the byte range that was put after these
+pub range_put : (old new : List ByteRange) (place : ℕ) (byte_range : ByteRange) → new ≡ old ++ byte_range ∷ [] → place ≡ length new → HasRange new place × (range_at new place ≡ Some byte_range)
+range_put old new place byte_range e at =
+    let l : length (old ++ byte_range ∷ []) ≡ length old + 1 = length-append old (byte_range ∷ []) in
+    let here : place ≡ suc (length old) = at ∙ ap length e ∙ omega (arith, l) in
+    let within : length old < length new = let n = ap length e in omega (arith, l, n) in
+    (subst (HasRange new) (sym here) within, ap (range_at new) here ∙ ap (λ b. Some (get_or b (length old) no_range)) e ∙ ap Some (get_or-append_seam old byte_range [] no_range))
+
+row_ext : (tx ux : List ℕ) (tr ur : List ByteRange) (s z : Standing) (row : Row) → listed_text ux row.uri ≡ listed_text tx row.uri → listed_text ux row.title ≡ listed_text tx row.title → range_at ur row.byte_range ≡ range_at tr row.byte_range → z ≡ s → row_segment_over ux ur z row ≡ row_segment_over tx tr s row
+row_ext tx ux tr ur s z row u t r e = grind (arith, u, t, r, e)
+
+pub row_grown : (t u : Tables) (row : Row) → Extends t u → Fits t row → row_segment u row ≡ row_segment t row
+row_grown t u row e h =
+    row_ext _ _ _ _ _ _ row (range_grown _ _ _ _ e.texts h.uri.ordered h.uri.within) (range_grown _ _ _ _ e.texts h.title.ordered h.title.within)
+    (range_grown_at _ _ row.byte_range e.byte_ranges h.byte_range) (at_grown _ _ no_standing row.standing e.standings h.standing)
+
+pub fits_grown : (t u : Tables) (row : Row) → Extends t u → Fits t row → Fits u row
+fits_grown t u row e h =
+    let l = longer _ _ e.standings in
+    record { uri = has_text_grown _ _ _ e.texts h.uri; title = has_text_grown _ _ _ e.texts h.title; byte_range = has_range_grown _ _ row.byte_range e.byte_ranges h.byte_range; standing = omega (arith, h.standing, l) }
+
+pub rows_grown : (t u : Tables) (rows : List Row) → Extends t u → AllByRecursion (Fits t) rows → row_segments u rows ≡ row_segments t rows
+rows_grown t u [] e h = refl
+rows_grown t u (row ∷ rows) e h = both (row_grown t u row e h.0) (rows_grown t u rows e h.1)
+  where
+    both : {a b : Segment} {s z : List Segment} → a ≡ b → s ≡ z → ◌≡◌ {A = List Segment} (a ∷ s) (b ∷ z)
+    both e f = cc
+
+pub all_fit : (t u : Tables) (rows : List Row) → Extends t u → AllByRecursion (Fits t) rows → AllByRecursion (Fits u) rows
+all_fit t u [] e h = h
+all_fit t u (row ∷ rows) e h = (fits_grown t u row e h.0, all_fit t u rows e h.1)
+
+append_assoc : {A : Type 0} (a b c : List A) → (a ++ b) ++ c ≡ a ++ (b ++ c)
+append_assoc [] b c = refl
+append_assoc (x ∷ a) b c = ap (λ l. x ∷ l) (append_assoc a b c)
+
+pub grows_on : {A : Type 0} (xs ys zs : List A) → Grows xs ys → Grows ys zs → Grows xs zs
+grows_on xs ys zs g h = record { more = g.more ++ h.more; is = h.is ∙ ap (λ l. l ++ h.more) g.is ∙ append_assoc xs g.more h.more }
+
+-- ---- a row that is added
+
+pub row_added : (t : Tables) (rows : List Row) (row : Row) → row_segments t (rows ++ row ∷ []) ≡ row_segments t rows ++ row_segment t row ∷ []
+row_added t [] row = refl
+row_added t (r ∷ rows) row = ap (λ l. row_segment t r ∷ l) (row_added t rows row)
+
+pub row_fits : (t : Tables) (rows : List Row) (row : Row) → AllByRecursion (Fits t) rows → Fits t row → AllByRecursion (Fits t) (rows ++ row ∷ [])
+row_fits t [] row h f = (f, tt)
+row_fits t (r ∷ rows) row h f = (h.0, row_fits t rows row h.1 f)
+
+-- the row of a segment whose texts were put after others, the title first
+pub row_listed : (t u v : List ℕ) (ranges : List ByteRange) (new : List Standing) (tables : Tables) (row : Row) (parts : SegmentParts) (keys : List Key) (init_section : Option InitSection) (s : Standing)
+    → string_bytes tables.texts ≡ v → tables.byte_ranges.items ≡ ranges → tables.standings.items ≡ new
+    → Grows t u → Grows u v → HasText u row.title → listed_text u row.title ≡ parts.title.now
+    → HasText v row.uri → listed_text v row.uri ≡ parts.uri_front.now ++ parts.uri_rest.now
+    → HasRange ranges row.byte_range → range_at ranges row.byte_range ≡ parts.byte_range
+    → slice_get new row.standing ≡ Some s → s ≡ record { discontinuities = parts.discontinuities; keys = keys; init_section = init_section }
+    → row ≡ record row { media_sequence = parts.media_sequence; discontinuity_sequence = parts.discontinuity_sequence; duration = parts.duration; program_date_time = parts.program_date_time }
+    → Fits tables row × (row_segment tables row ≡ segment_under keys init_section parts)
+row_listed t u v ranges new tables row parts keys init_section s e r f g h title is uri there has range_is found s_is row_is =
+    let later = has_text_grown u v row.title h title in
+    let same = range_grown u v row.title.from row.title.to h title.ordered title.within ∙ is in
+    let here = get_or_from_slice_get new row.standing s no_standing found ∙ s_is in
+    let place = slice_get_within new row.standing s found in
+    let fits : Fits tables row = record { uri = subst (λ x. HasText x row.uri) (sym e) uri; title = subst (λ x. HasText x row.title) (sym e) later; byte_range = subst (λ x. HasRange x row.byte_range) (sym r) has; standing = subst (λ x. row.standing < length x) (sym f) place } in (
+      fits,
+      ap (λ x. row_segment_over x tables.byte_ranges.items (row_standing tables.standings.items row.standing) row) e
+          ∙ ap (λ x. row_segment_over v x (row_standing tables.standings.items row.standing) row) r
+          ∙ ap (λ x. row_segment_over v ranges (row_standing x row.standing) row) f ∙ grind (arith, here, same, there, range_is, row_is),
+    )
+
+pub front_fits : (t : Tables) (rows front : List Row) (row : Row) → rows ≡ front ++ row ∷ [] → AllByRecursion (Fits t) rows → AllByRecursion (Fits t) front
+front_fits t rows front row e h = of_front front (subst (AllByRecursion (Fits t)) e h)
+  where
+    of_front : (rows : List Row) → AllByRecursion (Fits t) (rows ++ row ∷ []) → AllByRecursion (Fits t) rows
+    of_front [] h = tt
+    of_front (r ∷ rows) h = (h.0, of_front rows h.1)
+
+-- what is listed when nothing is added but to the tables
+pub still_listed : (t u : Tables) (rows later : List Row) → Extends t u → AllByRecursion (Fits t) rows → later ≡ rows → AllByRecursion (Fits u) later × (row_segments u later ≡ row_segments t rows)
+still_listed t u rows later e h f = (subst (AllByRecursion (Fits u)) (sym f) (all_fit t u rows e h), ap (row_segments u) f ∙ rows_grown t u rows e h)
+
+-- what is listed when a row is added
+pub listed_on : (t u : Tables) (rows later : List Row) (row : Row) (s : Segment) → Extends t u → AllByRecursion (Fits t) rows → later ≡ rows ++ row ∷ [] → Fits u row → row_segment u row ≡ s
+    → AllByRecursion (Fits u) later × (row_segments u later ≡ row_segments t rows ++ s ∷ [])
+listed_on t u rows later row s e h f g is = (
+  subst (AllByRecursion (Fits u)) (sym f) (row_fits u rows row (all_fit t u rows e h) g),
+  ap (row_segments u) f ∙ row_added u rows row ∙ ap (λ l. l ++ row_segment u row ∷ []) (rows_grown t u rows e h) ∙ ap (λ x. row_segments t rows ++ x ∷ []) is,
+)
+
+pub always : {A E : Type 0} (r : Result A E) (P : Type 0) → P → OnErr r P
+always (Ok x) P p = tt
+always (Err e) P p = p

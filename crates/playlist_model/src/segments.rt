@@ -1,0 +1,701 @@
+//! Segments. A list of them holds their texts together: each is a row of places among these.
+ghost use Rattle.std.specs.Prelude.{◌≡◌, ◌∷◌, ◌++◌, ◌+◌, ◌<◌, ◌≤◌, [], true, None, Some, IfOk, OnOk, OnErr, MatchOption, length, take, drop, slice_get, string_bytes, IsTrue};
+ghost use Rattle.std.specs.List.{AllByRecursion};
+ghost use Rattle.std.specs.Str.{is_utf8};
+ghost use Rattle.playlist_model.specs.Segments.{segment_under};
+ghost use Rattle.playlist_model.specs.Rows.{Fits, HasRange, HasText, IsLastOf, listed_text, range_at, row_segment};
+ghost use Rattle.playlist_model.specs.Inner.Rows.{Extends, Grows};
+
+use crate::{ByteRange, InitSection, Keys, KeysRef, Shared};
+use date_times::Instant;
+use fixed_duration::Nanos;
+use std::alloc::{AllocError, Global};
+use std::marker::Model;
+
+// Where a text lies among those of a list: its first byte, and the first after it.
+#[derive(Clone, Copy)]
+struct Place {
+    from: u32,
+    to: u32,
+}
+
+// What stands over segments until a tag changes it.
+#[derive(Drop)]
+struct Standing {
+    discontinuities: u64,
+    // The keys as their tags state them.
+    keys: Keys,
+    init_section: Option<Shared<InitSection>>,
+}
+
+// What the rows of a list point to.
+#[derive(Drop)]
+struct Tables {
+    // The URIs and the titles, one after the other.
+    texts: String,
+    byte_ranges: Vec<ByteRange>,
+    standings: Vec<Standing>,
+}
+
+// A segment of a list.
+#[derive(Clone, Copy)]
+struct Row {
+    media_sequence: u64,
+    discontinuity_sequence: u64,
+    duration: Nanos,
+    uri: Place,
+    title: Place,
+    standing: u32,
+    // The place of its byte range, from 1; 0 if it has none.
+    byte_range: u32,
+    program_date_time: Option<Instant>,
+}
+
+/// What a segment has of its own: all but the keys and the initialisation section in force (RFC 8216, section 4.3.2).
+#[derive(Clone, Copy)]
+pub struct SegmentParts<'a> {
+    /// Its Media Sequence Number (section 4.3.3.2).
+    pub media_sequence: u64,
+    /// Its Discontinuity Sequence Number (section 4.3.3.3).
+    pub discontinuity_sequence: u64,
+    /// How many EXT-X-DISCONTINUITY stand between it and the segment before.
+    pub discontinuities: u64,
+    /// The front of its resource, an absolute URI.
+    pub uri_front: &'a str,
+    /// The rest of that URI.
+    pub uri_rest: &'a str,
+    /// The part of the resource, if it isn't the whole.
+    pub byte_range: Option<ByteRange>,
+    /// How long it lasts (EXTINF).
+    pub duration: Nanos,
+    /// What stands after the duration and a comma.
+    pub title: &'a str,
+    /// When its first sample is, if EXT-X-PROGRAM-DATE-TIME states that.
+    pub program_date_time: Option<Instant>,
+}
+
+// A number as a place; none if it has more than 32 bits.
+fn place_of(number: usize) -> Result<u32, AllocError>
+    ensures { IfOk result (λ place. place ≡ number) }
+{
+    match u32::try_from(number) {
+        Ok(place) => Ok(place),
+        Err(_) => Err(AllocError),
+    }
+}
+
+#[tactic(auto, using(crate::proofs::Rows::text_put))]
+// Puts a text of two parts after those of a list.
+#[inline(always)]
+fn put_text(texts: &mut String, front: &str, rest: &str) -> Result<Place, AllocError>
+    ensures grows { Grows (string_bytes texts.old) (string_bytes texts.new) }
+    ensures there { IfOk result
+        (λ place. HasText (string_bytes texts.new) place
+        × (listed_text (string_bytes texts.new) place ≡ front.now ++ rest.now)) }
+{
+    let from = place_of(texts.len())?;
+    texts.push_str(front)?;
+    texts.push_str(rest)?;
+    let to = place_of(texts.len())?;
+    Ok(Place { from, to })
+}
+
+// The same of a title. Most are empty.
+#[inline(always)]
+fn put_title(texts: &mut String, title: &str) -> Result<Place, AllocError>
+    ensures grows { Grows (string_bytes texts.old) (string_bytes texts.new) }
+    ensures there { IfOk result
+        (λ place. HasText (string_bytes texts.new) place
+        × (listed_text (string_bytes texts.new) place ≡ title.now)) }
+{
+    if title.is_empty() {
+        return Ok(Place { from: 0, to: 0 });
+    }
+    put_text(texts, title, "")
+}
+
+// The text at a place.
+#[inline(always)]
+fn listed_text(texts: &str, place: Place) -> &str
+    requires { HasText texts.now place }
+    ensures { result.now ≡ listed_text texts.now place }
+{
+    let bytes = &texts.as_bytes()[place.from as usize..place.to as usize];
+    // Each place has a text.
+    unsafe { str::from_utf8_unchecked(bytes) }
+}
+
+// The place of a byte range, which is put after those of a list, from 1; 0 if there is none.
+#[inline(always)]
+fn put_byte_range(
+    byte_ranges: &mut Vec<ByteRange>,
+    byte_range: Option<ByteRange>,
+) -> Result<u32, AllocError>
+    ensures grows { Grows byte_ranges.old.items byte_ranges.new.items }
+    ensures there { IfOk result
+        (λ place. HasRange byte_ranges.new.items place
+        × (range_at byte_ranges.new.items place ≡ byte_range)) }
+{
+    match byte_range {
+        Some(byte_range) => push_byte_range(byte_ranges, byte_range),
+        None => Ok(0),
+    }
+}
+
+#[tactic(auto, using(crate::proofs::Rows::range_put))]
+#[inline(never)]
+fn push_byte_range(
+    byte_ranges: &mut Vec<ByteRange>,
+    byte_range: ByteRange,
+) -> Result<u32, AllocError>
+    ensures grows { Grows byte_ranges.old.items byte_ranges.new.items }
+    ensures there { IfOk result
+        (λ place. HasRange byte_ranges.new.items place
+        × (range_at byte_ranges.new.items place ≡ Some byte_range)) }
+{
+    byte_ranges.push(byte_range)?;
+    place_of(byte_ranges.len())
+}
+
+// The place of the last of these, if so many discontinuities stand before its segments.
+#[inline(always)]
+fn last_place(standings: &[Standing], discontinuities: u64) -> Option<usize>
+    ensures { MatchOption result (Unit {0})
+        (λ place. (last : Standing) × (slice_get standings.now place ≡ Some last)
+        × (place + 1 ≡ length standings.now)
+        × (last.discontinuities ≡ discontinuities)) }
+{
+    let place = standings.len().checked_sub(1)?;
+    let last = &standings[place];
+    if last.discontinuities != discontinuities {
+        return None;
+    }
+    Some(place)
+}
+
+// The place of what stands over the next segment. It is put after the others, unless the last of them is it: `is_listed` says
+// that this one has the keys and the initialisation section.
+#[inline(always)]
+fn put_standing(
+    standings: &mut Vec<Standing>,
+    is_listed: bool,
+    discontinuities: u64,
+    keys: &Keys,
+    init_section: &Option<Shared<InitSection>>,
+) -> Result<u32, AllocError>
+    requires { is_listed ≡ true → IsLastOf standings.old.items keys.now init_section.now }
+    ensures grows { Grows standings.old.items standings.new.items }
+    ensures there { IfOk result
+        (λ place. slice_get standings.new.items place
+        ≡ Some (record { discontinuities = discontinuities; keys = keys.now; init_section = init_section.now })) }
+    ensures last { OnOk result (IsLastOf standings.new.items keys.now init_section.now) }
+    ensures refused { OnErr result (standings.new.items ≡ standings.old.items) }
+{
+    if is_listed {
+        if let Some(place) = last_place(standings.as_slice(), discontinuities) {
+            return place_of(place);
+        }
+    }
+    push_standing(standings, discontinuities, keys, init_section)
+}
+
+#[inline(never)]
+fn push_standing(
+    standings: &mut Vec<Standing>,
+    discontinuities: u64,
+    keys: &Keys,
+    init_section: &Option<Shared<InitSection>>,
+) -> Result<u32, AllocError>
+    ensures grows { Grows standings.old.items standings.new.items }
+    ensures there { IfOk result
+        (λ place. slice_get standings.new.items place
+        ≡ Some (record { discontinuities = discontinuities; keys = keys.now; init_section = init_section.now })) }
+    ensures last { OnOk result (IsLastOf standings.new.items keys.now init_section.now) }
+    ensures refused { OnErr result (standings.new.items ≡ standings.old.items) }
+{
+    let place = place_of(standings.len())?;
+    standings.push(Standing {
+        discontinuities,
+        keys: keys.clone()?,
+        init_section: init_section.clone()?,
+    })?;
+    Ok(place)
+}
+
+// Puts the row of the next segment after the others, and into the tables all that it points to. `is_listed` says that the last
+// standing has the keys and the initialisation section.
+#[inline(always)]
+fn push_row(
+    tables: &mut Tables,
+    rows: &mut Vec<Row>,
+    is_listed: bool,
+    keys: &Keys,
+    init_section: &Option<Shared<InitSection>>,
+    parts: &SegmentParts<'_>,
+) -> Result<(), AllocError>
+    requires { is_listed ≡ true → IsLastOf tables.old.standings.items keys.now init_section.now }
+    ensures extends { Extends tables.old tables.new }
+    ensures row { OnOk result
+        ((row : Row) × (rows.new.items ≡ rows.old.items ++ row ∷ []) × Fits tables.new row
+        × (row_segment tables.new row ≡ segment_under keys.now init_section.now parts.now)) }
+    ensures last { OnOk result (IsLastOf tables.new.standings.items keys.now init_section.now) }
+    ensures still { is_listed ≡ true
+        → IsLastOf tables.new.standings.items keys.now init_section.now }
+    ensures refused { OnErr result (rows.new.items ≡ rows.old.items) }
+{
+    rows.reserve(1)?;
+    let standing = put_standing(
+        &mut tables.standings,
+        is_listed,
+        parts.discontinuities,
+        keys,
+        init_section,
+    )?;
+    let byte_range = put_byte_range(&mut tables.byte_ranges, parts.byte_range)?;
+    let title = put_title(&mut tables.texts, parts.title)?;
+    let uri = put_text(&mut tables.texts, parts.uri_front, parts.uri_rest)?;
+    rows.push_reserved(Row {
+        media_sequence: parts.media_sequence,
+        discontinuity_sequence: parts.discontinuity_sequence,
+        duration: parts.duration,
+        uri,
+        title,
+        standing,
+        byte_range,
+        program_date_time: parts.program_date_time,
+    });
+    Ok(())
+}
+
+/// A list of segments.
+#[derive(Drop)]
+pub struct Segments {
+    tables: Tables,
+    rows: Vec<Row>,
+}
+
+impl Model for Segments {
+    ghost use Rattle.std.specs.Prelude.{List};
+    ghost use Rattle.std.specs.List.{AllByRecursion};
+    ghost use Rattle.playlist_model.specs.Segments.{Segment};
+    ghost use Rattle.playlist_model.specs.Rows.{Fits, row_segments};
+
+    ghost Value = { List Segment };
+
+    ghost view = { λ a. row_segments a.tables a.rows.items };
+
+    ghost invariant = { λ a. AllByRecursion (Fits a.tables) a.rows.items };
+}
+
+impl Segments {
+    /// The segments, lent.
+    #[inline(always)]
+    pub fn as_slice(&self) -> SegmentSlice<'_>
+        ensures { result ≡ self.now }
+    {
+        SegmentSlice {
+            tables: &self.tables,
+            rows: self.rows.as_slice(),
+        }
+    }
+
+    #[tactic(auto, using(crate::proofs::Rows::long_rows))]
+    /// How many segments there are.
+    #[inline(always)]
+    pub fn len(&self) -> usize
+        ensures { result ≡ length self.now }
+    {
+        self.rows.len()
+    }
+
+    /// The segment at `place`, from 0.
+    #[inline(always)]
+    pub fn get(&self, place: usize) -> SegmentRef<'_>
+        requires { place < length self.now }
+        ensures { slice_get self.now place ≡ Some result }
+    {
+        let segments = self.as_slice();
+        segments.get(place)
+    }
+}
+
+/// Segments that are listed one after the other, and the keys and the initialisation section in force after them.
+#[derive(Drop)]
+pub struct GrowingSegments {
+    tables: Tables,
+    rows: Vec<Row>,
+    keys: Keys,
+    init_section: Option<Shared<InitSection>>,
+    // Whether these two are those of the last standing.
+    is_listed: bool,
+}
+
+impl Model for GrowingSegments {
+    ghost use Rattle.std.specs.Prelude.{◌≡◌, true};
+    ghost use Rattle.std.specs.List.{AllByRecursion};
+    ghost use Rattle.playlist_model.specs.Segments.{Growing};
+    ghost use Rattle.playlist_model.specs.Rows.{Fits, IsLastOf, row_segments};
+
+    ghost Value = { Growing };
+
+    ghost view = { λ a. record { segments = row_segments a.tables a.rows.items; keys = a.keys; init_section = a.init_section } };
+
+    ghost invariant = { λ a. AllByRecursion (Fits a.tables) a.rows.items × (a.is_listed ≡ true → IsLastOf a.tables.standings.items a.keys a.init_section) };
+}
+
+impl GrowingSegments {
+    /// No segment, no key and no initialisation section. Takes no memory.
+    pub fn new(alloc: Global) -> GrowingSegments
+        ensures { result ≡ record { segments = []; keys = []; init_section = None } }
+    {
+        GrowingSegments {
+            tables: Tables {
+                texts: String::new(alloc),
+                byte_ranges: Vec::new(alloc),
+                standings: Vec::new(alloc),
+            },
+            rows: Vec::new(alloc),
+            keys: Keys::none(),
+            init_section: None,
+            is_listed: false,
+        }
+    }
+
+    /// The segments so far, lent.
+    #[inline(always)]
+    pub fn as_slice(&self) -> SegmentSlice<'_>
+        ensures { result ≡ self.now.segments }
+    {
+        SegmentSlice {
+            tables: &self.tables,
+            rows: self.rows.as_slice(),
+        }
+    }
+
+    #[tactic(auto, using(crate::proofs::Rows::long_rows))]
+    /// How many segments there are so far.
+    pub fn len(&self) -> usize
+        ensures { result ≡ length self.now.segments }
+    {
+        self.rows.len()
+    }
+
+    /// The keys in force, as their tags state them.
+    pub fn keys(&self) -> &Keys
+        ensures { result.now ≡ self.now.keys }
+    {
+        &self.keys
+    }
+
+    /// The initialisation section in force.
+    pub fn init_section(&self) -> &Option<Shared<InitSection>>
+        ensures { result.now ≡ self.now.init_section }
+    {
+        &self.init_section
+    }
+
+    /// From here on `keys` are in force, as their tags state them (RFC 8216, section 4.3.2.4).
+    pub fn set_keys(&mut self, keys: Keys)
+        ensures { self.new ≡ record self.old { keys = keys } }
+    {
+        self.keys = keys;
+        self.is_listed = false;
+    }
+
+    /// From here on `init_section` is in force (RFC 8216, section 4.3.2.5).
+    pub fn set_init_section(&mut self, init_section: Option<Shared<InitSection>>)
+        ensures { self.new ≡ record self.old { init_section = init_section } }
+    {
+        self.init_section = init_section;
+        self.is_listed = false;
+    }
+
+    /// Lists the segment of these `parts` under the keys and the initialisation section in force. Fails only if an allocation
+    /// fails, or the texts have 2^32 bytes or more; all is then as it was.
+    #[inline(always)]
+    pub fn push(&mut self, parts: &SegmentParts<'_>) -> Result<(), AllocError>
+        ensures pushed { OnOk result
+            (self.new ≡ record self.old {
+              segments = self.old.segments
+                  ++ segment_under self.old.keys self.old.init_section parts.now ∷ [];
+            }) }
+        ensures refused { OnErr result (self.new ≡ self.old) }
+    {
+        push_row(
+            &mut self.tables,
+            &mut self.rows,
+            self.is_listed,
+            &self.keys,
+            &self.init_section,
+            parts,
+        )?;
+        self.is_listed = true;
+        Ok(())
+    }
+
+    /// Lists a copy of `segment`, which shares its keys and its initialisation section. Fails only if an allocation fails, or
+    /// the texts have 2^32 bytes or more; the segments are then as they were.
+    pub fn push_copy(&mut self, segment: &SegmentRef<'_>) -> Result<(), AllocError>
+        ensures pushed { OnOk result (self.new.segments ≡ self.old.segments ++ segment.now ∷ []) }
+        ensures refused { OnErr result (self.new.segments ≡ self.old.segments) }
+    {
+        let (tables, row) = (segment.tables, segment.row);
+        let standing = &tables.standings[row.standing as usize];
+        self.set_keys(standing.keys.clone()?);
+        self.set_init_section(standing.init_section.clone()?);
+        self.push(&SegmentParts {
+            media_sequence: row.media_sequence,
+            discontinuity_sequence: row.discontinuity_sequence,
+            discontinuities: standing.discontinuities,
+            uri_front: segment.uri(),
+            uri_rest: "",
+            byte_range: segment.byte_range(),
+            duration: row.duration,
+            title: segment.title(),
+            program_date_time: row.program_date_time,
+        })
+    }
+
+    /// The list of the segments.
+    pub fn into_segments(self) -> Segments
+        ensures { result ≡ self.segments }
+    {
+        Segments {
+            tables: self.tables,
+            rows: self.rows,
+        }
+    }
+}
+
+/// Segments of a list that follow each other, lent.
+#[derive(Drop)]
+pub struct SegmentSlice<'a> {
+    tables: &'a Tables,
+    rows: &'a [Row],
+}
+
+impl<'a> Model for SegmentSlice<'a> {
+    ghost use Rattle.std.specs.Prelude.{List};
+    ghost use Rattle.std.specs.List.{AllByRecursion};
+    ghost use Rattle.playlist_model.specs.Segments.{Segment};
+    ghost use Rattle.playlist_model.specs.Rows.{Fits, row_segments};
+
+    ghost Value = { List Segment };
+
+    ghost view = { λ a. row_segments a.tables.now a.rows.now };
+
+    ghost invariant = { λ a. AllByRecursion (Fits a.tables.now) a.rows.now };
+}
+
+impl<'a> SegmentSlice<'a> {
+    /// The same segments, lent once more.
+    #[inline(always)]
+    pub fn again(&self) -> SegmentSlice<'a>
+        ensures { result ≡ self.now }
+    {
+        SegmentSlice {
+            tables: self.tables,
+            rows: self.rows,
+        }
+    }
+
+    #[tactic(auto, using(crate::proofs::Rows::long_rows))]
+    /// How many segments there are.
+    #[inline(always)]
+    pub fn len(&self) -> usize
+        ensures { result ≡ length self.now }
+    {
+        self.rows.len()
+    }
+
+    /// The first segment, if there is one.
+    pub fn first(&self) -> Option<SegmentRef<'a>>
+        ensures { MatchOption result (self.now ≡ []) (λ first. slice_get self.now 0 ≡ Some first) }
+    {
+        let (first, _) = self.split_first()?;
+        Some(first)
+    }
+
+    /// The first segment, and those after it, if there is one.
+    #[inline(always)]
+    pub fn split_first(&self) -> Option<(SegmentRef<'a>, SegmentSlice<'a>)>
+        ensures { MatchOption result (self.now ≡ []) (λ parts. self.now ≡ parts.0 ∷ parts.1) }
+    {
+        let (tables, rows) = (self.tables, self.rows);
+        let (row, later) = rows.split_first()?;
+        Some((
+            SegmentRef { tables, row },
+            SegmentSlice {
+                tables,
+                rows: later,
+            },
+        ))
+    }
+
+    /// The last segment, and those before it, if there is one.
+    pub fn split_last(&self) -> Option<(SegmentRef<'a>, SegmentSlice<'a>)>
+        ensures { MatchOption result (self.now ≡ []) (λ parts. self.now ≡ parts.1 ++ parts.0 ∷ []) }
+    {
+        let (tables, rows) = (self.tables, self.rows);
+        let (row, before) = rows.split_last()?;
+        Some((
+            SegmentRef { tables, row },
+            SegmentSlice {
+                tables,
+                rows: before,
+            },
+        ))
+    }
+
+    /// The segments up to `place`, from 0, and those from it on; all and none if it is past the end.
+    pub fn split_at(&self, place: usize) -> (SegmentSlice<'a>, SegmentSlice<'a>)
+        ensures front { result.0 ≡ take place self.now }
+        ensures back { result.1 ≡ drop place self.now }
+    {
+        let (tables, rows) = (self.tables, self.rows);
+        let (front, back) = rows.split_at(place.min(rows.len()));
+        (
+            SegmentSlice {
+                tables,
+                rows: front,
+            },
+            SegmentSlice { tables, rows: back },
+        )
+    }
+
+    /// The segment at `place`, from 0.
+    #[inline(always)]
+    pub fn get(&self, place: usize) -> SegmentRef<'a>
+        requires { place < length self.now }
+        ensures { slice_get self.now place ≡ Some result }
+    {
+        let (tables, rows) = (self.tables, self.rows);
+        SegmentRef {
+            tables,
+            row: &rows[place],
+        }
+    }
+}
+
+/// A media segment (RFC 8216, sections 3 and 4.3.2), lent by its list.
+#[derive(Drop)]
+pub struct SegmentRef<'a> {
+    tables: &'a Tables,
+    row: &'a Row,
+}
+
+impl<'a> Model for SegmentRef<'a> {
+    ghost use Rattle.playlist_model.specs.Segments.{Segment};
+    ghost use Rattle.playlist_model.specs.Rows.{Fits, row_segment};
+
+    ghost Value = { Segment };
+
+    ghost view = { λ a. row_segment a.tables.now a.row.now };
+
+    ghost invariant = { λ a. Fits a.tables.now a.row.now };
+}
+
+impl<'a> SegmentRef<'a> {
+    /// The same segment, lent once more.
+    #[inline(always)]
+    pub fn again(&self) -> SegmentRef<'a>
+        ensures { result ≡ self.now }
+    {
+        SegmentRef {
+            tables: self.tables,
+            row: self.row,
+        }
+    }
+
+    /// Its Media Sequence Number (section 4.3.3.2).
+    #[inline(always)]
+    pub fn media_sequence(&self) -> u64
+        ensures { result ≡ self.now.media_sequence }
+    {
+        self.row.media_sequence
+    }
+
+    /// Its Discontinuity Sequence Number (section 4.3.3.3).
+    #[inline(always)]
+    pub fn discontinuity_sequence(&self) -> u64
+        ensures { result ≡ self.now.discontinuity_sequence }
+    {
+        self.row.discontinuity_sequence
+    }
+
+    /// How many EXT-X-DISCONTINUITY stand between it and the segment before.
+    #[inline(always)]
+    pub fn discontinuities(&self) -> u64
+        ensures { result ≡ self.now.discontinuities }
+    {
+        let (tables, row) = (self.tables, self.row);
+        tables.standings[row.standing as usize].discontinuities
+    }
+
+    /// Its resource: an absolute URI.
+    #[inline(always)]
+    pub fn uri(&self) -> &'a str
+        ensures text { result.now ≡ self.now.uri }
+        ensures utf8 { IsTrue (is_utf8 self.now.uri) }
+    {
+        let (tables, row) = (self.tables, self.row);
+        listed_text(tables.texts.as_str(), row.uri)
+    }
+
+    /// The part of the resource, if it isn't the whole.
+    #[inline(always)]
+    pub fn byte_range(&self) -> Option<ByteRange>
+        ensures { result ≡ self.now.byte_range }
+    {
+        let (tables, row) = (self.tables, self.row);
+        if row.byte_range == 0 {
+            return None;
+        }
+        Some(tables.byte_ranges[(row.byte_range - 1) as usize])
+    }
+
+    /// The keys that it is encrypted under, sorted by format; none if it is clear.
+    #[inline(always)]
+    pub fn keys(&self) -> KeysRef<'a>
+        ensures { result ≡ self.now.keys }
+    {
+        let (tables, row) = (self.tables, self.row);
+        tables.standings[row.standing as usize]
+            .keys
+            .lent_under(row.media_sequence)
+    }
+
+    /// What its parser is initialised with, if it needs that.
+    #[inline(always)]
+    pub fn init_section(&self) -> &'a Option<Shared<InitSection>>
+        ensures { result.now ≡ self.now.init_section }
+    {
+        let (tables, row) = (self.tables, self.row);
+        &tables.standings[row.standing as usize].init_section
+    }
+
+    /// How long it lasts (EXTINF).
+    #[inline(always)]
+    pub fn duration(&self) -> Nanos
+        ensures { result ≡ self.now.duration }
+    {
+        self.row.duration
+    }
+
+    /// What stands after the duration and a comma.
+    #[inline(always)]
+    pub fn title(&self) -> &'a str
+        ensures { result.now ≡ self.now.title }
+    {
+        let (tables, row) = (self.tables, self.row);
+        listed_text(tables.texts.as_str(), row.title)
+    }
+
+    /// When its first sample is, if EXT-X-PROGRAM-DATE-TIME states that.
+    #[inline(always)]
+    pub fn program_date_time(&self) -> Option<Instant>
+        ensures { result ≡ self.now.program_date_time }
+    {
+        self.row.program_date_time
+    }
+}

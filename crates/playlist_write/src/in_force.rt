@@ -1,0 +1,52 @@
+//! The keys and the initialisation section in force between the lines of two segments (RFC 8216, sections 4.3.2.4 and
+//! 4.3.2.5).
+ghost use Rattle.std.specs.Prelude.{◌≡◌};
+ghost use Rattle.playlist_model.specs.LookBack.{or_earlier};
+
+use playlist_model::{InitSection, Keys, KeysRef, SegmentRef, Shared};
+use std::marker::Model;
+
+/// Keys and an initialisation section that are in force.
+#[derive(Drop)]
+pub struct InForce<'a> {
+    /// The keys.
+    pub keys: KeysRef<'a>,
+    /// The initialisation section, if there is one.
+    pub init_section: &'a Option<Shared<InitSection>>,
+}
+
+impl<'a> Model for InForce<'a> {
+    ghost use Rattle.playlist_write.specs.Owed.{Current};
+
+    ghost Value = { Current };
+
+    ghost view = { λ a. record { keys = a.keys; init_section = a.init_section.now } };
+}
+
+impl<'a> InForce<'a> {
+    /// Where `keys` and `init_section` are in force.
+    pub fn new(keys: &'a Keys, init_section: &'a Option<Shared<InitSection>>) -> InForce<'a>
+        ensures { result ≡ record { keys = keys.now; init_section = init_section.now } }
+    {
+        InForce {
+            keys: keys.lent(),
+            init_section,
+        }
+    }
+
+    /// What is in force after `segment`: its keys, and its initialisation section if it has one.
+    #[inline(always)]
+    pub fn after(&self, segment: &SegmentRef<'a>) -> InForce<'a>
+        ensures { result ≡ record { keys = segment.now.keys; init_section = or_earlier segment.now.init_section self.now.init_section } }
+    {
+        let own = segment.init_section();
+        InForce {
+            keys: segment.keys(),
+            init_section: if own.is_some() {
+                own
+            } else {
+                self.init_section
+            },
+        }
+    }
+}
