@@ -2,7 +2,9 @@
 //! (`tests/run_playlists`).
 use crate::made::key;
 use channel_window::text_in;
-use playlist_model::{Instant, Items, Key, KeyRef, Keys, Shared, Text, is_iv_needed, read_instant};
+use playlist_model::{
+    Instant, Items, Key, KeyRef, Keys, KeysRef, Shared, Text, is_iv_needed, read_instant,
+};
 use std::alloc::{AllocError, Global};
 
 // 1900-01-01T00:00:00Z and 2200-01-01T00:00:00Z, in nanoseconds from 1970.
@@ -88,7 +90,8 @@ fn keys_in_order(rt: HostRuntime) {
 fn keys_of_a_segment(alloc: Global) -> Result<Keys, AllocError> {
     let first = key(alloc, "com.example", "http://origin.example/a", Some(1))?;
     let second = key(alloc, "identity", "http://origin.example/b", None)?;
-    Keys::from_vec(alloc, vec![in alloc; first, second]?)?.under(7)
+    let stated = Keys::from_vec(alloc, vec![in alloc; first, second]?)?;
+    stated.lent_under(7).to_keys()
 }
 
 fn is_supplied(key: &KeyRef<'_>) -> bool {
@@ -99,7 +102,7 @@ fn is_supplied(key: &KeyRef<'_>) -> bool {
         && key.other_attributes().as_str().is_empty()
 }
 
-fn are_told(keys: &Keys) -> bool {
+fn are_told(keys: &KeysRef<'_>) -> bool {
     let mut left = keys.iter();
     let Some(first) = left.next() else {
         return false;
@@ -110,22 +113,22 @@ fn are_told(keys: &Keys) -> bool {
     first.iv() == Some(1) && first.is_before(&second) && is_supplied(&second)
 }
 
-fn are_two(keys: &Keys) -> bool {
+fn are_two(keys: &KeysRef<'_>) -> bool {
     keys.len() == 2 && !keys.is_empty() && keys.only().is_none() && !is_iv_needed(keys)
 }
 
 fn are_copied(alloc: Global, keys: &Keys) -> Result<bool, AllocError> {
     let copies = Keys::from_vec(alloc, keys.to_vec(alloc)?)?;
-    Ok(are_told(&copies) && are_told(&keys.clone()?))
+    Ok(are_told(&copies.lent()) && are_told(&keys.clone()?.lent()))
 }
 
 fn are_effective(alloc: Global) -> Result<bool, AllocError> {
     let keys = keys_of_a_segment(alloc)?;
-    Ok(are_told(&keys) && are_two(&keys) && are_copied(alloc, &keys)?)
+    Ok(are_told(&keys.lent()) && are_two(&keys.lent()) && are_copied(alloc, &keys)?)
 }
 
 #[test]
 fn keys_of_segments(rt: HostRuntime) {
     assert!(rt; matches!(are_effective(rt.alloc()), Ok(true)));
-    assert!(rt; Keys::none().is_empty());
+    assert!(rt; Keys::none().lent().is_empty());
 }
