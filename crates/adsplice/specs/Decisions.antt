@@ -7,12 +7,12 @@ use Rattle.std.specs.declared.io.ErrorKind.TheVariants as kind
 use Rattle.adsplice.specs.declared.decisions.DecisionsFault.{DecisionsFault}
 use Rattle.adsplice.specs.declared.decisions.DecisionsFault.TheVariants.{CannotRead, OutOfMemory}
 
-abbrev pub fault_of : ErrorKind → DecisionsFault
-fault_of kind.OutOfMemory = OutOfMemory
-fault_of _ = CannotRead
+abbrev pub fault_of_program_file : ErrorKind → DecisionsFault
+fault_of_program_file kind.OutOfMemory = OutOfMemory
+fault_of_program_file _ = CannotRead
 
 -- no file if none is named; else its bytes, or why they can't be read
-abbrev pub decision_bytes : {A : Type 0} → Option (Result A Error) → Result (Option A) DecisionsFault
-decision_bytes None = Ok None
-decision_bytes (Some (Ok bytes)) = Ok (Some bytes)
-decision_bytes (Some (Err e)) = Err (fault_of (error_kind e))
+abbrev pub bytes_of_program_file : {A : Type 0} → Option (Result A Error) → Result (Option A) DecisionsFault
+bytes_of_program_file None = Ok None
+bytes_of_program_file (Some (Ok bytes)) = Ok (Some bytes)
+bytes_of_program_file (Some (Err e)) = Err (fault_of_program_file (error_kind e))

@@ -4,7 +4,7 @@ use http_edge::EdgeFault;
 
 /// Whether the client at `place` of `connections`, from 0, was granted what it asked: the status of its reply is
 /// below 300.
-pub fn was_granted(connections: &Connections, place: usize) -> bool {
+pub fn was_socket_granted(connections: &Connections, place: usize) -> bool {
     match connections.phase(place) {
         Phase::Answering(status) => status < 300,
         _ => false,
@@ -13,7 +13,7 @@ pub fn was_granted(connections: &Connections, place: usize) -> bool {
 
 /// The fault of the client at `place` of `connections`, from 0, that is given up: `Read` if it asks, `Write` if it is
 /// answered; `None` if nobody is there.
-pub fn fault_at(connections: &Connections, place: usize) -> Option<EdgeFault> {
+pub fn fault_at_socket(connections: &Connections, place: usize) -> Option<EdgeFault> {
     match connections.phase(place) {
         Phase::Asking => Some(EdgeFault::Read),
         Phase::Answering(_) => Some(EdgeFault::Write),

@@ -1,7 +1,7 @@
 //! What `vod` decides by.
 ghost use Rattle.std.specs.Prelude.{◌≡◌};
 ghost use Rattle.std.specs.IoError.{error_kind};
-ghost use Rattle.adsplice.specs.Decisions.{fault_of, decision_bytes};
+ghost use Rattle.adsplice.specs.Decisions.{fault_of_program_file, bytes_of_program_file};
 
 use std::io;
 use std::io::ErrorKind;
@@ -14,8 +14,8 @@ pub enum DecisionsFault {
 }
 
 // A kind of error as a fault.
-fn fault_of(error: &io::Error) -> DecisionsFault
-    ensures { result ≡ fault_of (error_kind error.now) }
+fn fault_of_program_file(error: &io::Error) -> DecisionsFault
+    ensures { result ≡ fault_of_program_file (error_kind error.now) }
 {
     match error.kind() {
         ErrorKind::OutOfMemory => DecisionsFault::OutOfMemory,
@@ -25,12 +25,14 @@ fn fault_of(error: &io::Error) -> DecisionsFault
 
 /// The bytes of the decision file, if the program's words name one: `file` is what reading it gave. Any fault but
 /// `OutOfMemory` is `CannotRead`.
-pub fn decision_bytes(file: Option<io::Result<Vec<u8>>>) -> Result<Option<Vec<u8>>, DecisionsFault>
-    ensures { result ≡ decision_bytes file }
+pub fn bytes_of_program_file(
+    file: Option<io::Result<Vec<u8>>>,
+) -> Result<Option<Vec<u8>>, DecisionsFault>
+    ensures { result ≡ bytes_of_program_file file }
 {
     match file {
         None => Ok(None),
         Some(Ok(bytes)) => Ok(Some(bytes)),
-        Some(Err(error)) => Err(fault_of(&error)),
+        Some(Err(error)) => Err(fault_of_program_file(&error)),
     }
 }

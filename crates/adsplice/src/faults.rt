@@ -18,7 +18,7 @@ const LINE: usize = 64;
 pub const OUT_OF_MEMORY: &str = "E5 OutOfMemory\n";
 
 /// Writes `line` to standard error, and gives the exit status of a run that failed.
-pub fn fails(rt: &HostRuntime, line: &str) -> ExitCode {
+pub fn fails_on_standard_error(rt: &HostRuntime, line: &str) -> ExitCode {
     let _ = rt.stderr().write_all(line.as_bytes());
     ExitCode::from(1)
 }
@@ -33,7 +33,7 @@ pub struct Faults {
 }
 
 // What tells whether standard error would wait, if it can.
-fn readiness(rt: &HostRuntime) -> Option<Poll> {
+fn standard_error_readiness(rt: &HostRuntime) -> Option<Poll> {
     let poll = Poll::new(rt).ok()?;
     poll.registry()
         .register(&mut SourceFd(&STDERR), Token(0), Interest::WRITABLE)
@@ -42,7 +42,7 @@ fn readiness(rt: &HostRuntime) -> Option<Poll> {
 }
 
 // A text and a line feed, if they fit.
-fn line_of(text: &str) -> Option<ArrayString<LINE>> {
+fn standard_error_line_of(text: &str) -> Option<ArrayString<LINE>> {
     let mut line = ArrayString::<LINE>::new();
     line.try_push_str(text).ok()?;
     line.try_push('\n').ok()?;
@@ -53,7 +53,7 @@ impl Faults {
     /// Fails only if an allocation fails.
     pub fn new(rt: &HostRuntime, alloc: Global) -> Result<Faults, AllocError> {
         Ok(Faults {
-            readiness: readiness(rt),
+            readiness: standard_error_readiness(rt),
             events: Events::with_capacity(alloc, 1)?,
         })
     }
@@ -82,7 +82,7 @@ impl Faults {
         if self.waits() {
             return;
         }
-        if let Some(line) = line_of(text) {
+        if let Some(line) = standard_error_line_of(text) {
             let _ = rt.stderr().write(line.as_str().as_bytes());
         }
     }

@@ -5,7 +5,7 @@
 ghost use Rattle.std.specs.Prelude.{◌<◌, length, vec_len, IfOk};
 ghost use Rattle.connections.specs.Runs.{HasRun};
 
-use crate::faults::{Faults, OUT_OF_MEMORY, fails};
+use crate::faults::{Faults, OUT_OF_MEMORY, fails_on_standard_error};
 use crate::server::{Clients, Opened, Server};
 use connections::{Connections, NewTable};
 use mio::Events;
@@ -21,7 +21,7 @@ const EVENTS: usize = 256;
 const BLOCK: usize = 65_536;
 
 // Tells who sits at a terminal. A file or a pipe has the faults alone.
-fn notice(rt: &HostRuntime, what: &str, port: u16, count: u32) {
+fn notice_of_port(rt: &HostRuntime, what: &str, port: u16, count: u32) {
     let mut standard_error = rt.stderr();
     if standard_error.is_terminal() {
         let _ = writeln!(
@@ -64,7 +64,7 @@ struct Started {
 }
 
 // Takes all memory beside what clients ask, and then the port, so that a client finds the memory there.
-fn start(
+fn start_server(
     rt: &HostRuntime,
     hashing: RandomState,
     port: u16,
@@ -90,7 +90,7 @@ fn start(
 }
 
 // Serves until all came that are let in, and none of them is there any more. Whether it came to that.
-fn serve_all(
+fn serve_all_sockets(
     rt: &HostRuntime,
     server: &mut Server,
     connections: &mut Connections,
@@ -116,13 +116,13 @@ fn serve_all(
 /// Serves `count` connections on the port `port` of the loopback address, from 1, and gives the exit status. The
 /// memory is taken first, so that a client finds it there.
 /// `hashing`: the keys for tables of IDs.
-pub fn live(rt: &HostRuntime, hashing: RandomState, port: u16, count: u32) -> ExitCode {
-    let mut started = match start(rt, hashing, port, count) {
+pub fn serve_live_port(rt: &HostRuntime, hashing: RandomState, port: u16, count: u32) -> ExitCode {
+    let mut started = match start_server(rt, hashing, port, count) {
         Ok(started) => started,
-        Err(fault) => return fails(rt, fault.line()),
+        Err(fault) => return fails_on_standard_error(rt, fault.line()),
     };
-    notice(rt, "serving", port, count);
-    if !serve_all(
+    notice_of_port(rt, "serving", port, count);
+    if !serve_all_sockets(
         rt,
         &mut started.server,
         &mut started.connections,
@@ -131,6 +131,6 @@ pub fn live(rt: &HostRuntime, hashing: RandomState, port: u16, count: u32) -> Ex
     ) {
         return ExitCode::from(1);
     }
-    notice(rt, "served all", port, count);
+    notice_of_port(rt, "served all", port, count);
     ExitCode::SUCCESS
 }

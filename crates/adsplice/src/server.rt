@@ -4,7 +4,7 @@
 ghost use Rattle.std.specs.Prelude.{◌<◌, length};
 ghost use Rattle.connections.specs.Runs.{HasRun};
 
-use crate::client::{fault_at, was_granted};
+use crate::client::{fault_at_socket, was_socket_granted};
 use crate::faults::Faults;
 use connections::{
     Admission, Arrivals, Call, Client, Connections, Line, NonBlocking, PLACES, Phase, Seat, Socket,
@@ -62,7 +62,7 @@ impl Clients {
     /// No clients yet, with `seats` for those that come: all of their table. Fails only if an allocation fails.
     pub fn new(alloc: Global, seats: Vec<Seat<Socket>>) -> Result<Clients, AllocError> {
         Ok(Clients {
-            at: nobody(alloc)?,
+            at: no_socket_clients(alloc)?,
             vacant: seats,
             served: Arrivals::new(alloc, PLACES)?,
             ending: Arrivals::new(alloc, PLACES)?,
@@ -107,7 +107,7 @@ pub struct Server {
     next_tick: Instant,
 }
 
-fn nobody(alloc: Global) -> Result<Vec<Option<Client<Socket>>>, AllocError> {
+fn no_socket_clients(alloc: Global) -> Result<Vec<Option<Client<Socket>>>, AllocError> {
     let mut clients = Vec::with_capacity(alloc, PLACES)?;
     for _ in 0..PLACES {
         clients.push(None)?;
@@ -115,14 +115,14 @@ fn nobody(alloc: Global) -> Result<Vec<Option<Client<Socket>>>, AllocError> {
     Ok(clients)
 }
 
-fn tick_after(now: Instant) -> Instant {
+fn server_tick_after(now: Instant) -> Instant {
     match now.checked_add(Duration::from_millis(TICK_MILLIS)) {
         Some(then) => then,
         None => now,
     }
 }
 
-fn is_no_file(error: &io::Error) -> bool {
+fn is_no_socket_file(error: &io::Error) -> bool {
     match error.raw_os_error() {
         Some(number) => number == NO_FILE_IN_PROCESS || number == NO_FILE_IN_SYSTEM,
         None => false,
@@ -253,7 +253,7 @@ impl Server {
 
     // Tells the fault of a connection that is given up.
     fn tell_given_up(&mut self, rt: &HostRuntime, connections: &Connections, place: usize) {
-        if let Some(fault) = fault_at(connections, place) {
+        if let Some(fault) = fault_at_socket(connections, place) {
             self.faults.tell(rt, fault.text());
         }
     }
@@ -289,7 +289,7 @@ impl Server {
             Turn::Goes => self.watch(connections, place, true),
             Turn::Done if was_ending => self.close(connections, place),
             Turn::Done => {
-                let granted = was_granted(connections, place);
+                let granted = was_socket_granted(connections, place);
                 self.finish(connections, place, granted);
             }
             Turn::Failed(fault) => {
@@ -516,7 +516,7 @@ impl Server {
         if error.kind() == ErrorKind::WouldBlock {
             return Door::Quiet;
         }
-        if !is_no_file(error) {
+        if !is_no_socket_file(error) {
             return Door::Shut;
         }
         // (a new interest has the system tell whether somebody waits at all)
@@ -602,7 +602,7 @@ impl Server {
         if !has_come(self.next_tick, self.opened.now) {
             return;
         }
-        self.next_tick = tick_after(self.opened.now);
+        self.next_tick = server_tick_after(self.opened.now);
         if self.door == Door::Shut {
             self.door = Door::Open;
         }

@@ -9,9 +9,9 @@ use Rattle.std.proofs.lemmas.List.{append-nil, take-append-drop, take_at, drop_m
 use Rattle.std.proofs.lemmas.List.Folds.{list_all-append}
 use Rattle.std.proofs.lemmas.Str.{IsUtf8-from_ascii, IsCharBoundary-from_take}
 use Rattle.attr_list.specs.declared.AttrFault.TheVariants.{BadName, NoEquals, BadValue, OpenQuote}
-use Rattle.attr_list.specs.Attributes.{is_comma, is_equals, is_quote, is_name_byte, is_name, ends_plain, piece_name, quoted_value, value_pair, pair_of_value}
+use Rattle.attr_list.specs.Attributes.{is_comma, is_equals, is_quote, is_attribute_name_byte, is_name, ends_plain, piece_name, quoted_value, value_pair, pair_of_value}
 use Rattle.attr_list.specs.Scanning.{first_from, first_piece}
-use Rattle.attr_list.specs.Inner.Scanning.{ends_pair, begins_quoted, name_fault, StartsWithName, IsValued, HasValueFault}
+use Rattle.attr_list.specs.Inner.Scanning.{ends_attribute_pair, begins_quoted, name_fault, StartsWithName, IsValued, HasValueFault}
 use Rattle.attr_list.proofs.Cuts.{position_at, any_at, before_after, begins_with, before_has_none, rest_begins, list_any-none, position_le, position_none}
 use Rattle.attr_list.proofs.Pieces.{first_past, first_inside, first_ended, name_runs, name_without_equals, plain_runs}
 
@@ -21,11 +21,11 @@ some_length xs h = grind arith
 -- ---- names
 
 abbrev ends_name : ℕ → Bool
-ends_name b = not (is_name_byte b)
+ends_name b = not (is_attribute_name_byte b)
 
 pub record IsNameCut (text name after : List ℕ) : Type 0 where
   pub whole : text ≡ name ++ after
-  pub named : list_all is_name_byte name ≡ true
+  pub named : list_all is_attribute_name_byte name ≡ true
   pub stopped : begins_with ends_name after ≡ true
 
 pub name_cut : (text name after : List ℕ) (n : ℕ) → n ≡ position_or_len ends_name text → name ≡ take n text → after ≡ drop n text → IsNameCut text name after
@@ -33,11 +33,11 @@ name_cut text name after n e f g =
     let front : name ≡ before_first ends_name text = f ∙ ap (λ k. take k text) e in
     let back : after ≡ drop (position_or_len ends_name text) text = g ∙ ap (λ k. drop k text) e in record {
       whole = sym (ap (λ x. x ++ after) f ∙ ap (λ x. take n text ++ x) g ∙ take-append-drop n text);
-      named = list_any-none is_name_byte name (ap (list_any ends_name) front ∙ before_has_none ends_name text);
+      named = list_any-none is_attribute_name_byte name (ap (list_any ends_name) front ∙ before_has_none ends_name text);
       stopped = ap (begins_with ends_name) back ∙ rest_begins ends_name text;
     }
 
-ascii_name : (name : List ℕ) → list_all is_name_byte name ≡ true → IsAscii name
+ascii_name : (name : List ℕ) → list_all is_attribute_name_byte name ≡ true → IsAscii name
 ascii_name [] h i = omega arith
 ascii_name (b ∷ name) h zero = grind arith
 ascii_name (b ∷ name) h (suc i) = let a = and_parts _ _ h in ascii_name name a.1 i
@@ -48,14 +48,14 @@ name_boundary text n u e =
     let within : n ≤ length text = omega (arith, position_le ends_name text) in
     IsCharBoundary-from_take text n u within (IsUtf8-from_ascii (take n text) (ascii_name (take n text) cut.named))
 
-is_name_from : (name : List ℕ) → list_all is_name_byte name ≡ true → (length name == 0) ≡ false → is_name name ≡ true
+is_name_from : (name : List ℕ) → list_all is_attribute_name_byte name ≡ true → (length name == 0) ≡ false → is_name name ≡ true
 is_name_from name h some = and_from _ _ (lt-ltb _ _ (some_length name some)) h
 
 bad_name : (piece : List ℕ) → is_name (piece_name piece) ≡ false → name_fault piece ≡ Some BadName
 bad_name piece h = rw h refl
 
 -- a piece that begins with no name byte has no name
-unnamed : (b : ℕ) (bytes : List ℕ) → is_name_byte b ≡ false → is_name (piece_name (b ∷ bytes)) ≡ false
+unnamed : (b : ℕ) (bytes : List ℕ) → is_attribute_name_byte b ≡ false → is_name (piece_name (b ∷ bytes)) ≡ false
 unnamed b bytes h = grind arith
 
 pub no_name : (text name after : List ℕ) → IsNameCut text name after → (length name == 0) ≡ true → name_fault (first_piece text) ≡ Some BadName
@@ -67,7 +67,7 @@ has_name text name after value cut some e = (is_name_from name cut.named some, c
 first_of_cut : (text name after : List ℕ) → IsNameCut text name after → (length name == 0) ≡ false → first_piece text ≡ name ++ first_piece after
 first_of_cut text name after cut some = ap first_piece cut.whole ∙ first_past name after (name_runs name (is_name_from name cut.named some))
 
-pub name_alone : (text name after : List ℕ) → IsNameCut text name after → (length name == 0) ≡ false → ends_pair after ≡ true → name_fault (first_piece text) ≡ Some NoEquals
+pub name_alone : (text name after : List ℕ) → IsNameCut text name after → (length name == 0) ≡ false → ends_attribute_pair after ≡ true → name_fault (first_piece text) ≡ Some NoEquals
 name_alone text name after cut some ended =
     let is = is_name_from name cut.named some in
     let free = name_without_equals name is in
@@ -81,7 +81,7 @@ name_alone text name after cut some ended =
     by : (name found : List ℕ) → found ≡ name → is_name name ≡ true → list_any is_equals name ≡ false → cond (not (is_name found)) (Some BadName) (cond (not (list_any is_equals name)) (Some NoEquals) None) ≡ Some NoEquals
     by name found e h g = rw (e, h, g) refl
 
-pub name_broken : (text name after : List ℕ) → IsNameCut text name after → (length name == 0) ≡ false → ((rest : List ℕ) → after ≢ 61 ∷ rest) → ends_pair after ≡ false → name_fault (first_piece text) ≡ Some BadName
+pub name_broken : (text name after : List ℕ) → IsNameCut text name after → (length name == 0) ≡ false → ((rest : List ℕ) → after ≢ 61 ∷ rest) → ends_attribute_pair after ≡ false → name_fault (first_piece text) ≡ Some BadName
 name_broken text name [] cut some other ended = grind arith
 name_broken text name (b ∷ after) cut some other ended =
     let is = is_name_from name cut.named some in
@@ -96,8 +96,8 @@ name_broken text name (b ∷ after) cut some other ended =
     unequal : (b n : ℕ) (rest : List ℕ) → is_equals b ≡ false → take (cond (not (is_equals b)) (1 + n) 0) (b ∷ rest) ≡ b ∷ take n rest
     unequal b n rest h = let e : 1 + n ≡ suc n = omega arith in rw h (ap (λ k. take k (b ∷ rest)) e)
 
-    broken : (name : List ℕ) (b : ℕ) (rest : List ℕ) → is_name_byte b ≡ false → is_name (name ++ (b ∷ rest)) ≡ false
-    broken name b rest h = and_right _ _ (list_all-append is_name_byte name (b ∷ rest) ∙ and_right _ _ (and_left _ _ h))
+    broken : (name : List ℕ) (b : ℕ) (rest : List ℕ) → is_attribute_name_byte b ≡ false → is_name (name ++ (b ∷ rest)) ≡ false
+    broken name b rest h = and_right _ _ (list_all-append is_attribute_name_byte name (b ∷ rest) ∙ and_right _ _ (and_left _ _ h))
 
 -- ---- values
 
@@ -126,12 +126,12 @@ pub record IsQuoteCut (text value after : List ℕ) : Type 0 where
 pub quote_cut : (text value after : List ℕ) → (text ≡ value ++ 34 ∷ after) × HasNoQuote value → IsQuoteCut text value after
 quote_cut text value after h = record { whole = h.0; quoteless = quoteless value h.1 }
 
-pub text_after_quote : (text value after : List ℕ) → IsQuoteCut text value after → ends_pair after ≡ false → HasValueFault (34 ∷ text) BadValue
+pub text_after_quote : (text value after : List ℕ) → IsQuoteCut text value after → ends_attribute_pair after ≡ false → HasValueFault (34 ∷ text) BadValue
 text_after_quote text value [] cut ended name = grind arith
 text_after_quote text value (b ∷ after) cut ended name =
     grind (arith, any_at, first_inside, length-append, position_at, quoteless)
 
-pub has_quoted : (text value after : List ℕ) → IsQuoteCut text value after → ends_pair after ≡ true → IsValued (34 ∷ text) true value after
+pub has_quoted : (text value after : List ℕ) → IsQuoteCut text value after → ends_attribute_pair after ≡ true → IsValued (34 ∷ text) true value after
 has_quoted text value after cut ended = grind (arith, append_assoc)
 
 pub record IsPlainCut (text value after : List ℕ) : Type 0 where
@@ -163,12 +163,12 @@ begins_as : (value after : List ℕ) → 0 < length value → begins_quoted (val
 begins_as [] after h = absurd (omega arith)
 begins_as (b ∷ value) after h = refl
 
-pub plain_broken : (text value after : List ℕ) → IsPlainCut text value after → begins_quoted text ≡ false → (length value == 0) ≡ false → ends_pair after ≡ false → HasValueFault text BadValue
+pub plain_broken : (text value after : List ℕ) → IsPlainCut text value after → begins_quoted text ≡ false → (length value == 0) ≡ false → ends_attribute_pair after ≡ false → HasValueFault text BadValue
 plain_broken text value [] cut unquoted some ended name = grind arith
 plain_broken text value (b ∷ after) cut unquoted some ended name =
     grind (arith, any_at, begins_as, first_past, plain_runs, some_length)
 
-pub has_plain : (text value after : List ℕ) → IsPlainCut text value after → (length value == 0) ≡ false → ends_pair after ≡ true → IsValued text false value after
+pub has_plain : (text value after : List ℕ) → IsPlainCut text value after → (length value == 0) ≡ false → ends_attribute_pair after ≡ true → IsValued text false value after
 has_plain text value after cut some ended = grind arith
 
 pub plain_boundary : (text : List ℕ) (n : ℕ) → IsUtf8 text → n ≡ position_or_len ends_plain text → IsCharBoundary text n

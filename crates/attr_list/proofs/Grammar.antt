@@ -10,7 +10,7 @@ use Rattle.std.proofs.lemmas.List.Folds.{list_any_none}
 use Rattle.std.proofs.lemmas.Slice.Eq.{bytes_eq-Decides}
 use Rattle.attr_list.specs.declared.AttrFault.{AttrFault}
 use Rattle.attr_list.specs.Attributes.{Pair, is_quote, is_name, is_value, is_pair, are_apart, is_named, value_spelling, pair_spelling, attributes_text, IsPair, IsAttributeList, pieces_from, pieces, piece_name, piece_value, has_equals, quoted_value, plain_value, value_pair, pair_of_value, pair_of, add_pair, pairs_from, attributes_of}
-use Rattle.attr_list.specs.Inner.Scanning.{ends_pair, StartsWithPair}
+use Rattle.attr_list.specs.Inner.Scanning.{ends_attribute_pair, StartsWithPair}
 use Rattle.attr_list.proofs.Cuts.{before_has_none}
 use Rattle.attr_list.proofs.Pieces.{pieces_are}
 use Rattle.attr_list.proofs.Steps.{pieces_of_pair, pair_read}
@@ -178,7 +178,7 @@ apart_from before (pair ∷ new) each names =
     and_from _ _ (and_from _ _ (and_from _ _ one.0 one.1) (not_from_false _ (new_name before pair new names)))
     (apart_from (before ++ pair ∷ []) new (All-tail IsPair pair new each) (subst (AllPairs NamesDiffer) (sym (append_assoc before (pair ∷ []) new)) names))
 
-starts : (pair : Pair) (after : List ℕ) → is_pair pair ≡ true → ends_pair after ≡ true → StartsWithPair (pair_spelling pair ++ after) pair after
+starts : (pair : Pair) (after : List ℕ) → is_pair pair ≡ true → ends_attribute_pair after ≡ true → StartsWithPair (pair_spelling pair ++ after) pair after
 starts pair after h e = record { fits = h; spelled = refl; ended = e }
 
 pub pieces_of_text : (pair : Pair) (pairs before : List Pair) → are_apart before (pair ∷ pairs) ≡ true → pieces (attributes_text (pair ∷ pairs)) ≡ map pair_spelling (pair ∷ pairs)

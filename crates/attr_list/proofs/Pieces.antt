@@ -5,9 +5,9 @@ use Rattle.std.specs.List.{list_any}
 use Rattle.std.proofs.lemmas.Bool.{and_parts, or_parts, not-true}
 use Rattle.std.proofs.lemmas.List.{append-nil}
 use Rattle.std.proofs.lemmas.Bool.Decides.{nat_tests}
-use Rattle.attr_list.specs.Attributes.{is_comma, is_equals, is_quote, is_name_byte, is_name, is_value, ends_plain, value_spelling, pieces_from}
+use Rattle.attr_list.specs.Attributes.{is_comma, is_equals, is_quote, is_attribute_name_byte, is_name, is_value, ends_plain, value_spelling, pieces_from}
 use Rattle.attr_list.specs.Scanning.{first_from, first_piece}
-use Rattle.attr_list.specs.Inner.Scanning.{ends_pair}
+use Rattle.attr_list.specs.Inner.Scanning.{ends_attribute_pair}
 use Rattle.attr_list.proofs.Elements.{none_from, fewer}
 
 -- the pieces after the first
@@ -54,14 +54,14 @@ later_inside (b ∷ s) rest h =
 
 -- ---- names and values are such runs
 
-name_byte_is : (b : ℕ) → is_name_byte b ≡ true → (stops b ≡ false) × (is_equals b ≡ false)
+name_byte_is : (b : ℕ) → is_attribute_name_byte b ≡ true → (stops b ≡ false) × (is_equals b ≡ false)
 name_byte_is b h = (grind (arith, nat_tests), grind (arith, nat_tests))
 
 pub name_runs : (name : List ℕ) → is_name name ≡ true → list_any stops name ≡ false
-name_runs name h = let a = and_parts _ _ h in none_from is_name_byte stops name a.1 (λ b g. (name_byte_is b g).0)
+name_runs name h = let a = and_parts _ _ h in none_from is_attribute_name_byte stops name a.1 (λ b g. (name_byte_is b g).0)
 
 pub name_without_equals : (name : List ℕ) → is_name name ≡ true → list_any is_equals name ≡ false
-name_without_equals name h = let a = and_parts _ _ h in none_from is_name_byte is_equals name a.1 (λ b g. (name_byte_is b g).1)
+name_without_equals name h = let a = and_parts _ _ h in none_from is_attribute_name_byte is_equals name a.1 (λ b g. (name_byte_is b g).1)
 
 pub plain_runs : (value : List ℕ) → list_any ends_plain value ≡ false → list_any stops value ≡ false
 plain_runs value h = fewer ends_plain stops value h (λ b g. (or_parts _ _ g).0)
@@ -75,11 +75,11 @@ pub later_named : (name rest : List ℕ) → is_name name ≡ true → later_fro
 later_named name rest h = later_past name (61 ∷ rest) (name_runs name h)
 
 -- where a pair may end there is no more of its piece
-pub first_ended : (after : List ℕ) → ends_pair after ≡ true → first_piece after ≡ []
+pub first_ended : (after : List ℕ) → ends_attribute_pair after ≡ true → first_piece after ≡ []
 first_ended [] h = refl
 first_ended (b ∷ after) h = rw h refl
 
-pub first_valued : (q : Bool) (value after : List ℕ) → is_value q value ≡ true → ends_pair after ≡ true → first_piece (value_spelling q value ++ after) ≡ value_spelling q value
+pub first_valued : (q : Bool) (value after : List ℕ) → is_value q value ≡ true → ends_attribute_pair after ≡ true → first_piece (value_spelling q value ++ after) ≡ value_spelling q value
 first_valued q value after h e = grind (arith, append-nil, append_assoc, first_inside, first_past, not-true, plain_runs)
 
 pub later_valued : (q : Bool) (value after : List ℕ) → is_value q value ≡ true → later_from false (value_spelling q value ++ after) ≡ later_from false after

@@ -7,7 +7,7 @@ use Rattle.attr_list.specs.declared.AttrFault.{AttrFault}
 use Rattle.attr_list.specs.declared.AttrFault.TheVariants.{Twice}
 use Rattle.attr_list.specs.Attributes.{Pair, is_quote, is_name, is_value, is_pair, is_named, is_full, value_spelling, pair_spelling, pieces, quoted_value, value_pair, pair_of_value, pair_of, pairs_from, add_pair, spans_from}
 use Rattle.attr_list.specs.Scanning.{first_piece}
-use Rattle.attr_list.specs.Inner.Scanning.{ends_pair, StartsWithName, IsValued, HasValueFault, StartsWithPair}
+use Rattle.attr_list.specs.Inner.Scanning.{ends_attribute_pair, StartsWithName, IsValued, HasValueFault, StartsWithPair}
 use Rattle.attr_list.proofs.Cuts.{position_at, before_at, after_at, any_at}
 use Rattle.attr_list.proofs.Pieces.{first_named, later_named, first_valued, later_valued, later_from, pieces_are, name_without_equals}
 
@@ -68,7 +68,7 @@ read_last most before text pair after s e ok =
 pub read_fault : (most : Option ℕ) (before : List Pair) (text : List ℕ) (fault : AttrFault) → pair_of most before (first_piece text) ≡ Err fault → pairs_from most before (pieces text) ≡ Err fault
 read_fault most before text fault e = grind (arith, pieces_are)
 
-pub ends_empty : (after : List ℕ) → ends_pair after ≡ true → ((rest : List ℕ) → after ≢ 44 ∷ rest) → after ≡ []
+pub ends_empty : (after : List ℕ) → ends_attribute_pair after ≡ true → ((rest : List ℕ) → after ≢ 44 ∷ rest) → after ≡ []
 ends_empty [] h other = refl
 ends_empty (b ∷ after) h other = absurd (other after (ap (λ c. c ∷ after) (eqb-true b 44 h)))
 

@@ -23,12 +23,12 @@ is_quote b = b == quote
 
 -- ---- the grammar
 
-abbrev pub is_name_byte : ℕ → Bool
-is_name_byte b = is_ascii_uppercase b || is_ascii_digit b || b == hyphen
+abbrev pub is_attribute_name_byte : ℕ → Bool
+is_attribute_name_byte b = is_ascii_uppercase b || is_ascii_digit b || b == hyphen
 
 -- one or more of A to Z, 0 to 9 and `-`
 abbrev pub is_name : List ℕ → Bool
-is_name text = nat_lt 0 (length text) && list_all is_name_byte text
+is_name text = nat_lt 0 (length text) && list_all is_attribute_name_byte text
 
 -- a comma, a quote or a space
 abbrev pub ends_plain : ℕ → Bool

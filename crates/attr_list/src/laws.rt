@@ -2,25 +2,25 @@
 ghost use Rattle.attr_list.specs.Laws.{ReadsTheGrammar, HasOneList, WrittenIsRead, WithinLimit, PastLimit, LimitOnlyRefuses, PiecesAreAttributes, SlicesArePieces, DecimalsAreRead};
 
 /// Without a limit the reading gives exactly the lists of the grammar, and a text has at most one.
-pub fn reads_the_grammar()
+pub fn reads_the_attribute_grammar()
     ensures reads { ReadsTheGrammar }
     ensures one { HasOneList }
 {}
 
 /// What is written of attributes is read as these attributes.
-pub fn written_is_read()
+pub fn written_attributes_are_read()
     ensures { WrittenIsRead }
 {}
 
 /// The limit of a list's length only refuses.
-pub fn limit_only_refuses()
+pub fn attribute_limit_only_refuses()
     ensures within { WithinLimit }
     ensures past { PastLimit }
     ensures exactly { LimitOnlyRefuses }
 {}
 
 /// The slices of the text at the attributes' places are their spellings.
-pub fn slices_are_spellings()
+pub fn attribute_slices_are_spellings()
     ensures pieces { PiecesAreAttributes }
     ensures slices { SlicesArePieces }
 {}

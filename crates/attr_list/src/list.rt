@@ -11,7 +11,7 @@ ghost use Rattle.attr_list.specs.Attrs.{attr_pair, attr_span};
 ghost use Rattle.attr_list.specs.Scanning.{first_piece};
 ghost use Rattle.attr_list.specs.Inner.Scanning.{StartsWithPair};
 
-use crate::scan::{split_name, split_value};
+use crate::scan::{split_attribute_name, split_attribute_value};
 use crate::{Attr, AttrFault, Span};
 use std::alloc::Global;
 use std::marker::Model;
@@ -76,7 +76,7 @@ impl<'a> AttrList<'a> {
         ensures slices { IfOk result
             (λ list. slices_at text.now (map attr_span list) ≡ map pair_spelling (map attr_pair list)) }
     {
-        let attrs = read_attrs(alloc, text)?;
+        let attrs = read_attribute_list(alloc, text)?;
         Ok(AttrList { attrs })
     }
 
@@ -87,7 +87,7 @@ impl<'a> AttrList<'a> {
         ensures item { option_copied result
             ≡ find (λ attr. is_named name.now (attr_pair attr)) self.now }
     {
-        find_named(&self.attrs, name)
+        find_named_attribute(&self.attrs, name)
     }
 
     /// The attributes in the order of the text.
@@ -109,7 +109,7 @@ impl<'a> AttrList<'a> {
 }
 
 // The attributes of a text, in one pass.
-fn read_attrs(alloc: Global, text: &str) -> Result<Vec<Attr<'_>>, AttrFault>
+fn read_attribute_list(alloc: Global, text: &str) -> Result<Vec<Attr<'_>>, AttrFault>
     ensures ok { IfOk result
         (λ v. attributes_of (Some MAX_ATTRIBUTES) text.now ≡ Ok (map attr_pair v.items)) }
     ensures fault { IfErr result
@@ -121,13 +121,13 @@ fn read_attrs(alloc: Global, text: &str) -> Result<Vec<Attr<'_>>, AttrFault>
     let mut attrs: Vec<Attr<'_>> = Vec::new(alloc);
     let mut rest = text;
     loop {
-        let pair = read_pair(rest, &attrs)?;
+        let pair = read_attribute_pair(rest, &attrs)?;
         let after = pair.after;
         let span = Span {
             start: text.len() - rest.len(),
             end: text.len() - after.len(),
         };
-        attrs.push(to_attr(pair, span))?;
+        attrs.push(attribute_of_pair(pair, span))?;
         match after.strip_prefix(',') {
             Some(next) => rest = next,
             None => return Ok(attrs),
@@ -145,7 +145,7 @@ struct PairText<'a> {
 }
 
 // The attribute at the front of a text, after these. Takes no memory.
-fn read_pair<'a>(text: &'a str, before: &[Attr<'_>]) -> Result<PairText<'a>, AttrFault>
+fn read_attribute_pair<'a>(text: &'a str, before: &[Attr<'_>]) -> Result<PairText<'a>, AttrFault>
     ensures { MatchResult result
         (λ p. let pair : Pair = record { name = p.name.now; value = p.value.now; quoted = p.quoted } in
         StartsWithPair text.now pair p.after.now
@@ -155,11 +155,11 @@ fn read_pair<'a>(text: &'a str, before: &[Attr<'_>]) -> Result<PairText<'a>, Att
     if before.len() >= MAX_ATTRIBUTES {
         return Err(AttrFault::TooMany);
     }
-    let (name, rest) = split_name(text)?;
-    if has_named(before, name) {
+    let (name, rest) = split_attribute_name(text)?;
+    if has_named_attribute(before, name) {
         return Err(AttrFault::Twice);
     }
-    let value = split_value(rest)?;
+    let value = split_attribute_value(rest)?;
     Ok(PairText {
         name,
         value: value.value,
@@ -169,21 +169,21 @@ fn read_pair<'a>(text: &'a str, before: &[Attr<'_>]) -> Result<PairText<'a>, Att
 }
 
 // The first attribute of this name.
-fn find_named<'s, 'a>(attrs: &'s [Attr<'a>], name: &str) -> Option<&'s Attr<'a>>
+fn find_named_attribute<'s, 'a>(attrs: &'s [Attr<'a>], name: &str) -> Option<&'s Attr<'a>>
     ensures { option_copied result ≡ find (λ attr. is_named name.now (attr_pair attr)) attrs.now }
 {
     attrs.iter().find(|attr| name == attr.name)
 }
 
 // Whether one of `attrs` is called `name`: no name may come twice (RFC 8216, section 4.2).
-fn has_named(attrs: &[Attr<'_>], name: &str) -> bool
+fn has_named_attribute(attrs: &[Attr<'_>], name: &str) -> bool
     ensures { result ≡ list_any (λ attr. is_named name.now (attr_pair attr)) attrs.now }
 {
     attrs.iter().any(|attr| name == attr.name)
 }
 
 // The attribute of these parts, at its place.
-fn to_attr(pair: PairText<'_>, span: Span) -> Attr<'_>
+fn attribute_of_pair(pair: PairText<'_>, span: Span) -> Attr<'_>
     ensures place { result.span ≡ span }
     ensures parts { attr_pair result
         ≡ record { name = pair.entry.name.now; value = pair.entry.value.now; quoted = pair.entry.quoted } }

@@ -22,7 +22,7 @@ pub fn read_decimal(text: &str) -> Result<u64, AttrFault>
     }
     let mut value: u64 = 0;
     for digit in digits {
-        let Some(more) = with_digit(value, *digit) else {
+        let Some(more) = with_decimal_digit(value, *digit) else {
             return Err(AttrFault::BadNumber);
         };
         value = more;
@@ -31,7 +31,7 @@ pub fn read_decimal(text: &str) -> Result<u64, AttrFault>
 }
 
 // A number with one more digit behind it, below 2^64.
-fn with_digit(number: u64, digit: u8) -> Option<u64>
+fn with_decimal_digit(number: u64, digit: u8) -> Option<u64>
     ensures { SomeIff result ((is_ascii_digit digit ≡ true)
         × (number * 10 + (digit - 48) < 2 ^ 64)) (number * 10 + (digit - 48)) }
 {
@@ -46,10 +46,13 @@ fn with_digit(number: u64, digit: u8) -> Option<u64>
 pub fn read_hex_u128(text: &str) -> Result<u128, AttrFault>
     ensures { result ≡ ok_or (hex_of text.now) AttrFault.BadNumber }
 {
-    let Some(digits) = after_prefix(text) else {
+    let Some(digits) = after_hexadecimal_prefix(text) else {
         return Err(AttrFault::BadNumber);
     };
-    if digits.is_empty() || digits.len() > MAX_HEX_DIGITS || !is_hex(digits.as_bytes()) {
+    if digits.is_empty()
+        || digits.len() > MAX_HEX_DIGITS
+        || !are_hexadecimal_digits(digits.as_bytes())
+    {
         return Err(AttrFault::BadNumber);
     }
     u128::from_str_radix(digits, 16)
@@ -58,7 +61,7 @@ pub fn read_hex_u128(text: &str) -> Result<u128, AttrFault>
 }
 
 // What follows `0x` or `0X`.
-fn after_prefix(text: &str) -> Option<&str>
+fn after_hexadecimal_prefix(text: &str) -> Option<&str>
     ensures { MatchOption result (has_hex_prefix text.now ≡ false)
         (λ digits. (has_hex_prefix text.now ≡ true) × (digits.now ≡ drop 2 text.now)) }
 {
@@ -68,7 +71,7 @@ fn after_prefix(text: &str) -> Option<&str>
     }
 }
 
-fn is_hex(bytes: &[u8]) -> bool
+fn are_hexadecimal_digits(bytes: &[u8]) -> bool
     ensures { result ≡ list_all is_ascii_hexdigit bytes.now }
 {
     bytes.iter().all(|b| b.is_ascii_hexdigit())

@@ -6,8 +6,8 @@ use Rattle.std.specs.Map.{keys_of}
 use Rattle.std.proofs.lemmas.Slice.Eq.{bytes_eq-Decides}
 use Rattle.playlist_model.specs.declared.DateRange.{DateRange}
 use Rattle.break_finder.specs.declared.described.Described.{Described}
-use Rattle.break_finder.specs.Breaks.{Break, and_tag}
-use Rattle.break_finder.specs.Known.{Accepted, is_tag_of, is_this, more_said, carry}
+use Rattle.break_finder.specs.Breaks.{Break, described_break_and_tag}
+use Rattle.break_finder.specs.Known.{Accepted, is_tag_of, is_this_break, more_said, carry}
 use Rattle.break_finder.specs.Kept.{break_at}
 use Rattle.break_finder.specs.Inner.Kept.{BreaksById}
 use Rattle.break_finder.specs.Inner.Known.{break_stands, with_tag, TagsSayNothingNew, walked}
@@ -34,7 +34,7 @@ all_stand all carried (b ∷ breaks) [] more h = absurd h
 all_stand all carried (b ∷ breaks) (t ∷ tags) more h =
     let own : is_tag_of b.id t ≡ true = ap (bytes_eq b.id) (sym h.0) ∙ itself b.id in
     let here : list_any (is_tag_of b.id) all ≡ true = more b.id (ap (λ c. c || list_any (is_tag_of b.id) tags) own) in
-    ap (λ c. cond (c || is_this b.id carried) (b ∷ filter (break_stands all carried) breaks) (filter (break_stands all carried) breaks)) here
+    ap (λ c. cond (c || is_this_break b.id carried) (b ∷ filter (break_stands all carried) breaks) (filter (break_stands all carried) breaks)) here
     ∙ ap (λ bs. b ∷ bs) (all_stand all carried breaks tags (λ id e. more id (tagged_more id t tags e)) h.2)
 
 and_left : (a b : Bool) → (a && b) ≡ true → a ≡ true
@@ -71,7 +71,7 @@ unchanged p (b ∷ breaks) [] f h = absurd h
 unchanged p (b ∷ breaks) (t ∷ tags) f h =
     let own : bytes_eq t.id b.id ≡ true = ap (λ id. bytes_eq id b.id) (sym h.0) ∙ itself b.id in
     let same : with_tag (b ∷ breaks) t ≡ b ∷ breaks =
-    ap (λ c. cond c (record { id = b.id; said = and_tag b.said t } ∷ breaks) (b ∷ with_tag breaks t)) own ∙ ap (λ (s : Described). record { id = b.id; said = s } ∷ breaks) h.1 in
+    ap (λ c. cond c (record { id = b.id; said = described_break_and_tag b.said t } ∷ breaks) (b ∷ with_tag breaks t)) own ∙ ap (λ (s : Described). record { id = b.id; said = s } ∷ breaks) h.1 in
     let apart = others b (λ id. p id && not (bytes_eq b.id id)) breaks tags (λ id e. not_true (bytes_eq b.id id) (and_right (p id) (not (bytes_eq b.id id)) e)) f.1 h.2 in
     ap (λ bs. fold with_tag bs tags) same
     ∙ (walk_front b breaks tags

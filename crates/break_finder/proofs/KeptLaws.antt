@@ -6,7 +6,7 @@ use Rattle.std.specs.Map.{keys_of}
 use Rattle.indexmap.specs.IndexMap.{insert_entry}
 use Rattle.playlist_model.specs.declared.DateRange.{DateRange}
 use Rattle.break_finder.specs.declared.described.Described.{Described}
-use Rattle.break_finder.specs.Breaks.{Break, said_of, said_in, and_tag}
+use Rattle.break_finder.specs.Breaks.{Break, said_of, said_in, described_break_and_tag}
 use Rattle.break_finder.specs.Known.{Accepted, is_tagged_or_carried, carry}
 use Rattle.break_finder.specs.Inner.Known.{with_tag, break_stands}
 use Rattle.break_finder.proofs.Walked.{Fits, walked_is_carried}
@@ -26,7 +26,7 @@ pub said_kept : (id : List ℕ) (es : BreaksById) (breaks : List Break) (found :
 said_kept id es breaks found view_is found_is = found_is ∙ sym (kept_all id es) ∙ ap (λ bs. said_of bs id) view_is
 
 -- what is inserted is what the tag adds
-pub added : (es : BreaksById) (k : List ℕ) (said : Described) (tag : DateRange) → k ≡ tag.id → said ≡ and_tag (said_or_nothing (break_kept_for tag.id es)) tag
+pub added : (es : BreaksById) (k : List ℕ) (said : Described) (tag : DateRange) → k ≡ tag.id → said ≡ described_break_and_tag (said_or_nothing (break_kept_for tag.id es)) tag
     → map break_at (insert_entry bytes_eq es k said) ≡ with_tag (map break_at es) tag
 added [] k said tag i h = grind arith
 added (e ∷ es) k said tag i h = grind (arith, added es k said tag i)

@@ -4,23 +4,25 @@ ghost use Rattle.std.specs.List.{list_any};
 ghost use Rattle.std.specs.Option.{option_copied};
 ghost use Rattle.indexmap.specs.IndexMap.{IsUnique};
 ghost use Rattle.pod_store.specs.Store.{is_one_of};
-ghost use Rattle.break_finder.specs.Breaks.{and_tag};
+ghost use Rattle.break_finder.specs.Breaks.{described_break_and_tag};
 ghost use Rattle.break_finder.specs.Kept.{break_at};
-ghost use Rattle.break_finder.specs.Inner.Kept.{break_kept_for, said_or_nothing, stands_with, is_kept_with};
-ghost use Rattle.break_finder.specs.Known.{is_tag_of, is_this};
+ghost use Rattle.break_finder.specs.Inner.Kept.{break_kept_for, said_or_nothing, break_stands_with_ids, is_kept_with};
+ghost use Rattle.break_finder.specs.Known.{is_tag_of, is_this_break};
 ghost use Rattle.break_finder.specs.Inner.Known.{break_stands, with_tag, TagsSayNothingNew};
 
 use crate::break_id::BreakId;
-use crate::described::{Described, and_tag, nothing_said, says_nothing_new};
-use crate::kept::{Breaks, kept_for};
+use crate::described::{
+    Described, described_break_and_tag, nothing_said_of_break, says_nothing_new_of_break,
+};
+use crate::kept::{Breaks, break_said_for};
 use indexmap::IndexMap;
 use playlist_model::{DateRange, Shared};
 use pod_store::IdSet;
 use std::alloc::{AllocError, Global};
 use std::hash::RandomState;
 
-fn is_this(id: &str, other: Option<&str>) -> bool
-    ensures { result ≡ is_this id.now (option_copied other.entry) }
+fn is_this_break(id: &str, other: Option<&str>) -> bool
+    ensures { result ≡ is_this_break id.now (option_copied other.entry) }
 {
     match other {
         Some(other) => id == other,
@@ -29,7 +31,7 @@ fn is_this(id: &str, other: Option<&str>) -> bool
 }
 
 // Notes the ID of a tag.
-fn add_id<'a>(ids: &mut IdSet<'a>, tag: &'a DateRange) -> Result<(), AllocError>
+fn add_break_id<'a>(ids: &mut IdSet<'a>, tag: &'a DateRange) -> Result<(), AllocError>
     ensures { OnOk result ((id : List ℕ)
         → is_one_of ids.new id ≡ (is_one_of ids.old id || is_tag_of id tag.now)) }
 {
@@ -38,7 +40,7 @@ fn add_id<'a>(ids: &mut IdSet<'a>, tag: &'a DateRange) -> Result<(), AllocError>
 }
 
 // The IDs of these tags.
-fn ids_of<'a>(
+fn break_ids_of<'a>(
     alloc: Global,
     hashing: RandomState,
     date_ranges: &'a [Shared<DateRange>],
@@ -49,20 +51,20 @@ fn ids_of<'a>(
     let mut ids = IdSet::new(alloc, hashing);
     let mut rest = date_ranges;
     while let Some((tag, later)) = rest.split_first() {
-        add_id(&mut ids, tag)?;
+        add_break_id(&mut ids, tag)?;
         rest = later;
     }
     Ok(ids)
 }
 
-fn stands_with(ids: &IdSet<'_>, carried: Option<&str>, id: &str) -> bool
-    ensures { result ≡ stands_with ids.now (option_copied carried.entry) id.now }
+fn break_stands_with_ids(ids: &IdSet<'_>, carried: Option<&str>, id: &str) -> bool
+    ensures { result ≡ break_stands_with_ids ids.now (option_copied carried.entry) id.now }
 {
-    ids.contains(id) || is_this(id, carried)
+    ids.contains(id) || is_this_break(id, carried)
 }
 
 // Forgets the breaks that are none of these IDs and are not carried.
-fn keep_standing(kept: &mut Breaks, ids: &IdSet<'_>, carried: Option<&str>)
+fn keep_standing_breaks(kept: &mut Breaks, ids: &IdSet<'_>, carried: Option<&str>)
     ensures standing { kept.new.entries
         ≡ filter (is_kept_with ids.now (option_copied carried.entry)) kept.old.entries }
     ensures unique { IsUnique bytes_eq kept.new }
@@ -70,29 +72,29 @@ fn keep_standing(kept: &mut Breaks, ids: &IdSet<'_>, carried: Option<&str>)
     kept.retain(
         |id: &BreakId, said: &mut Described| -> bool
             ensures { (result
-                ≡ stands_with ids.entry.now (option_copied carried.entry) id.now)
+                ≡ break_stands_with_ids ids.entry.now (option_copied carried.entry) id.now)
                 × (said.new ≡ said.old) }
-        { stands_with(ids, carried, id.as_str()) },
+        { break_stands_with_ids(ids, carried, id.as_str()) },
     );
 }
 
 // What is said of a break so far.
-fn said_so_far(breaks: &Breaks, id: &str) -> Described
+fn said_of_break_so_far(breaks: &Breaks, id: &str) -> Described
     ensures { result ≡ said_or_nothing (break_kept_for id.now breaks.now.entries) }
 {
-    match kept_for(breaks, id) {
+    match break_said_for(breaks, id) {
         Some(said) => said,
-        None => nothing_said(),
+        None => nothing_said_of_break(),
     }
 }
 
 // A tag of a break that is known says more of it; another break is known from now on.
-fn add_tag(alloc: Global, breaks: &mut Breaks, tag: &DateRange) -> Result<(), AllocError>
+fn add_break_tag(alloc: Global, breaks: &mut Breaks, tag: &DateRange) -> Result<(), AllocError>
     ensures { OnOk result (map break_at breaks.new.entries
         ≡ with_tag (map break_at breaks.old.entries) tag.now) }
 {
     let id = tag.id.as_str();
-    let said = and_tag(alloc, said_so_far(breaks, id), tag)?;
+    let said = described_break_and_tag(alloc, said_of_break_so_far(breaks, id), tag)?;
     let key = BreakId::new(&tag.id)?;
     breaks.insert(key, said)?;
     Ok(())
@@ -100,7 +102,7 @@ fn add_tag(alloc: Global, breaks: &mut Breaks, tag: &DateRange) -> Result<(), Al
 
 /// Adds to `breaks` what each of `date_ranges` says (RFC 8216, section 4.3.2.7), in their order. Fails only if an
 /// allocation fails.
-pub fn add_tags(
+pub fn add_break_tags(
     alloc: Global,
     breaks: &mut Breaks,
     date_ranges: &[Shared<DateRange>],
@@ -110,26 +112,26 @@ pub fn add_tags(
 {
     let mut rest = date_ranges;
     while let Some((tag, later)) = rest.split_first() {
-        add_tag(alloc, breaks, tag)?;
+        add_break_tag(alloc, breaks, tag)?;
         rest = later;
     }
     Ok(())
 }
 
 // Whether this is a tag of this break, of which nothing is said that isn't said already.
-fn is_said(id: &str, said: &Described, tag: &DateRange) -> bool
+fn is_break_tag_said(id: &str, said: &Described, tag: &DateRange) -> bool
     ensures id { result ≡ true → id.now ≡ tag.now.id }
-    ensures said { result ≡ true → and_tag said.now tag.now ≡ said.now }
+    ensures said { result ≡ true → described_break_and_tag said.now tag.now ≡ said.now }
 {
     if id != tag.id.as_str() {
         return false;
     }
-    says_nothing_new(said, tag)
+    says_nothing_new_of_break(said, tag)
 }
 
 /// Whether each of `date_ranges` is a tag of the break at its place among `breaks`, and says nothing that isn't said of it
 /// already. So it mostly is from refresh to refresh. Takes no memory.
-pub fn are_said(breaks: &Breaks, date_ranges: &[Shared<DateRange>]) -> bool
+pub fn are_break_tags_said(breaks: &Breaks, date_ranges: &[Shared<DateRange>]) -> bool
     ensures said { result ≡ true
         → TagsSayNothingNew (map break_at breaks.now.entries) date_ranges.now }
     ensures unique { IsUnique bytes_eq breaks.now }
@@ -142,7 +144,7 @@ pub fn are_said(breaks: &Breaks, date_ranges: &[Shared<DateRange>]) -> bool
         let Some((tag, later)) = rest.split_first() else {
             return false;
         };
-        if !is_said(id.as_str(), said, tag) {
+        if !is_break_tag_said(id.as_str(), said, tag) {
             return false;
         }
         rest = later;
@@ -152,7 +154,7 @@ pub fn are_said(breaks: &Breaks, date_ranges: &[Shared<DateRange>]) -> bool
 
 /// Copies of those `breaks` that have a tag among `date_ranges`, or whose ID is `carried`. Fails only if an
 /// allocation fails.
-pub fn copy_standing(
+pub fn copy_standing_breaks(
     alloc: Global,
     breaks: &Breaks,
     date_ranges: &[Shared<DateRange>],
@@ -167,8 +169,8 @@ pub fn copy_standing(
     if breaks.is_empty() {
         return Ok(IndexMap::with_hasher(alloc, *breaks.hasher()));
     }
-    let ids = ids_of(alloc, *breaks.hasher(), date_ranges)?;
+    let ids = break_ids_of(alloc, *breaks.hasher(), date_ranges)?;
     let mut kept = breaks.clone()?;
-    keep_standing(&mut kept, &ids, carried);
+    keep_standing_breaks(&mut kept, &ids, carried);
     Ok(kept)
 }

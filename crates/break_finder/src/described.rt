@@ -1,10 +1,10 @@
 //! What is said of a break.
 ghost use Rattle.std.specs.Prelude.{◌≡◌, true, IfOk, option_map};
 ghost use Rattle.playlist_model.specs.LookBack.{or_earlier};
-ghost use Rattle.break_finder.specs.Breaks.{and_tag, nothing_said};
-ghost use Rattle.break_finder.specs.Signals.{signal_of, is_leaving, is_returning};
+ghost use Rattle.break_finder.specs.Breaks.{described_break_and_tag, nothing_said_of_break};
+ghost use Rattle.break_finder.specs.Signals.{break_signal_of_text, is_break_leaving_signal, is_break_returning_signal};
 
-use crate::signal::{Signal, signal_of};
+use crate::signal::{Signal, break_signal_of_text};
 use fixed_duration::Nanos;
 use playlist_model::{DateRange, Instant, Text};
 use std::alloc::{AllocError, Global};
@@ -27,8 +27,8 @@ pub struct Described {
 }
 
 /// Nothing is said yet.
-pub fn nothing_said() -> Described
-    ensures { result ≡ nothing_said }
+pub fn nothing_said_of_break() -> Described
+    ensures { result ≡ nothing_said_of_break }
 {
     Described {
         start: None,
@@ -41,39 +41,43 @@ pub fn nothing_said() -> Described
 }
 
 // The signal that stands, else what the text says.
-fn or_signal(
+fn break_signal_or_said(
     alloc: Global,
     stands: Option<Signal>,
     text: &Option<Text>,
 ) -> Result<Option<Signal>, AllocError>
-    ensures { IfOk result (λ signal. signal ≡ or_earlier stands (option_map signal_of text.now)) }
+    ensures { IfOk result (λ signal. signal ≡ or_earlier stands (option_map break_signal_of_text text.now)) }
 {
     if stands.is_some() {
         return Ok(stands);
     }
     match text {
-        Some(text) => Ok(Some(signal_of(alloc, text.as_str())?)),
+        Some(text) => Ok(Some(break_signal_of_text(alloc, text.as_str())?)),
         None => Ok(None),
     }
 }
 
 /// What is `said` of a break with `tag` added. Of tags of one ID the first value of an attribute counts (RFC 8216,
 /// section 4.3.2.7). Fails only if an allocation fails.
-pub fn and_tag(alloc: Global, said: Described, tag: &DateRange) -> Result<Described, AllocError>
-    ensures { IfOk result (λ more. more ≡ and_tag said tag.now) }
+pub fn described_break_and_tag(
+    alloc: Global,
+    said: Described,
+    tag: &DateRange,
+) -> Result<Described, AllocError>
+    ensures { IfOk result (λ more. more ≡ described_break_and_tag said tag.now) }
 {
     Ok(Described {
         start: said.start.or(tag.start),
         end: said.end.or(tag.end),
         duration: said.duration.or(tag.duration),
         planned_duration: said.planned_duration.or(tag.planned_duration),
-        scte35_out: or_signal(alloc, said.scte35_out, &tag.scte35_out)?,
-        scte35_in: or_signal(alloc, said.scte35_in, &tag.scte35_in)?,
+        scte35_out: break_signal_or_said(alloc, said.scte35_out, &tag.scte35_out)?,
+        scte35_in: break_signal_or_said(alloc, said.scte35_in, &tag.scte35_in)?,
     })
 }
 
 // Whether no instant comes to this one, if there is one more.
-fn stays_instant(stands: Option<Instant>, more: Option<Instant>) -> bool
+fn break_instant_stays(stands: Option<Instant>, more: Option<Instant>) -> bool
     ensures { result ≡ true → or_earlier stands more ≡ stands }
 {
     match stands {
@@ -82,7 +86,7 @@ fn stays_instant(stands: Option<Instant>, more: Option<Instant>) -> bool
     }
 }
 
-fn stays_duration(stands: Option<Nanos>, more: Option<Nanos>) -> bool
+fn break_duration_stays(stands: Option<Nanos>, more: Option<Nanos>) -> bool
     ensures { result ≡ true → or_earlier stands more ≡ stands }
 {
     match stands {
@@ -91,8 +95,8 @@ fn stays_duration(stands: Option<Nanos>, more: Option<Nanos>) -> bool
     }
 }
 
-fn stays_signal(stands: Option<Signal>, text: &Option<Text>) -> bool
-    ensures { result ≡ true → or_earlier stands (option_map signal_of text.now) ≡ stands }
+fn break_signal_stays(stands: Option<Signal>, text: &Option<Text>) -> bool
+    ensures { result ≡ true → or_earlier stands (option_map break_signal_of_text text.now) ≡ stands }
 {
     match stands {
         Some(_) => true,
@@ -102,30 +106,30 @@ fn stays_signal(stands: Option<Signal>, text: &Option<Text>) -> bool
 
 #[tactic(auto, using(crate::proofs::NothingNew::nothing_new))]
 /// Whether `tag` says nothing that isn't `said` already. Takes no memory.
-pub fn says_nothing_new(said: &Described, tag: &DateRange) -> bool
-    ensures { result ≡ true → and_tag said.now tag.now ≡ said.now }
+pub fn says_nothing_new_of_break(said: &Described, tag: &DateRange) -> bool
+    ensures { result ≡ true → described_break_and_tag said.now tag.now ≡ said.now }
 {
-    if !stays_instant(said.start, tag.start) {
+    if !break_instant_stays(said.start, tag.start) {
         return false;
     }
-    if !stays_instant(said.end, tag.end) {
+    if !break_instant_stays(said.end, tag.end) {
         return false;
     }
-    if !stays_duration(said.duration, tag.duration) {
+    if !break_duration_stays(said.duration, tag.duration) {
         return false;
     }
-    if !stays_duration(said.planned_duration, tag.planned_duration) {
+    if !break_duration_stays(said.planned_duration, tag.planned_duration) {
         return false;
     }
-    if !stays_signal(said.scte35_out, &tag.scte35_out) {
+    if !break_signal_stays(said.scte35_out, &tag.scte35_out) {
         return false;
     }
-    stays_signal(said.scte35_in, &tag.scte35_in)
+    break_signal_stays(said.scte35_in, &tag.scte35_in)
 }
 
 /// Whether `signal` leaves the network (SCTE 35, section 9.7.3).
-pub fn is_leaving(signal: Option<Signal>) -> bool
-    ensures { result ≡ is_leaving signal }
+pub fn is_break_leaving_signal(signal: Option<Signal>) -> bool
+    ensures { result ≡ is_break_leaving_signal signal }
 {
     match signal {
         Some(Signal::Leaves(_)) => true,
@@ -134,8 +138,8 @@ pub fn is_leaving(signal: Option<Signal>) -> bool
 }
 
 /// Whether `signal` returns to the network (SCTE 35, section 9.7.3).
-pub fn is_returning(signal: Option<Signal>) -> bool
-    ensures { result ≡ is_returning signal }
+pub fn is_break_returning_signal(signal: Option<Signal>) -> bool
+    ensures { result ≡ is_break_returning_signal signal }
 {
     match signal {
         Some(Signal::Returns(_)) => true,

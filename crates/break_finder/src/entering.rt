@@ -8,9 +8,11 @@ ghost use Rattle.break_finder.specs.Kept.{break_at};
 ghost use Rattle.break_finder.specs.Entering.{EntryLimits, entered};
 ghost use Rattle.break_finder.specs.Entrances.{entrances_in, is_within, first_entrance, TellsEntrances};
 
-use crate::entrance::{Candidates, Entrance, entrance_of, first_candidate, first_entered};
+use crate::entrance::{
+    Candidates, Entrance, break_entrance_of, first_candidate_break, first_entered_break,
+};
 use crate::kept::Breaks;
-use crate::spans::{TimeSpan, TimesWithin, place_in_spans, span_at, spans_of};
+use crate::spans::{BreakSpan, TimesWithin, break_span_at, break_spans_of, place_in_break_spans};
 use fixed_duration::Nanos;
 use playlist_model::{Instant, Shared, Text};
 use pod_store::PodStore;
@@ -32,7 +34,7 @@ pub struct Entrances<'a> {
     list: Vec<Entrance<'a>>,
     // In place of the list, if it isn't made.
     candidates: Option<Candidates<'a>>,
-    spans: Vec<TimeSpan<'a>>,
+    spans: Vec<BreakSpan<'a>>,
     // That of the span found last.
     place: usize,
 }
@@ -50,22 +52,22 @@ impl<'a> Model for Entrances<'a> {
 }
 
 // The spans of these breaks, if it pays to make them for so many segments.
-fn spans_for<'a>(
+fn entrance_spans_for<'a>(
     alloc: Global,
     tolerance: Nanos,
     list: &[Entrance<'a>],
     segments: usize,
-) -> Result<Vec<TimeSpan<'a>>, AllocError>
+) -> Result<Vec<BreakSpan<'a>>, AllocError>
     ensures { IfOk result (λ v. All (TellsEntrances tolerance list.now) v.items) }
 {
     if segments < FEW_SEGMENTS {
         return Ok(Vec::new(alloc));
     }
-    spans_of(alloc, tolerance, list)
+    break_spans_of(alloc, tolerance, list)
 }
 
 // Those of known breaks that can be entered, in a list.
-fn list_entrances<'a>(
+fn list_break_entrances<'a>(
     alloc: Global,
     target: u64,
     with_init_sections: bool,
@@ -77,7 +79,7 @@ fn list_entrances<'a>(
 {
     let mut list = Vec::new(alloc);
     for (id, said) in breaks {
-        if let Some(entrance) = entrance_of(
+        if let Some(entrance) = break_entrance_of(
             target,
             with_init_sections,
             store,
@@ -91,7 +93,7 @@ fn list_entrances<'a>(
 }
 
 // Nothing is listed: each segment looks among all.
-fn entrances_without_list<'a>(
+fn entrances_without_break_list<'a>(
     alloc: Global,
     tolerance: Nanos,
     candidates: Candidates<'a>,
@@ -111,7 +113,7 @@ fn entrances_without_list<'a>(
 /// the pod fits the target duration `target`, in seconds, and segments that are `with_init_sections` (have initialisation
 /// sections) or aren't. They are made for about `segments` segments, which changes what they take and nothing else.
 /// Fails only if an allocation fails.
-pub fn entrances_of<'a>(
+pub fn break_entrances_of<'a>(
     alloc: Global,
     tolerance: Nanos,
     target: u64,
@@ -131,10 +133,10 @@ pub fn entrances_of<'a>(
             store,
             breaks,
         };
-        return Ok(entrances_without_list(alloc, tolerance, candidates));
+        return Ok(entrances_without_break_list(alloc, tolerance, candidates));
     }
-    let list = list_entrances(alloc, target, with_init_sections, store, breaks)?;
-    let spans = spans_for(alloc, tolerance, list.as_slice(), segments)?;
+    let list = list_break_entrances(alloc, target, with_init_sections, store, breaks)?;
+    let spans = entrance_spans_for(alloc, tolerance, list.as_slice(), segments)?;
     Ok(Entrances {
         tolerance,
         list,
@@ -151,8 +153,8 @@ impl<'a> Entrances<'a> {
             ≡ first_entrance self.now.tolerance (option_copied last.entry) instant self.now.found }
     {
         match &self.candidates {
-            Some(candidates) => first_candidate(candidates, self.tolerance, last, instant),
-            None => first_entered(self.list.as_slice(), self.tolerance, last, instant),
+            Some(candidates) => first_candidate_break(candidates, self.tolerance, last, instant),
+            None => first_entered_break(self.list.as_slice(), self.tolerance, last, instant),
         }
     }
 
@@ -163,8 +165,8 @@ impl<'a> Entrances<'a> {
             ≡ first_entrance self.old.tolerance (option_copied last.entry) instant self.old.found }
         ensures kept { self.new ≡ self.old }
     {
-        self.place = place_in_spans(self.spans.as_slice(), self.place, instant);
-        match span_at(self.spans.as_slice(), self.place, instant) {
+        self.place = place_in_break_spans(self.spans.as_slice(), self.place, instant);
+        match break_span_at(self.spans.as_slice(), self.place, instant) {
             Some(span) => span.break_entered(last),
             None => self.first_found(instant, last),
         }
@@ -177,7 +179,7 @@ impl<'a> Entrances<'a> {
         ensures { result ≡ true → (last : Option (List ℕ))
             → first_entrance self.now.tolerance last instant self.now.found ≡ None }
     {
-        match span_at(self.spans.as_slice(), self.place, instant) {
+        match break_span_at(self.spans.as_slice(), self.place, instant) {
             Some(span) => span.is_closed(),
             None => false,
         }
@@ -209,7 +211,7 @@ impl<'a> Entrances<'a> {
             → self.now.found ≡ entrances_in m.target_duration m.with_init_sections store breaks
             → is_within times.from times.to i ≡ true → entered m store breaks (Some i) ≡ None) }
     {
-        let span = span_at(self.spans.as_slice(), self.place, instant?)?;
+        let span = break_span_at(self.spans.as_slice(), self.place, instant?)?;
         if span.break_entered(last).is_some() {
             return None;
         }

@@ -1,20 +1,20 @@
 //! What is known of breaks.
-ghost use Rattle.std.specs.Prelude.{List, ℤ, Option, [], ◌∷◌, ◌≡◌, ◌<◌, ◌^◌, option_map, slice_get, IfOk};
+ghost use Rattle.std.specs.Prelude.{List, ℤ, Option, [], ◌∷◌, ◌≡◌, ◌<◌, option_map, slice_get, IfOk};
 ghost use Rattle.std.specs.Option.{option_copied};
-ghost use Rattle.pod_store.specs.Store.{pod_for, has_fitting_pod};
+ghost use Rattle.pod_store.specs.Store.{pod_for};
 ghost use Rattle.break_finder.specs.Breaks.{said_of};
 ghost use Rattle.break_finder.specs.Known.{Accepted, carry, known};
 ghost use Rattle.break_finder.specs.Laws.{CarriesKnown};
 ghost use Rattle.break_finder.specs.Entrances.{entrances_in};
-ghost use Rattle.break_finder.specs.Entering.{is_inside, is_inside_said, id_of_break, why, why_said};
+ghost use Rattle.break_finder.specs.Entering.{is_inside, is_inside_said, id_of_break, why, why_break_said};
 ghost use Rattle.break_finder.specs.Stays.{stays_at};
-ghost use Rattle.break_finder.specs.Signals.{is_leaving};
+ghost use Rattle.break_finder.specs.Signals.{is_break_leaving_signal};
 
-use crate::carry::{add_tags, are_said, copy_standing};
-use crate::described::{Described, is_leaving};
-use crate::end::{End, end_of, is_before_end};
-use crate::entering::{Entrances, entrances_of};
-use crate::kept::{Breaks, kept_for};
+use crate::carry::{add_break_tags, are_break_tags_said, copy_standing_breaks};
+use crate::described::{Described, is_break_leaving_signal};
+use crate::end::{End, break_end_of, is_before_break_end};
+use crate::entering::{Entrances, break_entrances_of};
+use crate::kept::{Breaks, break_said_for};
 use crate::why::Why;
 use fixed_duration::Nanos;
 use indexmap::IndexMap;
@@ -38,21 +38,21 @@ impl Stay {
         ensures { result ≡ stays_at self.now instant }
     {
         match instant {
-            Some(instant) => is_before_end(instant, self.tolerance, self.end),
+            Some(instant) => is_before_break_end(instant, self.tolerance, self.end),
             None => false,
         }
     }
 }
 
 // Until when segments are inside a break, of which this is said if it is known.
-fn stay_of(said: Option<Described>, tolerance: Nanos, pod: &Pod) -> Stay
+fn stay_in_break_of(said: Option<Described>, tolerance: Nanos, pod: &Pod) -> Stay
     ensures { (instant : Option ℤ)
         → stays_at result instant ≡ is_inside_said instant tolerance pod.now said }
 {
     match said {
         Some(said) => Stay {
             tolerance,
-            end: end_of(&said, pod.total()),
+            end: break_end_of(&said, pod.total()),
         },
         None => Stay {
             tolerance,
@@ -61,19 +61,19 @@ fn stay_of(said: Option<Described>, tolerance: Nanos, pod: &Pod) -> Stay
     }
 }
 
-fn why_said(
+fn why_break_said(
     said: &Described,
     id: &str,
     target: u64,
     with_init_sections: bool,
     store: &PodStore,
 ) -> Why
-    ensures { result ≡ why_said said.now id.now target with_init_sections store.now }
+    ensures { result ≡ why_break_said said.now id.now target with_init_sections store.now }
 {
     if said.start.is_none() {
         return Why::NoStart;
     }
-    if !is_leaving(said.scte35_out) {
+    if !is_break_leaving_signal(said.scte35_out) {
         return Why::NotSignalled;
     }
     if store.pod_for(id).is_none() {
@@ -118,7 +118,7 @@ impl Knowledge {
     fn said(&self, id: &str) -> Option<Described>
         ensures { result ≡ said_of self.now id.now }
     {
-        kept_for(&self.breaks, id)
+        break_said_for(&self.breaks, id)
     }
 
     /// Until when segments are inside the break `id`, which has the pod `pod`, by `tolerance`: none is if the break isn't known,
@@ -127,7 +127,7 @@ impl Knowledge {
         ensures { (instant : Option ℤ)
             → stays_at result instant ≡ is_inside self.now id.now instant tolerance pod.now }
     {
-        stay_of(self.said(id), tolerance, pod)
+        stay_in_break_of(self.said(id), tolerance, pod)
     }
 
     /// Why the break `id` is filled or not: `Filled` if it is in use, which `filled` says. Else it is judged by the
@@ -147,7 +147,7 @@ impl Knowledge {
             return Why::Filled;
         }
         match self.said(id) {
-            Some(said) => why_said(&said, id, target, with_init_sections, store),
+            Some(said) => why_break_said(&said, id, target, with_init_sections, store),
             None => Why::NotKnown,
         }
     }
@@ -180,7 +180,7 @@ impl Knowledge {
             (λ entrances. entrances
             ≡ record { tolerance = tolerance; found = entrances_in target with_init_sections store.now self.now }) }
     {
-        entrances_of(
+        break_entrances_of(
             alloc,
             tolerance,
             target,
@@ -219,13 +219,13 @@ impl Knowledge {
             ∷ before)) }
     {
         let date_ranges = playlist.date_ranges.as_slice();
-        if are_said(&self.breaks, date_ranges) {
+        if are_break_tags_said(&self.breaks, date_ranges) {
             return Ok(Knowledge {
                 breaks: self.breaks.clone()?,
             });
         }
-        let mut breaks = copy_standing(alloc, &self.breaks, date_ranges, newest)?;
-        add_tags(alloc, &mut breaks, date_ranges)?;
+        let mut breaks = copy_standing_breaks(alloc, &self.breaks, date_ranges, newest)?;
+        add_break_tags(alloc, &mut breaks, date_ranges)?;
         Ok(Knowledge {
             breaks: Shared::new(alloc, breaks)?,
         })

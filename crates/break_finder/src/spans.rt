@@ -2,13 +2,13 @@
 ghost use Rattle.std.specs.Prelude.{◌≡◌, ◌≤◌, ◌+◌, ◌*◌, ◌^◌, length, ◌++◌, ◌∷◌, [], ◌≤ℤ◌, ◌+ℤ◌, ◌-ℤ◌, pos, int_lt, ◌&&◌, ℕ, ℤ, true, List, Some, None, option_map, is_none, IfOk, IfSome};
 ghost use Rattle.std.specs.List.{All};
 ghost use Rattle.std.specs.Option.{option_copied, option_or};
-ghost use Rattle.break_finder.specs.Breaks.{is_near, is_not_past};
+ghost use Rattle.break_finder.specs.Breaks.{is_near_break_start, is_not_past_break_end};
 ghost use Rattle.break_finder.specs.Ends.{end_view};
-ghost use Rattle.break_finder.specs.Entrances.{Entrance, but, is_in, is_within, TellsEntrances};
-ghost use Rattle.break_finder.specs.Inner.Entrances.{is_enterable, second_of};
+ghost use Rattle.break_finder.specs.Entrances.{Entrance, break_entered_but_last, is_in, is_within, TellsEntrances};
+ghost use Rattle.break_finder.specs.Inner.Entrances.{is_enterable, second_break_entered};
 
 use crate::end::End;
-use crate::entrance::{Entrance, is_last_entered};
+use crate::entrance::{Entrance, is_last_entered_break};
 use fixed_duration::Nanos;
 use playlist_model::{Instant, Shared, Text};
 use std::alloc::{AllocError, Global};
@@ -20,18 +20,18 @@ const HALVINGS: usize = 64;
 /// Time from an instant up to another, which is no part of it, in nanoseconds from 1970. Of the breaks that can be
 /// entered in it the IDs of the first, and of the first that is another.
 #[derive(Drop)]
-pub struct TimeSpan<'a> {
+pub struct BreakSpan<'a> {
     from: i128,
     to: i128,
     first: Option<&'a Shared<Text>>,
     second: Option<&'a Shared<Text>>,
 }
 
-impl<'a> Model for TimeSpan<'a> {
+impl<'a> Model for BreakSpan<'a> {
     ghost use Rattle.std.specs.Option.{option_copied};
-    ghost use Rattle.break_finder.specs.Entrances.{TimeSpan};
+    ghost use Rattle.break_finder.specs.Entrances.{BreakSpan};
 
-    ghost Value = { TimeSpan };
+    ghost Value = { BreakSpan };
 
     ghost view = { λ a. record { from = a.from; to = a.to; first = option_copied a.first; second = option_copied a.second } };
 }
@@ -55,32 +55,32 @@ impl TimesWithin {
 }
 
 // The first, or if it is the last one entered the second.
-fn but<'a>(
+fn break_entered_but_last<'a>(
     first: Option<&'a Shared<Text>>,
     second: Option<&'a Shared<Text>>,
     last: Option<&str>,
 ) -> Option<&'a Shared<Text>>
     ensures { option_copied result
-        ≡ but (option_copied first.entry) (option_copied second.entry) (option_copied last.entry) }
+        ≡ break_entered_but_last (option_copied first.entry) (option_copied second.entry) (option_copied last.entry) }
 {
     let Some(id) = first else {
         return None;
     };
-    if is_last_entered(last, id.as_str()) {
+    if is_last_entered_break(last, id.as_str()) {
         return second;
     }
     first
 }
 
 // Of two pairs of breaks, each the first and the first other, the first other of all.
-fn second_of<'a>(
+fn second_break_entered<'a>(
     our_first: Option<&'a Shared<Text>>,
     our_second: Option<&'a Shared<Text>>,
     their_first: Option<&'a Shared<Text>>,
     their_second: Option<&'a Shared<Text>>,
 ) -> Option<&'a Shared<Text>>
     ensures { option_copied result
-        ≡ second_of (option_copied our_first.entry) (option_copied our_second.entry) (option_copied their_first.entry) (option_copied their_second.entry) }
+        ≡ second_break_entered (option_copied our_first.entry) (option_copied our_second.entry) (option_copied their_first.entry) (option_copied their_second.entry) }
 {
     let Some(first) = our_first else {
         return their_second;
@@ -88,10 +88,10 @@ fn second_of<'a>(
     if our_second.is_some() {
         return our_second;
     }
-    but(their_first, their_second, Some(first.as_str()))
+    break_entered_but_last(their_first, their_second, Some(first.as_str()))
 }
 
-impl<'a> TimeSpan<'a> {
+impl<'a> BreakSpan<'a> {
     // Whether an instant, in nanoseconds from 1970, is in it.
     fn holds(&self, instant: i128) -> bool
         ensures { result ≡ is_in self.now instant }
@@ -119,32 +119,32 @@ impl<'a> TimeSpan<'a> {
     /// The ID of the break that a segment in this span enters, if the break `last` was entered last.
     pub fn break_entered(&self, last: Option<&str>) -> Option<&'a Shared<Text>>
         ensures { option_copied result
-            ≡ but self.now.first self.now.second (option_copied last.entry) }
+            ≡ break_entered_but_last self.now.first self.now.second (option_copied last.entry) }
     {
-        but(self.first, self.second, last)
+        break_entered_but_last(self.first, self.second, last)
     }
 }
 
 // What two spans have in common, if the breaks of the one come before those of the other.
-fn overlap<'a>(ours: &TimeSpan<'a>, theirs: &TimeSpan<'a>) -> TimeSpan<'a>
+fn overlap_of_break_spans<'a>(ours: &BreakSpan<'a>, theirs: &BreakSpan<'a>) -> BreakSpan<'a>
     ensures from_ours { ours.now.from ≤ℤ result.from }
     ensures from_theirs { theirs.now.from ≤ℤ result.from }
     ensures to_ours { result.to ≤ℤ ours.now.to }
     ensures to_theirs { result.to ≤ℤ theirs.now.to }
     ensures first { result.first ≡ option_or ours.now.first theirs.now.first }
     ensures second { result.second
-        ≡ second_of ours.now.first ours.now.second theirs.now.first theirs.now.second }
+        ≡ second_break_entered ours.now.first ours.now.second theirs.now.first theirs.now.second }
 {
-    TimeSpan {
+    BreakSpan {
         from: ours.from.max(theirs.from),
         to: ours.to.min(theirs.to),
         first: ours.first.or(theirs.first),
-        second: second_of(ours.first, ours.second, theirs.first, theirs.second),
+        second: second_break_entered(ours.first, ours.second, theirs.first, theirs.second),
     }
 }
 
 // These spans, but the first one if it ends here or before.
-fn from_here<'s, 'a>(spans: &'s [TimeSpan<'a>], end: i128) -> &'s [TimeSpan<'a>]
+fn break_spans_from_here<'s, 'a>(spans: &'s [BreakSpan<'a>], end: i128) -> &'s [BreakSpan<'a>]
     ensures { (tolerance : ℕ) (found : List Entrance)
         → All (TellsEntrances tolerance found) spans.now
         → All (TellsEntrances tolerance found) result.now }
@@ -161,11 +161,11 @@ fn from_here<'s, 'a>(spans: &'s [TimeSpan<'a>], end: i128) -> &'s [TimeSpan<'a>]
 }
 
 // The spans of breaks and of others that come after these, of those of each.
-fn join_spans<'a>(
+fn join_break_spans<'a>(
     alloc: Global,
-    ours: &[TimeSpan<'a>],
-    theirs: &[TimeSpan<'a>],
-) -> Result<Vec<TimeSpan<'a>>, AllocError>
+    ours: &[BreakSpan<'a>],
+    theirs: &[BreakSpan<'a>],
+) -> Result<Vec<BreakSpan<'a>>, AllocError>
     ensures tells { IfOk result
         (λ v. (tolerance : ℕ) (before after : List Entrance)
         → All (TellsEntrances tolerance before) ours.now
@@ -186,60 +186,60 @@ fn join_spans<'a>(
         let Some((their, _)) = theirs.split_first() else {
             return Ok(done);
         };
-        let span = overlap(our, their);
+        let span = overlap_of_break_spans(our, their);
         let end = span.to;
         done.push(span)?;
-        ours = from_here(ours, end);
-        theirs = from_here(theirs, end);
+        ours = break_spans_from_here(ours, end);
+        theirs = break_spans_from_here(theirs, end);
     }
     Ok(done)
 }
 
 // The first instant at which a break can be entered that starts here.
-fn first_instant(start: Instant, tolerance: Nanos) -> i128
+fn first_break_entrance_instant(start: Instant, tolerance: Nanos) -> i128
     ensures { result ≡ start -ℤ pos tolerance }
 {
     i128::from(start.0) - i128::from(tolerance.0)
 }
 
 // The first instant that is too late to enter a break which starts here, whatever its end.
-fn late(start: Instant, tolerance: Nanos) -> i128
+fn late_break_entrance(start: Instant, tolerance: Nanos) -> i128
     ensures { result ≡ start +ℤ pos tolerance +ℤ pos 1 }
 {
     i128::from(start.0) + i128::from(tolerance.0) + 1
 }
 
 // The same of one that ends here.
-fn late_before(start: Instant, tolerance: Nanos, end: i128) -> i128
+fn late_break_entrance_before(start: Instant, tolerance: Nanos, end: i128) -> i128
     ensures { (instant : ℤ)
-        → (is_near instant tolerance (Some start) && int_lt (instant +ℤ pos tolerance) end)
+        → (is_near_break_start instant tolerance (Some start) && int_lt (instant +ℤ pos tolerance) end)
         ≡ is_within (start -ℤ pos tolerance) result instant }
 {
     if end <= i128::from(start.0) {
-        return first_instant(start, tolerance);
+        return first_break_entrance_instant(start, tolerance);
     }
-    late(start, tolerance).min(end - i128::from(tolerance.0))
+    late_break_entrance(start, tolerance).min(end - i128::from(tolerance.0))
 }
 
 // The same of one with this end, if any.
-fn late_with_end(start: Instant, tolerance: Nanos, end: Option<End>) -> i128
+fn late_break_entrance_with_end(start: Instant, tolerance: Nanos, end: Option<End>) -> i128
     ensures { (instant : ℤ)
-        → (is_near instant tolerance (Some start)
-        && is_not_past instant tolerance (option_map end_view end))
+        → (is_near_break_start instant tolerance (Some start)
+        && is_not_past_break_end instant tolerance (option_map end_view end))
         ≡ is_within (start -ℤ pos tolerance) result instant }
 {
     match end {
-        Some(End::At(end)) => late_before(start, tolerance, end),
-        Some(End::Closed) => late(start, tolerance),
-        None => late(start, tolerance),
+        Some(End::At(end)) => late_break_entrance_before(start, tolerance, end),
+        Some(End::Closed) => late_break_entrance(start, tolerance),
+        None => late_break_entrance(start, tolerance),
     }
 }
 
 // A span in which none is entered.
-fn closed_span<'a>(from: i128, to: i128) -> TimeSpan<'a>
+fn closed_break_span<'a>(from: i128, to: i128) -> BreakSpan<'a>
     ensures { result ≡ record { from = from; to = to; first = None; second = None } }
 {
-    TimeSpan {
+    BreakSpan {
         from,
         to,
         first: None,
@@ -248,33 +248,33 @@ fn closed_span<'a>(from: i128, to: i128) -> TimeSpan<'a>
 }
 
 // The span in which a break can be entered.
-fn open_span<'a>(tolerance: Nanos, entrance: &Entrance<'a>) -> TimeSpan<'a>
+fn open_break_span<'a>(tolerance: Nanos, entrance: &Entrance<'a>) -> BreakSpan<'a>
     ensures from { result.from ≡ entrance.now.start -ℤ pos tolerance }
     ensures window { (instant : ℤ)
         → is_enterable tolerance instant entrance.now ≡ is_in result instant }
     ensures first { result.first ≡ Some entrance.now.id }
     ensures second { result.second ≡ None }
 {
-    TimeSpan {
-        from: first_instant(entrance.start, tolerance),
-        to: late_with_end(entrance.start, tolerance, entrance.end),
+    BreakSpan {
+        from: first_break_entrance_instant(entrance.start, tolerance),
+        to: late_break_entrance_with_end(entrance.start, tolerance, entrance.end),
         first: Some(entrance.id),
         second: None,
     }
 }
 
 // The spans of one break: before it can be entered, while it can, and after that.
-fn spans_of_one<'a>(
+fn spans_of_one_break<'a>(
     alloc: Global,
     tolerance: Nanos,
     entrance: &Entrance<'a>,
-) -> Result<Vec<TimeSpan<'a>>, AllocError>
+) -> Result<Vec<BreakSpan<'a>>, AllocError>
     ensures tells { IfOk result (λ v. All (TellsEntrances tolerance (entrance.now ∷ [])) v.items) }
     ensures three { IfOk result (λ v. length v.items ≡ 3) }
 {
-    let within = open_span(tolerance, entrance);
-    let before = closed_span(i128::MIN, within.from);
-    let after = closed_span(within.to, i128::MAX);
+    let within = open_break_span(tolerance, entrance);
+    let before = closed_break_span(i128::MIN, within.from);
+    let after = closed_break_span(within.to, i128::MAX);
     let mut spans = Vec::with_capacity(alloc, 3)?;
     spans.push(before)?;
     spans.push(within)?;
@@ -283,12 +283,12 @@ fn spans_of_one<'a>(
 }
 
 // The spans of the breaks of a list, which is halved until each part has one: so often at most.
-fn spans_halved<'a>(
+fn break_spans_halved<'a>(
     alloc: Global,
     tolerance: Nanos,
     list: &[Entrance<'a>],
     halvings: usize,
-) -> Result<Vec<TimeSpan<'a>>, AllocError>
+) -> Result<Vec<BreakSpan<'a>>, AllocError>
     requires { length list.now ≤ 2 ^ halvings }
     ensures tells { IfOk result (λ v. All (TellsEntrances tolerance list.now) v.items) }
     ensures few { IfOk result (λ v. length v.items ≤ 3 * length list.now) }
@@ -297,43 +297,43 @@ fn spans_halved<'a>(
         return Ok(Vec::new(alloc));
     };
     if list.len() == 1 {
-        return spans_of_one(alloc, tolerance, first);
+        return spans_of_one_break(alloc, tolerance, first);
     }
     let left = halvings - 1;
     let (before, after) = list.split_at(list.len() / 2);
-    let ours = spans_halved(alloc, tolerance, before, left)?;
-    let theirs = spans_halved(alloc, tolerance, after, left)?;
-    join_spans(alloc, ours.as_slice(), theirs.as_slice())
+    let ours = break_spans_halved(alloc, tolerance, before, left)?;
+    let theirs = break_spans_halved(alloc, tolerance, after, left)?;
+    join_break_spans(alloc, ours.as_slice(), theirs.as_slice())
 }
 
 /// The spans of time in which the breaks of `list` are entered, by `tolerance`: at most three for each break. Fails
 /// only if an allocation fails.
-pub fn spans_of<'a>(
+pub fn break_spans_of<'a>(
     alloc: Global,
     tolerance: Nanos,
     list: &[Entrance<'a>],
-) -> Result<Vec<TimeSpan<'a>>, AllocError>
+) -> Result<Vec<BreakSpan<'a>>, AllocError>
     ensures tells { IfOk result (λ v. All (TellsEntrances tolerance list.now) v.items) }
     ensures few { IfOk result (λ v. length v.items ≤ 3 * length list.now) }
 {
-    spans_halved(alloc, tolerance, list, HALVINGS)
+    break_spans_halved(alloc, tolerance, list, HALVINGS)
 }
 
 /// The place, from 0, of that one of `spans` in which `instant` is, which often is `place`.
-pub fn place_in_spans(spans: &[TimeSpan<'_>], place: usize, instant: Instant) -> usize {
+pub fn place_in_break_spans(spans: &[BreakSpan<'_>], place: usize, instant: Instant) -> usize {
     let instant = i128::from(instant.0);
     match spans.get(place) {
         Some(span) if span.holds(instant) => place,
-        _ => spans.partition_point(|span: &TimeSpan<'_>| -> bool { span.to <= instant }),
+        _ => spans.partition_point(|span: &BreakSpan<'_>| -> bool { span.to <= instant }),
     }
 }
 
 /// That one of `spans` at `place`, from 0, if `instant` is in it.
-pub fn span_at<'s, 'a>(
-    spans: &'s [TimeSpan<'a>],
+pub fn break_span_at<'s, 'a>(
+    spans: &'s [BreakSpan<'a>],
     place: usize,
     instant: Instant,
-) -> Option<&'s TimeSpan<'a>>
+) -> Option<&'s BreakSpan<'a>>
     ensures inside { IfSome result (λ span. is_in span.now instant ≡ true) }
     ensures tells { (tolerance : ℕ) (found : List Entrance)
         → All (TellsEntrances tolerance found) spans.now

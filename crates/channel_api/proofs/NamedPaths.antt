@@ -13,7 +13,7 @@ use Rattle.matchit.specs.Router.{RouteOf}
 use Rattle.matchit.specs.Seek.{seek, param_step, step, segment, has_slash, cuts}
 use Rattle.channel_api.specs.declared.routes.Resource.{Resource}
 use Rattle.channel_api.specs.declared.routes.Resource.TheVariants.{Channel, Origin, Decisions, Live, Why}
-use Rattle.channel_api.specs.Routes.{is_name_byte, is_channel_name, front, row, found_at, name_in, route_of, path_to}
+use Rattle.channel_api.specs.Routes.{is_channel_name_byte, is_channel_name, front, row, found_at, channel_name_in_route, route_of, path_to}
 
 -- ---- a walk over rows
 
@@ -67,27 +67,27 @@ into_name b p n rows r other taken e = simp (other, seek_empty {K = RouteOf Reso
 
 -- ---- names
 
-not_token : (b : ℕ) → is_name_byte b ≡ true → (256 == b) ≡ false
-not_token b h = ne_eqb 256 b (λ e. true≢false (sym h ∙ ap is_name_byte (sym e)))
+not_token : (b : ℕ) → is_channel_name_byte b ≡ true → (256 == b) ≡ false
+not_token b h = ne_eqb 256 b (λ e. true≢false (sym h ∙ ap is_channel_name_byte (sym e)))
 
-not_slash : (b : ℕ) → is_name_byte b ≡ true → (b == 47) ≡ false
-not_slash b h = ne_eqb b 47 (λ e. true≢false (sym h ∙ ap is_name_byte e))
+not_slash : (b : ℕ) → is_channel_name_byte b ≡ true → (b == 47) ≡ false
+not_slash b h = ne_eqb b 47 (λ e. true≢false (sym h ∙ ap is_channel_name_byte e))
 
-slash_differs : (b : ℕ) → is_name_byte b ≡ true → nat_eq 47 b ≡ false
-slash_differs b h = ne_eqb 47 b (λ e. true≢false (sym h ∙ ap is_name_byte (sym e)))
+slash_differs : (b : ℕ) → is_channel_name_byte b ≡ true → nat_eq 47 b ≡ false
+slash_differs b h = ne_eqb 47 b (λ e. true≢false (sym h ∙ ap is_channel_name_byte (sym e)))
 
 both : (a b : Bool) → (a && b) ≡ true → (a ≡ true) × (b ≡ true)
 both true b h = (refl, h)
 both false b h = absurd (true≢false (sym h))
 
 abbrev AreNameBytes : List ℕ → Type 0
-AreNameBytes name = list_all is_name_byte name ≡ true
+AreNameBytes name = list_all is_channel_name_byte name ≡ true
 
-of_first : (b : ℕ) (name : List ℕ) → AreNameBytes (b ∷ name) → is_name_byte b ≡ true
-of_first b name h = (both (is_name_byte b) (list_all is_name_byte name) h).0
+of_first : (b : ℕ) (name : List ℕ) → AreNameBytes (b ∷ name) → is_channel_name_byte b ≡ true
+of_first b name h = (both (is_channel_name_byte b) (list_all is_channel_name_byte name) h).0
 
 of_others : (b : ℕ) (name : List ℕ) → AreNameBytes (b ∷ name) → AreNameBytes name
-of_others b name h = (both (is_name_byte b) (list_all is_name_byte name) h).1
+of_others b name h = (both (is_channel_name_byte b) (list_all is_channel_name_byte name) h).1
 
 segment_alone : (name : List ℕ) → AreNameBytes name → segment name ≡ name
 segment_alone [] h = refl
@@ -165,7 +165,7 @@ before_end (b ∷ name) h =
     ap (λ v. take (cond (not v) (1 + n) 0) (b ∷ name)) (not_slash b (of_first b name h)) ∙ ap (λ m. take m (b ∷ name)) (one-add n)
     ∙ ap (λ x. b ∷ x) (before_end name (of_others b name h))
 
-with_name : (name p : List ℕ) (r : RouteOf Resource) → is_channel_name name ≡ true → name_in p ≡ name → found_at p ≡ Some r → route_of p ≡ Some (name, r.value)
+with_name : (name p : List ℕ) (r : RouteOf Resource) → is_channel_name name ≡ true → channel_name_in_route p ≡ name → found_at p ≡ Some r → route_of p ≡ Some (name, r.value)
 with_name name p r h n e = grind arith
 
 behind : (b : ℕ) (name t : List ℕ) (r : RouteOf Resource) → is_channel_name (b ∷ name) ≡ true → AreNameBytes (b ∷ name) → seek 0 after_slash (47 ∷ t) ≡ Some r
@@ -185,5 +185,5 @@ each (b ∷ name) Live h = behind b name (codes "live.m3u8") _ h ((both _ _ h).1
 each (b ∷ name) Why h = behind b name (codes "why") _ h ((both _ _ h).1) refl
 
 -- and what has no name has none
-pub other : (path : List ℕ) → is_channel_name (name_in path) ≡ false → route_of path ≡ None
+pub other : (path : List ℕ) → is_channel_name (channel_name_in_route path) ≡ false → route_of path ≡ None
 other path h = grind arith

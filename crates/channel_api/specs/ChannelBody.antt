@@ -24,21 +24,21 @@ tolerance_text None = None
 tolerance_text (Some text) = Some (nanos_or_most (duration_of text))
 
 -- that of the channel's default if there is no member of this name
-abbrev pub tolerance_said : Option Data → Option ℕ
-tolerance_said None = Some default_tolerance
-tolerance_said (Some d) = tolerance_text (as_str d)
+abbrev pub tolerance_said_by_channel_body : Option Data → Option ℕ
+tolerance_said_by_channel_body None = Some default_tolerance
+tolerance_said_by_channel_body (Some d) = tolerance_text (as_str d)
 
 abbrev pub both_said : Option (List ℕ) → Option ℕ → Result (List ℕ × ℕ) BodyFault
 both_said (Some base) (Some tolerance) = Ok (base, tolerance)
 both_said None tolerance = Err Shape
 both_said (Some base) None = Err Shape
 
-abbrev pub value_said : Data → Result (List ℕ × ℕ) BodyFault
-value_said d = both_said (option_and_then as_str (get (codes "base") d)) (tolerance_said (get (codes "tolerance") d))
+abbrev pub wanted_channel_said : Data → Result (List ℕ × ℕ) BodyFault
+wanted_channel_said d = both_said (option_and_then as_str (get (codes "base") d)) (tolerance_said_by_channel_body (get (codes "tolerance") d))
 
 abbrev pub data_said : Option Data → Result (List ℕ × ℕ) BodyFault
 data_said None = Err NotJson
-data_said (Some d) = value_said d
+data_said (Some d) = wanted_channel_said d
 
 -- a base and a tolerance, or the fault
 abbrev pub body_said : List ℕ → Result (List ℕ × ℕ) BodyFault

@@ -12,16 +12,16 @@ use Rattle.spec_words.specs.Bytes.{hyphen, slash, question_mark}
 use Rattle.channel_api.specs.declared.routes.Resource.{Resource}
 use Rattle.channel_api.specs.declared.routes.Resource.TheVariants.{Channel, Origin, Decisions, Live, Why}
 
-abbrev pub is_name_byte : ℕ → Bool
-is_name_byte b = is_ascii_lowercase b || is_ascii_digit b || b == hyphen
+abbrev pub is_channel_name_byte : ℕ → Bool
+is_channel_name_byte b = is_ascii_lowercase b || is_ascii_digit b || b == hyphen
 
 -- 1 to 32 of a to z, 0 to 9 and the hyphen
 abbrev pub is_channel_name : List ℕ → Bool
-is_channel_name name = nat_le 1 (length name) && nat_le (length name) 32 && list_all is_name_byte name
+is_channel_name name = nat_le 1 (length name) && nat_le (length name) 32 && list_all is_channel_name_byte name
 
 -- the path of a target: all up to the first question mark
-abbrev pub path_of : List ℕ → List ℕ
-path_of target = before_first (λ b. b == question_mark) target
+abbrev pub route_path_of : List ℕ → List ℕ
+route_path_of target = before_first (λ b. b == question_mark) target
 
 -- the text of a front of a path, before the name
 abbrev pub front : List ℕ
@@ -47,11 +47,11 @@ abbrev pub found_at : List ℕ → Option (RouteOf Resource)
 found_at path = first route_rows path
 
 -- the name in a path that has a route
-abbrev pub name_in : List ℕ → List ℕ
-name_in path = before_first (λ b. b == slash) (drop (length front) path)
+abbrev pub channel_name_in_route : List ℕ → List ℕ
+channel_name_in_route path = before_first (λ b. b == slash) (drop (length front) path)
 
 abbrev pub named : List ℕ → RouteOf Resource → Option (List ℕ × Resource)
-named path route = if is_channel_name (name_in path) then Some (name_in path, route.value) else None
+named path route = if is_channel_name (channel_name_in_route path) then Some (channel_name_in_route path, route.value) else None
 
 abbrev pub pair : Bor (List ℕ) × Resource → List ℕ × Resource
 pair found = (found.0.now, found.1)
@@ -76,4 +76,4 @@ EachNameHasItsRoutes = (name : List ℕ) (resource : Resource) → is_channel_na
 
 -- a path in which no channel's name is has no route
 abbrev pub OthersHaveNone : Type 0
-OthersHaveNone = (path : List ℕ) → is_channel_name (name_in path) ≡ false → route_of path ≡ None
+OthersHaveNone = (path : List ℕ) → is_channel_name (channel_name_in_route path) ≡ false → route_of path ≡ None

@@ -3,11 +3,11 @@ ghost use Rattle.std.specs.Prelude.{◌≡◌, ◌≤◌, length, Ok, Err, Some,
 ghost use Rattle.serde_json.specs.View.{view};
 ghost use Rattle.serde_json.specs.Find.{get, as_str};
 ghost use Rattle.fixed_duration.specs.Duration.{duration_of};
-ghost use Rattle.channel_api.specs.ChannelBody.{json_said, value_said, body_said, tolerance_said, nanos_or_most, RefusesBody};
+ghost use Rattle.channel_api.specs.ChannelBody.{json_said, wanted_channel_said, body_said, tolerance_said_by_channel_body, nanos_or_most, RefusesBody};
 
 use channel_spec::DEFAULT_TOLERANCE;
 use fixed_duration::Nanos;
-use playlist_model::{Text, text_of};
+use playlist_model::{Text, playlist_text_of};
 use pod_store::DecisionKind;
 use serde_json::Value;
 use std::alloc::Global;
@@ -47,7 +47,7 @@ pub struct Wanted {
 }
 
 // The text at a name, if there is one.
-fn text_at<'a>(value: &'a Value, name: &str) -> Option<&'a str>
+fn channel_body_text_at<'a>(value: &'a Value, name: &str) -> Option<&'a str>
     ensures { option_map (λ text. text.now) result
         ≡ option_and_then as_str (get name.now (view value.now)) }
 {
@@ -58,7 +58,7 @@ fn text_at<'a>(value: &'a Value, name: &str) -> Option<&'a str>
 }
 
 // A text that is no duration is longer than any tolerance.
-fn nanos_of(text: &str) -> Nanos
+fn tolerance_nanos_of(text: &str) -> Nanos
     ensures { result ≡ nanos_or_most (duration_of text.now) }
 {
     match Nanos::read(text) {
@@ -68,12 +68,12 @@ fn nanos_of(text: &str) -> Nanos
 }
 
 // The tolerance that a value says.
-fn tolerance_said(value: &Value) -> Option<Nanos>
-    ensures { result ≡ tolerance_said (get (codes "tolerance") (view value.now)) }
+fn tolerance_said_by_channel_body(value: &Value) -> Option<Nanos>
+    ensures { result ≡ tolerance_said_by_channel_body (get (codes "tolerance") (view value.now)) }
 {
     match value.get("tolerance") {
         Some(tolerance) => match tolerance.as_str() {
-            Some(text) => Some(nanos_of(text)),
+            Some(text) => Some(tolerance_nanos_of(text)),
             None => None,
         },
         None => Some(Nanos(DEFAULT_TOLERANCE)),
@@ -81,12 +81,12 @@ fn tolerance_said(value: &Value) -> Option<Nanos>
 }
 
 // The JSON value of a body.
-fn json_of(alloc: Global, body: &[u8]) -> Result<Value, BodyFault>
+fn json_of_channel_body(alloc: Global, body: &[u8]) -> Result<Value, BodyFault>
     ensures ok { IfOk result (λ value. json_said body.now ≡ Some (view value)) }
     ensures none { result ≡ Err BodyFault.NotJson → json_said body.now ≡ None }
     ensures kind { result ≡ Err BodyFault.Shape → ⊥ }
 {
-    let Ok(text) = text_of(body) else {
+    let Ok(text) = playlist_text_of(body) else {
         return Err(BodyFault::NotJson);
     };
     match Value::from_str(alloc, text) {
@@ -101,14 +101,14 @@ fn json_of(alloc: Global, body: &[u8]) -> Result<Value, BodyFault>
 }
 
 // What a JSON value says.
-fn value_said(alloc: Global, value: &Value) -> Result<Wanted, BodyFault>
-    ensures { MatchResult result (λ w. value_said (view value.now) ≡ Ok (w.base, w.tolerance))
-        (λ e. RefusesBody e (value_said (view value.now))) }
+fn wanted_channel_said(alloc: Global, value: &Value) -> Result<Wanted, BodyFault>
+    ensures { MatchResult result (λ w. wanted_channel_said (view value.now) ≡ Ok (w.base, w.tolerance))
+        (λ e. RefusesBody e (wanted_channel_said (view value.now))) }
 {
-    let Some(base) = text_at(value, "base") else {
+    let Some(base) = channel_body_text_at(value, "base") else {
         return Err(BodyFault::Shape);
     };
-    let Some(tolerance) = tolerance_said(value) else {
+    let Some(tolerance) = tolerance_said_by_channel_body(value) else {
         return Err(BodyFault::Shape);
     };
     let Ok(base) = Text::copy_of(alloc, base) else {
@@ -124,6 +124,6 @@ pub fn read_wanted(alloc: Global, body: &[u8]) -> Result<Wanted, BodyFault>
     ensures ok { IfOk result (λ w. body_said body.now ≡ Ok (w.base, w.tolerance)) }
     ensures err { IfErr result (λ e. RefusesBody e (body_said body.now)) }
 {
-    let value = json_of(alloc, body)?;
-    value_said(alloc, &value)
+    let value = json_of_channel_body(alloc, body)?;
+    wanted_channel_said(alloc, &value)
 }

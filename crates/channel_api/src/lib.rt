@@ -12,7 +12,7 @@ pub use channel_body::{BodyFault, Wanted, read_wanted};
 pub use named::{Naming, put_named, remove_named};
 pub use reasons::why_word;
 pub use replies::{
-    LINE_ROOM, body_fault_reply, line, not_allowed, not_found, push_line, refused_decisions,
-    refused_refresh, text_reply,
+    LINE_ROOM, body_fault_reply, not_allowed, not_found, push_why_reply_line, refused_decisions,
+    refused_refresh, reply_line, reply_of_text,
 };
 pub use routes::{Resource, Routes};

@@ -1,7 +1,7 @@
 //! What a path names.
 ghost use Rattle.std.specs.Prelude.{◌≡◌, [], drop, length, option_map, false, MatchOption, OnOk, IfErr};
 ghost use Rattle.std.specs.List.{list_all};
-ghost use Rattle.channel_api.specs.Routes.{is_name_byte, is_channel_name, path_of, route_rows, front, name_in, found_at, route_of, pair, IsOutOfMemory};
+ghost use Rattle.channel_api.specs.Routes.{is_channel_name_byte, is_channel_name, route_path_of, route_rows, front, channel_name_in_route, found_at, route_of, pair, IsOutOfMemory};
 
 use matchit::{InsertError, Router};
 use std::alloc::Global;
@@ -39,8 +39,8 @@ impl Model for Routes {
 const FRONT: usize = "/channels/".len();
 
 // The path of a target.
-fn path_of(target: &str) -> &str
-    ensures { result.now ≡ path_of target.now }
+fn route_path_of(target: &str) -> &str
+    ensures { result.now ≡ route_path_of target.now }
 {
     match target.split_once('?') {
         Some((front, _)) => front,
@@ -49,35 +49,35 @@ fn path_of(target: &str) -> &str
 }
 
 // What stands after the front of a path, if it may be cut there; elsewhere there is no name.
-fn after_front(path: &str) -> Option<&str>
-    ensures { MatchOption result (is_channel_name (name_in path.now) ≡ false)
+fn after_route_front(path: &str) -> Option<&str>
+    ensures { MatchOption result (is_channel_name (channel_name_in_route path.now) ≡ false)
         (λ rest. rest.now ≡ drop (length front) path.now) }
 {
     path.get(FRONT..)
 }
 
 // The name in a path, if there can be one.
-fn name_in(path: &str) -> Option<&str>
-    ensures { MatchOption result (is_channel_name (name_in path.now) ≡ false)
-        (λ name. name.now ≡ name_in path.now) }
+fn channel_name_in_route(path: &str) -> Option<&str>
+    ensures { MatchOption result (is_channel_name (channel_name_in_route path.now) ≡ false)
+        (λ name. name.now ≡ channel_name_in_route path.now) }
 {
-    let rest = after_front(path)?;
+    let rest = after_route_front(path)?;
     match rest.split_once('/') {
         Some((front, _)) => Some(front),
         None => Some(rest),
     }
 }
 
-fn is_name_byte(byte: u8) -> bool
-    ensures { result ≡ is_name_byte byte }
+fn is_channel_name_byte(byte: u8) -> bool
+    ensures { result ≡ is_channel_name_byte byte }
 {
     byte.is_ascii_lowercase() || byte.is_ascii_digit() || byte == b'-'
 }
 
-fn are_name_bytes(bytes: &[u8]) -> bool
-    ensures { result ≡ list_all is_name_byte bytes.now }
+fn are_channel_name_bytes(bytes: &[u8]) -> bool
+    ensures { result ≡ list_all is_channel_name_byte bytes.now }
 {
-    bytes.iter().all(|byte| is_name_byte(*byte))
+    bytes.iter().all(|byte| is_channel_name_byte(*byte))
 }
 
 /// Whether `name` can be the name of a channel: 1 to 32 bytes, each of a to z, 0 to 9 or `-`.
@@ -87,11 +87,11 @@ pub fn is_channel_name(name: &str) -> bool
     if name.is_empty() || name.len() > 32 {
         return false;
     }
-    are_name_bytes(name.as_bytes())
+    are_channel_name_bytes(name.as_bytes())
 }
 
 // The routes go into a router that has none.
-fn insert_routes(router: &mut Router<Resource>) -> Result<(), InsertError>
+fn insert_channel_routes(router: &mut Router<Resource>) -> Result<(), InsertError>
     requires { router.old ≡ [] }
     ensures rows { OnOk result (router.new ≡ route_rows) }
     ensures memory { IfErr result IsOutOfMemory }
@@ -110,7 +110,7 @@ impl Routes {
         ensures { IfErr result IsOutOfMemory }
     {
         let mut router = Router::new(alloc);
-        insert_routes(&mut router)?;
+        insert_channel_routes(&mut router)?;
         Ok(Routes { router })
     }
 
@@ -133,11 +133,11 @@ impl Routes {
     /// routes.find("/other")                         None
     /// ```
     pub fn find<'t>(&self, target: &'t str) -> Option<(&'t str, Resource)>
-        ensures { option_map pair result ≡ route_of (path_of target.now) }
+        ensures { option_map pair result ≡ route_of (route_path_of target.now) }
     {
-        let path = path_of(target);
+        let path = route_path_of(target);
         let resource = self.resource_at(path)?;
-        let name = name_in(path)?;
+        let name = channel_name_in_route(path)?;
         if is_channel_name(name) {
             Some((name, resource))
         } else {

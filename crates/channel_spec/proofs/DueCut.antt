@@ -5,7 +5,7 @@ use Rattle.std.proofs.Math.Decide.{dec_lt}
 use Rattle.std.specs.Prelude.{Option, Some, None, nat_le, sum}
 use Rattle.std.specs.List.{fold}
 use Rattle.playlist_model.specs.Segments.{Segment}
-use Rattle.pod_store.specs.Pods.{PodSegment, Ad, ad_total, total}
+use Rattle.pod_store.specs.Pods.{PodSegment, Ad, pod_ad_total, total}
 use Rattle.pod_store.specs.Marks.{Mark, Marked, newest_mark, continues, are_one}
 use Rattle.stitcher.specs.Stitched.{Piece, ad_piece, ad_pieces, pieces_of_ads, pod_pieces, stitched}
 use Rattle.channel_spec.specs.Marking.{Moment, last_entered, segment_instant, next_mark, next_shown, show_all}
@@ -39,7 +39,7 @@ later_lasts mark ad (s ∷ segments) = grind (arith, sum_more, later_lasts mark 
 ad_lasts : (mark : Mark) (ad : Ad) (segments : List PodSegment) → lasts (ad_pieces mark ad segments) ≡ sum (map (λ (s : PodSegment). s.duration) segments)
 ad_lasts mark ad segments = grind (arith, later_lasts, sum_more)
 
-ads_last : (mark : Mark) (ads : List Ad) → lasts (pieces_of_ads mark ads) ≡ sum (map ad_total ads)
+ads_last : (mark : Mark) (ads : List Ad) → lasts (pieces_of_ads mark ads) ≡ sum (map pod_ad_total ads)
 ads_last mark [] = refl
 ads_last mark (ad ∷ ads) = grind (arith, lasts-append, ad_lasts, sum_more, ads_last mark ads)
 

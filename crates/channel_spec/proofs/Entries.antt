@@ -5,7 +5,7 @@ use Rattle.pod_store.specs.Pods.{Pod, pod_fits}
 use Rattle.pod_store.specs.Marks.{Mark, mark_with, mark_in}
 use Rattle.pod_store.specs.Store.{pod_for}
 use Rattle.break_finder.specs.Breaks.{Break, break_of}
-use Rattle.break_finder.specs.Known.{is_this}
+use Rattle.break_finder.specs.Known.{is_this_break}
 use Rattle.break_finder.specs.Entering.{enters_break, enters_with, id_of_break}
 use Rattle.break_finder.proofs.Carried.{same_bytes}
 use Rattle.channel_spec.specs.Marking.{Moment, limits, entered}
@@ -14,7 +14,7 @@ pub record IsEntry (m : Moment) (last : Option (List ℕ)) (f : Mark) : Type 0 w
   pub known : IsSome (break_of m.breaks f.id)
   pub decided : pod_for m.store f.id ≡ Some f.pod
   pub fits : pod_fits m.target_duration m.with_init_sections f.pod ≡ true
-  pub other : is_this f.id last ≡ false
+  pub other : is_this_break f.id last ≡ false
 
 unfoldable pub IsEntered : Moment → Option (List ℕ) → Option Mark → Type 0
 IsEntered m last None = Unit {0}

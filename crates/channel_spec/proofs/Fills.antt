@@ -4,7 +4,7 @@ use Rattle.std.specs.Prelude.{Option, Some, None, is_some, is_none, option_map, 
 use Rattle.std.specs.List.{AllByRecursion, list_all}
 use Rattle.playlist_model.specs.declared.InitSection.{InitSection}
 use Rattle.playlist_model.specs.LookBack.{or_earlier}
-use Rattle.pod_store.specs.Pods.{Pod, Ad, PodSegment, pod_fits, ad_fits, segment_fits}
+use Rattle.pod_store.specs.Pods.{Pod, Ad, PodSegment, pod_fits, pod_ad_fits, pod_segment_fits}
 use Rattle.pod_store.specs.Store.{Entry, Store, pod_of, pod_for, has_id}
 use Rattle.pod_store.specs.Marks.{Mark, Marked, newest_mark}
 use Rattle.channel_spec.specs.Marking.{Moment, continued, entered, mark_of}
@@ -61,13 +61,13 @@ and_right : (a b : Bool) → (a && b) ≡ true → b ≡ true
 and_right true b e = e
 and_right false b e = absurd (cc)
 
-ads_have_init_sections : (target : ℕ) (m : Bool) (mark : Mark) (ads : List Ad) → list_all (ad_fits target m) ads ≡ true → HaveInitSections m (pieces_of_ads mark ads)
+ads_have_init_sections : (target : ℕ) (m : Bool) (mark : Mark) (ads : List Ad) → list_all (pod_ad_fits target m) ads ≡ true → HaveInitSections m (pieces_of_ads mark ads)
 ads_have_init_sections target m mark [] e = init_sections-nil m
 ads_have_init_sections target m mark (ad ∷ ads) e =
-    let here = and_left (ad_fits target m ad) (list_all (ad_fits target m) ads) e in
+    let here = and_left (pod_ad_fits target m ad) (list_all (pod_ad_fits target m) ads) e in
     init_sections-append m (ad_pieces mark ad ad.segments) (pieces_of_ads mark ads)
-    (ad_has_init_section m mark ad (init_section_fits m ad.init_section (and_left _ (list_all (segment_fits target) ad.segments) here)) ad.segments)
-    (ads_have_init_sections target m mark ads (and_right (ad_fits target m ad) (list_all (ad_fits target m) ads) e))
+    (ad_has_init_section m mark ad (init_section_fits m ad.init_section (and_left _ (list_all (pod_segment_fits target) ad.segments) here)) ad.segments)
+    (ads_have_init_sections target m mark ads (and_right (pod_ad_fits target m ad) (list_all (pod_ad_fits target m) ads) e))
 
 some_pieces : (mark : Mark) (ads : List Ad) → 0 < length ads → AllByRecursion (λ (ad : Ad). 0 < length ad.segments) ads → 0 < length (pieces_of_ads mark ads)
 some_pieces mark [] h a = absurd (omega (arith, h))

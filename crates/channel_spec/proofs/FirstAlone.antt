@@ -10,13 +10,13 @@ use Rattle.playlist_model.specs.declared.Playlist.{Playlist}
 use Rattle.playlist_model.specs.Instants.{instants_after}
 use Rattle.playlist_model.specs.Numbering.{Numbers, segment_numbers, follows, all_follow, numbers_rise}
 use Rattle.pod_store.specs.Marks.{Mark, Marked, newest_mark, continues, are_one}
-use Rattle.stitcher.specs.Stitched.{Item, kept_piece, stitched, numbered, numbers_at, next_numbers, steps_between, numbers_from, first_numbers, newest_place, up_to, from_place}
+use Rattle.stitcher.specs.Stitched.{Item, kept_piece, stitched, numbered, numbers_at, next_stitched_numbers, steps_between, numbers_from, first_numbers, newest_place, up_to, from_place}
 use Rattle.stitcher.specs.Paced.{due_stitched, due_list}
 use Rattle.pod_store.specs.Store.{nothing_decided}
 use Rattle.break_finder.specs.Breaks.{Break}
 use Rattle.break_finder.specs.Entering.{enters_break}
 use Rattle.break_finder.specs.Entering as entering
-use Rattle.break_finder.specs.Known.{is_this}
+use Rattle.break_finder.specs.Known.{is_this_break}
 use Rattle.channel_spec.specs.Marking.{Moment, entered, last_entered, newest_end, next_shown, show_all}
 use Rattle.channel_spec.specs.Successor.{first_number, end_number}
 use Rattle.channel_spec.specs.Live.{refreshed, Told, told, nothing_told, last_playlist, item_place, after_refresh, moment, item_segment, window_after}
@@ -114,7 +114,7 @@ written_on m first x rest (s ∷ later) e f =
     let number : s.media_sequence ≡ x.segment.media_sequence + 1 = eqb-true s.media_sequence (x.segment.media_sequence + 1) b.0 in
     let own : s.discontinuity_sequence ≡ x.segment.discontinuity_sequence + s.discontinuities = eqb-true s.discontinuity_sequence (x.segment.discontinuity_sequence + s.discontinuities) b.1 in
     let numbers : numbers_at first (kept_piece here) (map kept_piece before) ≡ segment_numbers s =
-    ap (λ n. next_numbers n (steps_between (kept_piece x) (kept_piece here))) e ∙ same_numbers x.segment.media_sequence x.segment.discontinuity_sequence s.media_sequence s.discontinuity_sequence s.discontinuities number own in
+    ap (λ n. next_stitched_numbers n (steps_between (kept_piece x) (kept_piece here))) e ∙ same_numbers x.segment.media_sequence x.segment.discontinuity_sequence s.media_sequence s.discontinuity_sequence s.discontinuities number own in
     written_on m first here before later numbers a.1
     ∙ (ap (λ ss. ss ++ with_times later (instants_after (newest_end (here ∷ before)) later)) (written-cons first here before numbers)
     ∙ append_assoc (written first before) (record s { program_date_time = here.instant } ∷ []) (with_times later (instants_after (newest_end (here ∷ before)) later)))
@@ -182,9 +182,9 @@ module _ (tolerance : ℕ) (p : Playlist) (s : Segment) (later : List Segment) (
 
   none_played : (id : List ℕ) → is_played then p id ≡ false
   none_played id =
-      ap (λ items. list_any (is_of_pod id) items || is_this id (last_entered then.history)) window_is
-      ∙ (ap (λ b. b || is_this id (last_entered then.history)) (any_reverse (is_of_pod id) (numbered (first_numbers hist) (map kept_piece hist)) ∙ none_of_pod id (first_numbers hist) hist)
-      ∙ ap (is_this id) (ap last_entered history_is ∙ none_last hist unmarked))
+      ap (λ items. list_any (is_of_pod id) items || is_this_break id (last_entered then.history)) window_is
+      ∙ (ap (λ b. b || is_this_break id (last_entered then.history)) (any_reverse (is_of_pod id) (numbered (first_numbers hist) (map kept_piece hist)) ∙ none_of_pod id (first_numbers hist) hist)
+      ∙ ap (is_this_break id) (ap last_entered history_is ∙ none_last hist unmarked))
 
 all_stay : (date_ranges : List DateRange) → filter (λ (r : DateRange). true) date_ranges ≡ date_ranges
 all_stay [] = refl

@@ -16,7 +16,7 @@ use Rattle.pod_store.specs.Outcome.{fault_at, nowhere}
 use Rattle.pod_store.specs.declared.Decisions.{Decisions}
 use Rattle.pod_store.specs.declared.Decisions.TheVariants.{Breaks, Withdraw, Fallback, NoFallback}
 use Rattle.pod_store.specs.declared.fault.DecisionKind.TheVariants.{Used, Full, Unknown}
-use Rattle.break_finder.specs.Known.{Accepted, is_this}
+use Rattle.break_finder.specs.Known.{Accepted, is_this_break}
 use Rattle.channel_spec.specs.Marking.{Moment, last_mark, last_entered, continued, entered, mark_of, segment_instant, next_shown, show_all}
 use Rattle.channel_spec.specs.Successor.{first_number}
 use Rattle.channel_spec.specs.Live.{succession_fault, last_playlist, store_by_outcome, decide, is_mark_of, in_use, in_use_with, ids_of_option, marks_from, rest_before, rest_id}
@@ -189,7 +189,7 @@ or_back false b e = e
 -- it marks a shown segment of the origin, or is this one, which was entered last
 abbrev pub is_shown_with : ℕ → List Marked → Option (List ℕ) → List ℕ → Bool
 is_shown_with first history last id =
-    list_any (λ (s : Marked). nat_le first s.segment.media_sequence && is_mark_of id s.mark) history || is_this id last
+    list_any (λ (s : Marked). nat_le first s.segment.media_sequence && is_mark_of id s.mark) history || is_this_break id last
 
 abbrev pub is_shown : ℕ → List Marked → List ℕ → Bool
 is_shown first history id = is_shown_with first history (last_entered history) id
@@ -218,7 +218,7 @@ one_of_append : (xs ys : List (List ℕ)) (id : List ℕ) → is_one_of (xs ++ y
 one_of_append [] ys id = refl
 one_of_append (x ∷ xs) ys id = grind (arith, one_of_append xs ys id)
 
-one_id : (o : Option (List ℕ)) (id : List ℕ) → is_one_of (ids_of_option o) id ≡ is_this id o
+one_id : (o : Option (List ℕ)) (id : List ℕ) → is_one_of (ids_of_option o) id ≡ is_this_break id o
 one_id None id = refl
 one_id (Some other) id = or_alone (bytes_eq id other)
 
@@ -229,10 +229,10 @@ marks_listed first (s ∷ before) id = grind (arith, one_of_append, or_swap, one
 
 -- the breaks in use are those that are shown, and that of the rest
 pub in_use_with_is : (first : ℕ) (history : List Marked) (last : Option (List ℕ)) (rest : Option PodRest) (id : List ℕ)
-    → is_one_of (in_use_with first history last rest) id ≡ (is_shown_with first history last id || is_this id (rest_id rest))
+    → is_one_of (in_use_with first history last rest) id ≡ (is_shown_with first history last id || is_this_break id (rest_id rest))
 in_use_with_is first history last rest id = grind (arith, one_of_append, marks_listed, one_id, grouped)
 
-pub in_use_is : (start first : ℕ) (history : List Marked) (id : List ℕ) → in_use start first history id ≡ (is_shown first history id || is_this id (rest_id (rest_before start first history)))
+pub in_use_is : (start first : ℕ) (history : List Marked) (id : List ℕ) → in_use start first history id ≡ (is_shown first history id || is_this_break id (rest_id (rest_before start first history)))
 in_use_is start first history id = grind (arith, in_use_with_is)
 
 -- ---- the last refresh

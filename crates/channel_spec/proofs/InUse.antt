@@ -14,7 +14,7 @@ use Rattle.pod_store.specs.Outcome.{fault_at, nowhere}
 use Rattle.pod_store.specs.declared.Decisions.{Decisions}
 use Rattle.pod_store.specs.declared.Decisions.TheVariants.{Breaks, Withdraw, Fallback, NoFallback}
 use Rattle.pod_store.specs.declared.fault.DecisionKind.TheVariants.{Used, Full, Unknown}
-use Rattle.break_finder.specs.Known.{Accepted, is_this}
+use Rattle.break_finder.specs.Known.{Accepted, is_this_break}
 use Rattle.channel_spec.specs.Marking.{last_mark, last_entered, history_after}
 use Rattle.channel_spec.specs.Successor.{first_number}
 use Rattle.channel_spec.specs.Live.{Event, decided, refreshed, Told, told, happens, refusal, after_refresh, store_by_outcome, decide, moment, start_after, is_mark_of, in_use, breaks_in_use, rest_before, rest_by, rest_id, last_playlist}
@@ -129,7 +129,7 @@ both true b f g = sym (f refl)
 both false true f g = g refl
 both false false f g = refl
 
-rest_used : (store : Store) (id : List ℕ) (rest : Option PodRest) → HasPod store (rest_mark rest) → is_this id (rest_id rest) ≡ true → is_used store id ≡ true
+rest_used : (store : Store) (id : List ℕ) (rest : Option PodRest) → HasPod store (rest_mark rest) → is_this_break id (rest_id rest) ≡ true → is_used store id ≡ true
 rest_used store id None h k = absurd (cc)
 rest_used store id (Some rest) h k = mark_used store id (Some rest.mark) h k
 
@@ -148,7 +148,7 @@ used_are_in_use tolerance events id sound =
     let first = first_shown t.accepted in
     let rest = rest_before t.start first t.history in
     both (is_used t.store id) (uses_then t id) (used_uses (uses_then t) id t.store.entries (all_in_use tolerance events))
-    (λ k. either t.store id (is_shown first t.history id) (is_this id (rest_id rest))
-    (either t.store id (list_any (λ (s : Marked). nat_le first s.segment.media_sequence && is_mark_of id s.mark) t.history) (is_this id (last_entered t.history))
+    (λ k. either t.store id (is_shown first t.history id) (is_this_break id (rest_id rest))
+    (either t.store id (list_any (λ (s : Marked). nat_le first s.segment.media_sequence && is_mark_of id s.mark) t.history) (is_this_break id (last_entered t.history))
     (shown_used t.store first id t.history pods.0) (mark_used t.store id (last_mark t.history) pods.1.0))
     (rest_used t.store id rest (rest_there t.store t.accepted t.history t.start (holds tolerance events sound).standing pods.1.1)) (sym (in_use_is t.start first t.history id) ∙ k))

@@ -16,7 +16,7 @@ use Rattle.channel_spec.specs.declared.fault.RefreshFault.TheVariants.{NumberRan
 use Rattle.break_finder.specs.Known.{Accepted, known, carry}
 use Rattle.break_finder.specs.Breaks.{Break}
 use Rattle.channel_spec.specs.Marking.{mark_id, last_entered, is_new, history_after}
-use Rattle.channel_spec.specs.Successor.{heading_of, first_number, end_number, has_init_sections, fault_if}
+use Rattle.channel_spec.specs.Successor.{owed_heading_of, first_number, end_number, has_init_sections, fault_if}
 use Rattle.channel_spec.specs.Live.{Told, told, refusal, succession_fault, acceptance, moment, after_refresh, breaks_in_use, item_segment, states_instant, owed_for, window_after, last_playlist, written_date_ranges, item_place, gone_before, rest_over, rest_id, ids_of_option, marks_from, in_use_with, date_ranges_left, start_after}
 use Rattle.break_finder.specs.Laws.{CarriesKnown}
 use Rattle.channel_spec.specs.LiveLaws.{Linked, GoesOn}
@@ -228,7 +228,7 @@ follow_first tolerance p store start =
       succeeds_is = refl;
       refused = ap (λ xs. fault_if (not (list_all can_be_numbered xs)) NumberRange) items;
       fresh_is = refl;
-      kept_is = λ e. kept_ext _ _ _ _ (Some (heading_of p)) _ _ _ _ _ _ _ _ _ _ (ap (λ is. kept_in_use is store) ids) breaks (shown_same number 0 list [] history None parts (omega arith)) parts.last (ap head_numbers windows) (sym lengths) (sym none);
+      kept_is = λ e. kept_ext _ _ _ _ (Some (owed_heading_of p)) _ _ _ _ _ _ _ _ _ _ (ap (λ is. kept_in_use is store) ids) breaks (shown_same number 0 list [] history None parts (omega arith)) parts.last (ap head_numbers windows) (sym lengths) (sym none);
       window_is = λ e. windows;
       date_ranges_is = λ e. date_ranges_by p (kept_window tolerance kept p) (window_after (after_refresh tolerance t p) p) (kept_breaks tolerance kept p) (breaks_in_use (item_place number history) number history) windows ids;
       owed_is = λ e. owed_same p (kept_window tolerance kept p) (window_after (after_refresh tolerance t p) p) (kept_breaks tolerance kept p) (breaks_in_use (item_place number history) number history) windows ids;
@@ -260,7 +260,7 @@ module _ (tolerance : ℕ) (p : Playlist) (a : Accepted) (earlier : List Accepte
   kept n = record {
     store = store;
     breaks = known (a ∷ earlier);
-    last = Some (heading_of a.playlist);
+    last = Some (owed_heading_of a.playlist);
     shown = newer ++ (s ∷ []);
     entered = last_entered (newer ++ (s ∷ gone));
     numbers = n;
@@ -312,7 +312,7 @@ module _ (tolerance : ℕ) (p : Playlist) (a : Accepted) (earlier : List Accepte
         ∙ head_of_all n stood some)) in
         let rest : rest_over 0 start (first_number a.playlist.segments) (newer ++ (s ∷ gone)) ≡ there =
         ap (λ k. rest_over 0 start k (newer ++ (s ∷ gone))) (sym at) ∙ rest_is end start newer s gone falls in
-        kept_ext _ _ _ _ (Some (heading_of a.playlist)) _ _ _ _ _ _ _ _ _ _ refl refl shown refl numbers refl rest
+        kept_ext _ _ _ _ (Some (owed_heading_of a.playlist)) _ _ _ _ _ _ _ _ _ _ refl refl shown refl numbers refl rest
 
     follow_later : s.segment.media_sequence ≡ first_number a.playlist.segments → map kept_parts (listed (newer ++ (s ∷ []))) ≡ map kept_parts a.playlist.segments → FallFrom (first_number a.playlist.segments) gone → Standing a.playlist (newer ++ (s ∷ gone)) → IsSoundPlaylist p → CarriesKnown (a ∷ earlier)
         → (succession_fault (Some a.playlist) p ≡ None → Standing p (history_after (moment tolerance t p) (newer ++ (s ∷ gone)) p)) → FollowsFrom (kept n) tolerance p t
@@ -358,7 +358,7 @@ module _ (tolerance : ℕ) (p : Playlist) (a : Accepted) (earlier : List Accepte
         let fault = succession_fault (Some a.playlist) p in
         let oldest = first_number (listed shown) in
         let oldest_is : oldest ≡ first_number a.playlist.segments = same_first (listed shown) a.playlist.segments same_parts in
-        let faults : kept_succession k p ≡ fault = same_fault (heading_of a.playlist) (listed shown) a.playlist.segments p same_parts in
+        let faults : kept_succession k p ≡ fault = same_fault (owed_heading_of a.playlist) (listed shown) a.playlist.segments p same_parts in
         let grow : fault ≡ None → GoesOn old new = λ e. due_on m a.playlist p whole standing (passed a.playlist p e) read in
         let goes : (e : fault ≡ None) → stands ≡ (grow e).0 ++ stood = λ e.
         append_cancel_right stands ((grow e).0 ++ stood) b.below (sym new_is ∙ ((grow e).1 ∙ (ap (λ xs. (grow e).0 ++ xs) old_is ∙ sym (append_assoc (grow e).0 stood b.below)))) in
@@ -392,7 +392,7 @@ module _ (tolerance : ℕ) (p : Playlist) (a : Accepted) (earlier : List Accepte
           succeeds_is = faults;
           refused = ap (λ o. or_earlier o (fault_if (not (list_all can_be_numbered (kept_items tolerance k p))) NumberRange)) faults ∙ or_same fault _ _ (λ e. ap (λ b. fault_if (not b) NumberRange) (range e));
           fresh_is = sym (new_same newer s gone p.segments);
-          kept_is = λ r. let e = or_none fault _ r in kept_ext _ _ _ _ (Some (heading_of p)) _ _ _ _ _ _ _ _ _ _ (ap (λ is. kept_in_use is store) (ids e)) breaks
+          kept_is = λ r. let e = or_none fault _ r in kept_ext _ _ _ _ (Some (owed_heading_of p)) _ _ _ _ _ _ _ _ _ _ (ap (λ is. kept_in_use is store) (ids e)) breaks
               (shown_same number (first_number a.playlist.segments) list gone history entered parts (back e)) last (ap head_numbers (windows e)) (sym lengths) (rests e);
           window_is = λ r. windows (or_none fault _ r);
           date_ranges_is = λ r. let e = or_none fault _ r in date_ranges_by p (kept_window tolerance k p) (reverse (from_place begun (due_list p.end_list history))) (kept_breaks tolerance k p) (breaks_in_use begun number history) (windows e) (ids e);

@@ -6,13 +6,13 @@ use Rattle.playlist_model.specs.LookBack.{or_earlier}
 use Rattle.pod_store.specs.Marks.{Mark, Marked, newest_mark, are_one}
 use Rattle.channel_spec.specs.Marking.{Moment, last_entered, continued, is_inside, entered, segment_instant, next_shown, show_all}
 use Rattle.channel_spec.specs.Live.{Event, Told, told, happens}
-use Rattle.break_finder.specs.Known.{is_this}
+use Rattle.break_finder.specs.Known.{is_this_break}
 use Rattle.channel_spec.specs.LiveLaws.{Linked, HistoriesAreLinked, MarksFollow}
 use Rattle.channel_spec.proofs.Entries.{IsEntered, entered_is}
 
 NotLast : Option (List ℕ) → Option Mark → Type 0
 NotLast last None = Unit {0}
-NotLast last (Some f) = is_this f.id last ≡ false
+NotLast last (Some f) = is_this_break f.id last ≡ false
 
 other : (m : Moment) (last : Option (List ℕ)) (o : Option Mark) → IsEntered m last o → NotLast last o
 unfolding NotLast IsEntered

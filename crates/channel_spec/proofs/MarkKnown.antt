@@ -8,7 +8,7 @@ use Rattle.playlist_model.specs.LookBack.{or_earlier}
 use Rattle.pod_store.specs.Marks.{Mark, Marked, newest_mark}
 use Rattle.channel_spec.specs.Marking.{Moment, continued, entered, mark_of, segment_instant, next_shown, show_all, is_new}
 use Rattle.channel_spec.specs.Live.{Event, decided, refreshed, Told, told, happens, after_refresh, moment, acceptance}
-use Rattle.break_finder.specs.Known.{known, known_ids, age, stands, is_this, is_tag_of}
+use Rattle.break_finder.specs.Known.{known, known_ids, age, stands, is_this_break, is_tag_of}
 use Rattle.break_finder.specs.Breaks.{Break, break_of}
 use Rattle.break_finder.specs.Laws.{CarriesKnown}
 use Rattle.channel_spec.specs.LiveLaws.{MarksAreKnown}
@@ -48,8 +48,8 @@ unfolding Known
 still_known t playlist None e c k = tt
 still_known t playlist (Some f) e c k =
     let r = acceptance t playlist in
-    let carried : is_this f.id r.carried ≡ true = rw e (same_bytes f.id) in
-    let s : stands r f.id ≡ true = or_right (list_any (is_tag_of f.id) playlist.date_ranges) (is_this f.id r.carried) carried in
+    let carried : is_this_break f.id r.carried ≡ true = rw e (same_bytes f.id) in
+    let s : stands r f.id ≡ true = or_right (list_any (is_tag_of f.id) playlist.date_ranges) (is_this_break f.id r.carried) carried in
     let old : 0 < age t.accepted f.id = known_stood t.accepted f.id (some_in t.accepted f.id (known_ids t.accepted) k) in
     let a : age (r ∷ t.accepted) f.id ≡ age t.accepted f.id + 1 = ap (λ b. cond b (age t.accepted f.id + 1) 0) s in
     in_some (r ∷ t.accepted) f.id (known_ids (r ∷ t.accepted)) (stood_known (r ∷ t.accepted) f.id c (omega (arith, a)))

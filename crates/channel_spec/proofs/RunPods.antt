@@ -9,7 +9,7 @@ use Rattle.pod_store.specs.Marks.{Mark, Marked, newest_mark, are_one}
 use Rattle.stitcher.specs.Stitched.{Piece, pod_pieces, stitched}
 use Rattle.stitcher.specs.Paced.{older, run_length, due, newest_pieces}
 use Rattle.break_finder.specs.Breaks.{Break}
-use Rattle.break_finder.specs.Known.{Accepted, is_this}
+use Rattle.break_finder.specs.Known.{Accepted, is_this_break}
 use Rattle.channel_spec.specs.Marking.{last_entered}
 use Rattle.channel_spec.specs.declared.fault.RefreshFault.{RefreshFault}
 use Rattle.channel_spec.specs.Live.{Event, decided, refreshed, Told, told, happens, refusal, after_refresh}
@@ -48,9 +48,9 @@ found_after test (x ∷ earlier) after b n e =
     let p = or_parts _ _ n in
     ap (λ t. cond t (Some x) (find test (earlier ++ (b ∷ after)))) p.0 ∙ found_after test earlier after b p.1 e
 
-runs_apart : (id : List ℕ) (pod : Pod) (before : List Marked) (o : Option Mark) → newest_mark before ≡ o → is_this id (last_entered before) ≡ false → are_one (Some (record { id = id; pod = pod })) o ≡ false
+runs_apart : (id : List ℕ) (pod : Pod) (before : List Marked) (o : Option Mark) → newest_mark before ≡ o → is_this_break id (last_entered before) ≡ false → are_one (Some (record { id = id; pod = pod })) o ≡ false
 runs_apart id pod before None e h = refl
-runs_apart id pod before (Some f) e h = ap (is_this id) (sym (last_is before f e)) ∙ h
+runs_apart id pod before (Some f) e h = ap (is_this_break id) (sym (last_is before f e)) ∙ h
 
 pub fallback_fills : FallbackFills
 fallback_fills m before s later b pod h own fallback fits = grind (arith, and_from, found_after, runs_apart, fresh, reverse)

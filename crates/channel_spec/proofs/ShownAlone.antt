@@ -4,7 +4,7 @@ use Rattle.std.proofs.lemmas.List.{append-nil, take-append-le}
 use Rattle.std.proofs.lemmas.Bool.{ltb-true}
 use Rattle.std.specs.Prelude.{Option, Some, None, nat_lt}
 use Rattle.pod_store.specs.Marks.{Mark, Marked, newest_mark, continues, are_one}
-use Rattle.stitcher.specs.Stitched.{Piece, Numbers, run_pieces, stitched, newest_place, numbers_at, next_numbers, steps_between, up_to, from_place, Item, numbered}
+use Rattle.stitcher.specs.Stitched.{Piece, Numbers, run_pieces, stitched, newest_place, numbers_at, next_stitched_numbers, steps_between, up_to, from_place, Item, numbered}
 use Rattle.channel_spec.proofs.Numbered.{window_place}
 use Rattle.channel_spec.specs.LiveLaws.{Linked}
 use Rattle.stitcher.specs.Paced.{older, first_of_run}
@@ -79,7 +79,7 @@ window_after (x ∷ newer) s gone number l h = step_on x newer s gone number l (
 
 numbers_over : (first : Numbers) (p : Piece) (front : List Piece) (q : Piece) (after : List Piece) → numbers_at first p (front ++ (q ∷ after)) ≡ numbers_at (numbers_at first q after) p (front ++ (q ∷ []))
 numbers_over first p [] q after = refl
-numbers_over first p (r ∷ front) q after = ap (λ (n : Numbers). next_numbers n (steps_between r p)) (numbers_over first r front q after)
+numbers_over first p (r ∷ front) q after = ap (λ (n : Numbers). next_stitched_numbers n (steps_between r p)) (numbers_over first r front q after)
 
 abbrev pub item : Piece → Numbers → Item
 item p n = record { piece = p; numbers = n }

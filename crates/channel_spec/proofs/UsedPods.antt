@@ -9,7 +9,7 @@ use Rattle.channel_spec.specs.declared.fault.RefreshFault.{RefreshFault}
 use Rattle.pod_store.specs.Marks.{Mark, Marked, newest_mark}
 use Rattle.stitcher.specs.Stitched.{up_to}
 use Rattle.pod_store.specs.Store.{Store, kept_in_use, is_one_of}
-use Rattle.break_finder.specs.Known.{Accepted, is_this}
+use Rattle.break_finder.specs.Known.{Accepted, is_this_break}
 use Rattle.channel_spec.specs.Marking.{Moment, last_mark, is_new, history_after}
 use Rattle.channel_spec.specs.Successor.{first_number, end_number}
 use Rattle.channel_spec.specs.Live.{Event, decided, refreshed, moment, succession_fault, last_playlist, breaks_in_use, rest_before}
@@ -51,7 +51,7 @@ Held p =
     ShownHavePods p.store (first_shown p.accepted) p.history
     × (HasPod p.store (last_mark p.history) × HasPod p.store (rest_mark (rest_by (last_playlist p.accepted) p.start p.history)))
 
-rest_used : (rest : Option PodRest) (f : Mark) → rest_mark rest ≡ Some f → is_this f.id (rest_id rest) ≡ true
+rest_used : (rest : Option PodRest) (f : Mark) → rest_mark rest ≡ Some f → is_this_break f.id (rest_id rest) ≡ true
 rest_used rest f e = grind (arith, same_id)
 
 rest_same : (n : ℕ) (new old : List Marked) (start : ℕ) → up_to n new ≡ up_to n old → gone_before n new ≡ gone_before n old → rest_over 0 start n new ≡ rest_over 0 start n old
@@ -96,7 +96,7 @@ refresh_held tolerance p playlist ph r h e =
     let history = history_after m t.history playlist in
     let start = start_after (last_playlist t.accepted) p.start t.history playlist history in
     let ids = breaks_in_use start first history in
-    let listed : (id : List ℕ) → (is_shown first history id || is_this id (rest_id (rest_before start first history))) ≡ true → is_one_of ids id ≡ true = λ id u. in_use_is start first history id ∙ u in
+    let listed : (id : List ℕ) → (is_shown first history id || is_this_break id (rest_id (rest_before start first history))) ≡ true → is_one_of ids id ≡ true = λ id u. in_use_is start first history id ∙ u in
     let back = not_back t.accepted playlist e in
     let standing = new_standing m t.accepted t.history playlist (plain_standing t.accepted t.history p.start ph.standing) r refl ph.store e in
     let a = show_has m (first_shown t.accepted) t.history (filter (is_new t.history) playlist.segments) (record {
@@ -107,11 +107,11 @@ refresh_held tolerance p playlist ph r h e =
     let rest = rest_over 0 start first history in (
       all_from (λ (s : Marked). first ≤ s.segment.media_sequence → HasPod (kept_in_use ids t.store) s.mark) history
           (λ s inside n. after_has t.store ids s.mark (from_all (λ (x : Marked). first_shown t.accepted ≤ x.segment.media_sequence → Has t.store x.mark) history s a.shown inside (omega (arith, back, n)))
-          (λ f same. listed f.id (or_front (is_shown first history f.id) (is_this f.id (rest_id rest)) (shown_used first history s f inside n same)))),
+          (λ f same. listed f.id (or_front (is_shown first history f.id) (is_this_break f.id (rest_id rest)) (shown_used first history s f inside n same)))),
       (
-        after_has t.store ids (last_mark history) a.last (λ f same. listed f.id (or_front (is_shown first history f.id) (is_this f.id (rest_id rest)) (last_used first history f same))),
+        after_has t.store ids (last_mark history) a.last (λ f same. listed f.id (or_front (is_shown first history f.id) (is_this_break f.id (rest_id rest)) (last_used first history f same))),
         after_has t.store ids (rest_mark rest) (rest_has m t.accepted t.history p.start t.store playlist ph.standing e standing h.1.1 a.shown)
-            (λ f same. listed f.id (or_back (is_shown first history f.id) (is_this f.id (rest_id rest)) (rest_used rest f same))),
+            (λ f same. listed f.id (or_back (is_shown first history f.id) (is_this_break f.id (rest_id rest)) (rest_used rest f same))),
       ),
     )
 

@@ -9,7 +9,7 @@ use Rattle.pod_store.specs.Pods.{PodSegment, Ad}
 use Rattle.pod_store.specs.Marks.{Mark, Marked, newest_mark, continues}
 use Rattle.stitcher.specs.Stitched.{Piece, Numbers, ad_piece, ad_pieces, pieces_of_ads, run_pieces, stitched, numbered, first_numbers, from_place}
 use Rattle.stitcher.specs.Paced.{PodRest, older, due, newest_pieces, due_with, due_stitched, rest_pieces}
-use Rattle.break_finder.specs.Known.{Accepted, is_this}
+use Rattle.break_finder.specs.Known.{Accepted, is_this_break}
 use Rattle.channel_spec.specs.Marking.{last_entered}
 use Rattle.channel_spec.specs.Successor.{first_number, end_number, has_init_sections}
 use Rattle.channel_spec.specs.Live.{told, is_mark_of, in_use, rest_before, rest_id, rest_over, last_playlist, window_from}
@@ -147,7 +147,7 @@ any_due m whole n id (s ∷ before) l a =
 
 -- ---- the rest
 
-any_rest : (id : List ℕ) (o : Option PodRest) → (is_some o ≡ true → 0 < length (rest_pieces o)) → list_any (of_pod id) (rest_pieces o) ≡ is_this id (rest_id o)
+any_rest : (id : List ℕ) (o : Option PodRest) → (is_some o ≡ true → 0 < length (rest_pieces o)) → list_any (of_pod id) (rest_pieces o) ≡ is_this_break id (rest_id o)
 any_rest id o h = grind (arith, any_reverse, any_of, all_drop, ads_of, length-reverse)
 
 rest_some : (s : Marked) (gone : List Marked) (start : ℕ) → Below s gone start (rest_with 0 start (length (stitched (rest_of s gone))) gone)
@@ -194,7 +194,7 @@ regroup false false false = refl
 
 in_window : (id : List ℕ) (p : Playlist) (newer : List Marked) (s : Marked) (gone : List Marked) (start : ℕ) → WindowStanding p (newer ++ (s ∷ gone)) start → StartAt s.segment.media_sequence (newer ++ (s ∷ gone)) start
     → Linked (newer ++ (s ∷ gone)) → s.segment.media_sequence ≡ first_number p.segments
-    → in_use start (first_number p.segments) (newer ++ (s ∷ gone)) id ≡ (list_any (is_of_pod id) (window_from start (newer ++ (s ∷ gone)) p) || is_this id (last_entered (newer ++ (s ∷ gone))))
+    → in_use start (first_number p.segments) (newer ++ (s ∷ gone)) id ≡ (list_any (is_of_pod id) (window_from start (newer ++ (s ∷ gone)) p) || is_this_break id (last_entered (newer ++ (s ∷ gone))))
 in_window id p newer s gone start w at linked number =
     let history = newer ++ (s ∷ gone) in
     let first = first_number p.segments in
@@ -205,32 +205,32 @@ in_window id p newer s gone start w at linked number =
     let b = below_start end start newer s gone falls (linked_behind newer (s ∷ gone) linked).1 at in
     let shown = newer ++ (s ∷ []) in
     let due = due_with p.end_list (length_of history) shown in
-    let window : list_any (is_of_pod id) (window_from start history p) ≡ (list_any (marked_by id) shown || is_this id (rest_id there)) =
+    let window : list_any (is_of_pod id) (window_from start history p) ≡ (list_any (marked_by id) shown || is_this_break id (rest_id there)) =
     any_window id (first_numbers history) (due ++ rest_pieces there) b.below (due_stitched p.end_list history) start (stand_on p.end_list newer s gone start there b linked) b.size
     ∙ (any_append (of_pod id) due (rest_pieces there)
     ∙ (ap (λ x. x || list_any (of_pod id) (rest_pieces there)) (any_due m p.end_list (length_of history) id shown (linked_cut newer s gone linked) (alike_cut m newer s gone w.standing.alike))
     ∙ ap (λ x. list_any (marked_by id) shown || x) (any_rest id there (rest_some s gone start b)))) in
     let rest : rest_before start first history ≡ there = ap (λ n. rest_over 0 start n history) (sym number) ∙ rest_is end start newer s gone falls in
     in_use_is start first history id
-    ∙ (ap (λ x. (x || is_this id (last_entered history)) || is_this id (rest_id (rest_before start first history))) (any_shown first end id newer s gone falls number)
-    ∙ (ap (λ o. (list_any (marked_by id) shown || is_this id (last_entered history)) || is_this id (rest_id o)) rest
-    ∙ (regroup (list_any (marked_by id) shown) (is_this id (last_entered history)) (is_this id (rest_id there)) ∙ ap (λ x. x || is_this id (last_entered history)) (sym window))))
+    ∙ (ap (λ x. (x || is_this_break id (last_entered history)) || is_this_break id (rest_id (rest_before start first history))) (any_shown first end id newer s gone falls number)
+    ∙ (ap (λ o. (list_any (marked_by id) shown || is_this_break id (last_entered history)) || is_this_break id (rest_id o)) rest
+    ∙ (regroup (list_any (marked_by id) shown) (is_this_break id (last_entered history)) (is_this_break id (rest_id there)) ∙ ap (λ x. x || is_this_break id (last_entered history)) (sym window))))
 
 for_last : (id : List ℕ) (accepted : List Accepted) (history : List Marked) (start : ℕ) (p : Playlist) → WindowOf accepted history start → StartOf accepted history start → Linked history
     → last_playlist accepted ≡ Some p
-    → in_use start (first_number p.segments) history id ≡ (list_any (is_of_pod id) (window_from start history p) || is_this id (last_entered history))
+    → in_use start (first_number p.segments) history id ≡ (list_any (is_of_pod id) (window_from start history p) || is_this_break id (last_entered history))
 unfolding WindowOf StartOf
 for_last id [] history start p w at linked e = absurd (cc)
 for_last id (a ∷ earlier) history start p w at linked e =
     let same : a.playlist ≡ p = cc in
-    subst (λ (q : Playlist). in_use start (first_number q.segments) history id ≡ (list_any (is_of_pod id) (window_from start history q) || is_this id (last_entered history))) same (here a.playlist w at)
+    subst (λ (q : Playlist). in_use start (first_number q.segments) history id ≡ (list_any (is_of_pod id) (window_from start history q) || is_this_break id (last_entered history))) same (here a.playlist w at)
   where
     here : (q : Playlist) → WindowStanding q history start → StartAt (first_number q.segments) history start
-        → in_use start (first_number q.segments) history id ≡ (list_any (is_of_pod id) (window_from start history q) || is_this id (last_entered history))
+        → in_use start (first_number q.segments) history id ≡ (list_any (is_of_pod id) (window_from start history q) || is_this_break id (last_entered history))
     here q st begin =
         let first = first_number q.segments in
         let k = cut first (end_number q.segments) history st.standing.falls (omega (arith, st.standing.read.some)) (omega (arith, st.standing.long)) in
-        subst (λ h. in_use start first h id ≡ (list_any (is_of_pod id) (window_from start h q) || is_this id (last_entered h))) (sym k.is)
+        subst (λ h. in_use start first h id ≡ (list_any (is_of_pod id) (window_from start h q) || is_this_break id (last_entered h))) (sym k.is)
         (in_window id q k.newer k.s k.gone start (subst (λ h. WindowStanding q h start) k.is st)
         (subst (λ n. StartAt n (k.newer ++ (k.s ∷ k.gone)) start) (sym k.media_sequence) (subst (λ h. StartAt first h start) k.is begin)) (subst Linked k.is linked) k.media_sequence)
 

@@ -9,9 +9,9 @@ use Rattle.pod_store.specs.Marks.{Mark, Marked, newest_mark}
 use Rattle.stitcher.specs.Stitched.{Piece, Item, pod_pieces, stitched}
 use Rattle.stitcher.specs.Paced.{run_length, older, due, due_stitched}
 use Rattle.pod_store.specs.Store.{own_pod}
-use Rattle.break_finder.specs.Breaks.{Break, end_of, is_not_past}
+use Rattle.break_finder.specs.Breaks.{Break, break_end_of, is_not_past_break_end}
 use Rattle.break_finder.specs.Entering.{starts_at, enters_break}
-use Rattle.break_finder.specs.Known.{known, is_this}
+use Rattle.break_finder.specs.Known.{known, is_this_break}
 use Rattle.channel_spec.specs.Marking.{Moment, limits, continued, segment_instant, next_shown, last_entered}
 use Rattle.channel_spec.specs.Successor.{first_number}
 use Rattle.channel_spec.specs.Live.{Event, refreshed, Told, told, is_mark_of, in_use, rest_by, last_playlist, has_ended, refusal, window_after}
@@ -30,7 +30,7 @@ abbrev pub InUseIsWritten : Type 0
 InUseIsWritten = (tolerance : ℕ) (events : List Event) (playlist : Playlist) (id : List ℕ) → AllByRecursion IsSoundEvent events →
     last_playlist (told tolerance events).accepted ≡ Some playlist →
     in_use (told tolerance events).start (first_number playlist.segments) (told tolerance events).history id
-    ≡ (list_any (is_of_pod id) (window_after (told tolerance events) playlist) || is_this id (last_entered (told tolerance events).history))
+    ≡ (list_any (is_of_pod id) (window_after (told tolerance events) playlist) || is_this_break id (last_entered (told tolerance events).history))
 
 -- ---- a run and its pod
 
@@ -49,8 +49,8 @@ pub record BeginsBreak (m : Moment) (before : List Marked) (s : Segment) (later 
   pub instant : ℤ
   pub begins : segment_instant before s later ≡ Some instant
   pub signalled : starts_at (limits m (last_entered before)) instant b.said ≡ true
-  pub not_past : is_not_past instant m.tolerance (end_of b.said (total pod)) ≡ true
-  pub not_last : is_this b.id (last_entered before) ≡ false
+  pub not_past : is_not_past_break_end instant m.tolerance (break_end_of b.said (total pod)) ≡ true
+  pub not_last : is_this_break b.id (last_entered before) ≡ false
   pub run_ends : continued m (Some instant) (newest_mark before) ≡ None
   pub earlier : List Break
   pub after : List Break

@@ -16,7 +16,7 @@ use Rattle.channel_spec.specs.declared.fault.RefreshFault.TheVariants.{NumberRan
 use Rattle.break_finder.specs.Known.{Accepted, known}
 use Rattle.break_finder.specs.Breaks.{Break}
 use Rattle.channel_spec.specs.Marking.{Moment, mark_id, last_entered, next_mark, segment_instant, is_new}
-use Rattle.channel_spec.specs.Successor.{heading_of, following_fault, first_number, has_init_sections, fault_if}
+use Rattle.channel_spec.specs.Successor.{owed_heading_of, following_fault, first_number, has_init_sections, fault_if}
 use Rattle.channel_spec.specs.Live.{Told, last_playlist, item_place, rest_over, rest_by, in_use_with, date_ranges_left, window_from, item_segment, states_instant, playlist_with}
 use Rattle.break_finder.specs.Known.{carry}
 
@@ -69,7 +69,7 @@ abbrev pub kept_of : Told → Kept
 kept_of told = record {
   store = told.store;
   breaks = known told.accepted;
-  last = option_map heading_of (last_playlist told.accepted);
+  last = option_map owed_heading_of (last_playlist told.accepted);
   shown = shown_by (last_playlist told.accepted) told.history;
   entered = last_entered told.history;
   numbers = head_numbers (window_by (last_playlist told.accepted) told.start told.history);
@@ -198,7 +198,7 @@ abbrev pub kept_after : ℕ → Kept → Playlist → Kept
 kept_after tolerance kept playlist = record {
   store = kept_in_use (kept_breaks tolerance kept playlist) kept.store;
   breaks = carry (kept_acceptance kept playlist) kept.breaks;
-  last = Some (heading_of playlist);
+  last = Some (owed_heading_of playlist);
   shown = shown_from (first_number playlist.segments) (kept_list tolerance kept playlist);
   entered = kept_entered tolerance kept playlist;
   numbers = head_numbers (kept_window tolerance kept playlist);

@@ -14,7 +14,7 @@ use Rattle.pod_store.specs.Marks.{Mark, Marked, newest_mark}
 use Rattle.channel_spec.specs.Marking.{Moment, mark_id, last_entered, history_after}
 use Rattle.stitcher.specs.Stitched.{Item, can_be_numbered, newest_place, up_to, from_place}
 use Rattle.stitcher.specs.Paced.{PodRest, due_stitched, due_list}
-use Rattle.break_finder.specs.Known.{Accepted, known, is_this}
+use Rattle.break_finder.specs.Known.{Accepted, known, is_this_break}
 use Rattle.channel_spec.specs.Successor.{successor_fault, first_number, has_init_sections, fault_if}
 use Rattle.channel_spec.specs.declared.fault.RefreshFault.{RefreshFault}
 use Rattle.channel_spec.specs.declared.fault.RefreshFault.TheVariants.{NumberRange}
@@ -45,7 +45,7 @@ decide decisions store = store_by_outcome store (after_decisions store decisions
 -- ---- the breaks in use
 
 abbrev pub is_mark_of : List ℕ → Option Mark → Bool
-is_mark_of id mark = is_this id (option_map mark_id mark)
+is_mark_of id mark = is_this_break id (option_map mark_id mark)
 
 -- the segments before this number
 abbrev pub gone_before : ℕ → List Marked → List Marked

@@ -11,7 +11,7 @@ use Rattle.stitcher.specs.Stitched.{Piece, Item, is_kept}
 use Rattle.stitcher.specs.Paced.{run_length, due_with, rest_pieces}
 use Rattle.pod_store.specs.Store.{own_pod, pod_for, is_named, is_used}
 use Rattle.pod_store.specs.Laws.{are_distinct}
-use Rattle.break_finder.specs.Known.{is_this}
+use Rattle.break_finder.specs.Known.{is_this_break}
 use Rattle.channel_spec.specs.Marking.{last_entered}
 use Rattle.channel_spec.specs.Successor.{first_number}
 use Rattle.channel_spec.specs.Live.{Event, refreshed, Told, told, last_playlist, refusal, rest_by, in_use, window_after, owed}
@@ -45,7 +45,7 @@ states_time s = is_some s.program_date_time
 
 -- a segment of the break's pod is written, or it is the last one entered
 abbrev pub is_played : Told → Playlist → List ℕ → Bool
-is_played t last id = list_any (is_of_pod id) (window_after t last) || is_this id (last_entered t.history)
+is_played t last id = list_any (is_of_pod id) (window_after t last) || is_this_break id (last_entered t.history)
 
 -- a date range of the origin is written word for word exactly if its break isn't played and a written segment states a time
 abbrev pub DateRangesAreTheOrigins : Type 0

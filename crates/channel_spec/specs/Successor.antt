@@ -52,8 +52,8 @@ pub record MayFollow (Q P : Playlist) : Type 0 where
 -- ---- the same, computed: the first of the faults in their order
 
 -- what is asked of the playlist before, its segments apart
-abbrev pub heading_of : Playlist → Heading
-heading_of p = record { version = p.version; target_duration = p.target_duration; playlist_type = p.playlist_type; end_list = p.end_list }
+abbrev pub owed_heading_of : Playlist → Heading
+owed_heading_of p = record { version = p.version; target_duration = p.target_duration; playlist_type = p.playlist_type; end_list = p.end_list }
 
 abbrev pub fault_if : Bool → RefreshFault → Option RefreshFault
 fault_if test fault = if test then Some fault else None
@@ -96,7 +96,7 @@ following_fault old segments new =
 
 -- why `new` may not follow `old`, if it may not
 abbrev pub successor_fault : Playlist → Playlist → Option RefreshFault
-successor_fault old new = following_fault (heading_of old) old.segments new
+successor_fault old new = following_fault (owed_heading_of old) old.segments new
 
 -- a fault as an answer
 abbrev pub answer_of : Option RefreshFault → Result (Unit {0}) RefreshFault

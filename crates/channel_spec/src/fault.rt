@@ -50,7 +50,7 @@ pub fn short_text<const ROOM: usize>(text: &str) -> ArrayString<ROOM>
 }
 
 // `N8 Changed`, and the number of the segment.
-fn changed_text(number: u64) -> FaultText
+fn changed_segment_refresh_fault_text(number: u64) -> FaultText
     ensures { result.bytes ≡ refresh_fault_text (RefreshFault.Changed number) }
 {
     let mut text = FaultText::new();
@@ -74,7 +74,7 @@ impl RefreshFault {
             RefreshFault::Back => short_text("N5 Back"),
             RefreshFault::Gap => short_text("N6 Gap"),
             RefreshFault::Shrunk => short_text("N7 Shrunk"),
-            RefreshFault::Changed(number) => changed_text(number),
+            RefreshFault::Changed(number) => changed_segment_refresh_fault_text(number),
             RefreshFault::Ended => short_text("N9 Ended"),
             RefreshFault::NumberRange => short_text("N10 NumberRange"),
             RefreshFault::OutOfMemory => short_text("N11 OutOfMemory"),

@@ -1,6 +1,6 @@
 //! What is asked of the playlist that was accepted last when another follows, its segments apart.
 ghost use Rattle.std.specs.Prelude.{◌≡◌};
-ghost use Rattle.channel_spec.specs.Successor.{heading_of};
+ghost use Rattle.channel_spec.specs.Successor.{owed_heading_of};
 
 use playlist_model::{Playlist, PlaylistKind};
 
@@ -18,8 +18,8 @@ pub struct Heading {
 }
 
 /// The heading of `playlist`.
-pub fn heading_of(playlist: &Playlist) -> Heading
-    ensures { result ≡ heading_of playlist.now }
+pub fn owed_heading_of(playlist: &Playlist) -> Heading
+    ensures { result ≡ owed_heading_of playlist.now }
 {
     Heading {
         version: playlist.version,

@@ -6,13 +6,13 @@ use Rattle.playlist_model.specs.Segments.{Segment}
 use Rattle.playlist_model.specs.LookBack.{or_earlier}
 use Rattle.pod_store.specs.Store.{Store}
 use Rattle.stitcher.specs.declared.marked.MarkedSegment.{MarkedSegment as Held}
-use Rattle.stitcher.specs.Making.{is_same_run}
+use Rattle.stitcher.specs.Making.{is_same_stitched_run}
 use Rattle.break_finder.specs.Entering.{entered}
 use Rattle.channel_spec.specs.Marking.{Moment, limits}
 use Rattle.channel_window.specs.Marking.{stays, next_id, mark_on, capped_in, length_before, length_after}
 use Rattle.channel_window.specs.Inner.Terms.{entered_after}
 use Rattle.channel_window.specs.declared.marking.Run.{Run}
-use Rattle.channel_window.specs.Inner.Terms.{IsExtended, HasItsTerms, capped_at, stays_in}
+use Rattle.channel_window.specs.Inner.Terms.{IsExtended, HasItsTerms, window_run_length_capped_at, window_segment_stays_in}
 
 -- ---- a segment without a mark, after another
 
@@ -31,7 +31,7 @@ length_itself : (m : Moment) (mark : Option (List ℕ)) (instant : Option ℤ) (
 length_itself m None instant n h = absurd (cc)
 length_itself m (Some id) instant n h = ap (λ b. cond b n 0) ((bytes_eq-Decides id id).1 refl)
 
-pub stays_on : (m : Moment) (run : Run) (duration n : ℕ) (instant : Option ℤ) (mark : Option (List ℕ)) → HasItsTerms m run → stays_in run.terms instant ≡ true → n ≡ capped_at run.terms (duration + run.so_far) → mark ≡ run.before
+pub stays_on : (m : Moment) (run : Run) (duration n : ℕ) (instant : Option ℤ) (mark : Option (List ℕ)) → HasItsTerms m run → window_segment_stays_in run.terms instant ≡ true → n ≡ window_run_length_capped_at run.terms (duration + run.so_far) → mark ≡ run.before
     → IsExtended m.store duration mark run (record run { so_far = n })
 stays_on m run duration n instant mark r h k is =
     let stay : stays m run.before instant ≡ true = sym (r.terms.stays instant) ∙ h in
@@ -45,18 +45,18 @@ stays_on m run duration n instant mark r h k is =
           ∙ ap (λ o. capped_in m.store o (duration + length_before o run.before run.so_far)) (sym is)));
     }
 
-pub stays_next : (m : Moment) (run : Run) (instant : Option ℤ) (mark : Option (List ℕ)) → HasItsTerms m run → stays_in run.terms instant ≡ true → mark ≡ run.before → mark ≡ next_id m run.before run.entered instant
+pub stays_next : (m : Moment) (run : Run) (instant : Option ℤ) (mark : Option (List ℕ)) → HasItsTerms m run → window_segment_stays_in run.terms instant ≡ true → mark ≡ run.before → mark ≡ next_id m run.before run.entered instant
 stays_next m run instant mark r h is =
     let stay : stays m run.before instant ≡ true = sym (r.terms.stays instant) ∙ h in
     is ∙ sym (ap (λ b. cond b run.before (entered (limits m run.entered) m.store m.breaks instant)) stay)
 
-pub same_run : (mark before : Option (List ℕ)) (same : Bool) → mark ≡ before → same ≡ is_some before → same ≡ is_same_run mark before
-same_run mark None same is e = e ∙ sym (ap (λ o. is_same_run o None) is)
-same_run mark (Some id) same is e = e ∙ sym (ap (λ o. is_same_run o (Some id)) is ∙ (bytes_eq-Decides id id).1 refl)
+pub same_run : (mark before : Option (List ℕ)) (same : Bool) → mark ≡ before → same ≡ is_some before → same ≡ is_same_stitched_run mark before
+same_run mark None same is e = e ∙ sym (ap (λ o. is_same_stitched_run o None) is)
+same_run mark (Some id) same is e = e ∙ sym (ap (λ o. is_same_stitched_run o (Some id)) is ∙ (bytes_eq-Decides id id).1 refl)
 
 -- ---- one that begins a run
 
-pub begins_next : (m : Moment) (run : Run) (instant : Option ℤ) (mark : Option (List ℕ)) → HasItsTerms m run → stays_in run.terms instant ≡ false → mark ≡ entered (limits m run.entered) m.store m.breaks instant
+pub begins_next : (m : Moment) (run : Run) (instant : Option ℤ) (mark : Option (List ℕ)) → HasItsTerms m run → window_segment_stays_in run.terms instant ≡ false → mark ≡ entered (limits m run.entered) m.store m.breaks instant
     → mark ≡ next_id m run.before run.entered instant
 begins_next m run instant mark r h is =
     let stay : stays m run.before instant ≡ false = sym (r.terms.stays instant) ∙ h in
@@ -71,11 +71,11 @@ earlier_twice (Some id) last = refl
 -- ---- the marks of the next segments
 
 pub one_marked : (m : Moment) (newest last mark : Option (List ℕ)) (s : Segment) (later segments : List Segment) (instant : Option ℤ) (more instants : List (Option ℤ)) → segments ≡ s ∷ later → instants ≡ instant ∷ more
-    → mark ≡ next_id m newest last instant → mark_on m newest last segments instants ≡ record { segment = s; instant = instant; mark = mark; goes_on = is_same_run mark newest } ∷ mark_on m mark (or_earlier mark last) later more
+    → mark ≡ next_id m newest last instant → mark_on m newest last segments instants ≡ record { segment = s; instant = instant; mark = mark; goes_on = is_same_stitched_run mark newest } ∷ mark_on m mark (or_earlier mark last) later more
 one_marked m newest last mark s later segments instant more instants e f is =
     ap (λ ss. mark_on m newest last ss instants) e
     ∙ (ap (mark_on m newest last (s ∷ later)) f
-    ∙ ap (λ id. record { segment = s; instant = instant; mark = id; goes_on = is_same_run id newest } ∷ mark_on m id (or_earlier id last) later more) (sym is))
+    ∙ ap (λ id. record { segment = s; instant = instant; mark = id; goes_on = is_same_stitched_run id newest } ∷ mark_on m id (or_earlier id last) later more) (sym is))
 
 pub record OneMore (m : Moment) (old new : Run) (segments later : List Segment) (instants more : List (Option ℤ)) (here : Held) : Type 0 where
   pub list : mark_on m old.before old.entered segments instants ≡ here ∷ mark_on m new.before new.entered later more
@@ -83,11 +83,11 @@ pub record OneMore (m : Moment) (old new : Run) (segments later : List Segment) 
   pub so_far : length_after m.store new.before new.so_far (mark_on m new.before new.entered later more) ≡ length_after m.store old.before old.so_far (mark_on m old.before old.entered segments instants)
 
 pub one_more : (m : Moment) (old new : Run) (s : Segment) (later segments : List Segment) (instant : Option ℤ) (more instants : List (Option ℤ)) (here : Held) → segments ≡ s ∷ later → instants ≡ instant ∷ more
-    → here ≡ record { segment = s; instant = instant; mark = next_id m old.before old.entered instant; goes_on = is_same_run (next_id m old.before old.entered instant) old.before } → IsExtended m.store s.duration here.mark old new → OneMore m old new segments later instants more here
+    → here ≡ record { segment = s; instant = instant; mark = next_id m old.before old.entered instant; goes_on = is_same_stitched_run (next_id m old.before old.entered instant) old.before } → IsExtended m.store s.duration here.mark old new → OneMore m old new segments later instants more here
 one_more m old new s later segments instant more instants here e f is goes =
     let rest = mark_on m new.before new.entered later more in
     let mark : here.mark ≡ next_id m old.before old.entered instant = ap (λ (h : Held). h.mark) is in
-    let itself : record { segment = s; instant = instant; mark = here.mark; goes_on = is_same_run here.mark old.before } ≡ here = ap (λ id. record { segment = s; instant = instant; mark = id; goes_on = is_same_run id old.before }) mark ∙ sym is in
+    let itself : record { segment = s; instant = instant; mark = here.mark; goes_on = is_same_stitched_run here.mark old.before } ≡ here = ap (λ id. record { segment = s; instant = instant; mark = id; goes_on = is_same_stitched_run id old.before }) mark ∙ sym is in
     let list : mark_on m old.before old.entered segments instants ≡ here ∷ rest =
     one_marked m old.before old.entered here.mark s later segments instant more instants e f mark
     ∙ (ap (λ (h : Held). h ∷ mark_on m here.mark (or_earlier here.mark old.entered) later more) itself

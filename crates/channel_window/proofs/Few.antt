@@ -5,7 +5,7 @@ use Rattle.std.proofs.lemmas.Slice.Eq.{bytes_eq-Decides}
 use Rattle.playlist_model.specs.declared.DateRange.{DateRange}
 use Rattle.pod_store.specs.Store.{is_one_of}
 use Rattle.channel_spec.specs.Live.{date_range_text}
-use Rattle.channel_window.specs.Inner.Listed.{texts_left, AreAmong}
+use Rattle.channel_window.specs.Inner.Listed.{date_range_texts_left_in_window, AreAmong}
 
 either_true : (a : Bool) → (a || true) ≡ true
 either_true true = refl
@@ -28,12 +28,12 @@ not_here id one later ids is h = ap (λ xs. is_one_of xs id) is ∙ ap (λ b. b 
 
 -- ---- texts
 
-pub text_kept : (ids : List (List ℕ)) (r : DateRange) → is_one_of ids r.id ≡ true → texts_left ids (r ∷ []) ≡ []
+pub text_kept : (ids : List (List ℕ)) (r : DateRange) → is_one_of ids r.id ≡ true → date_range_texts_left_in_window ids (r ∷ []) ≡ []
 text_kept ids r h = ap (λ b. map date_range_text (cond (not b) (r ∷ []) [])) h
 
-pub text_gone : (ids : List (List ℕ)) (r : DateRange) → is_one_of ids r.id ≡ false → texts_left ids (r ∷ []) ≡ r.attributes ∷ []
+pub text_gone : (ids : List (List ℕ)) (r : DateRange) → is_one_of ids r.id ≡ false → date_range_texts_left_in_window ids (r ∷ []) ≡ r.attributes ∷ []
 text_gone ids r h = ap (λ b. map date_range_text (cond (not b) (r ∷ []) [])) h
 
 -- those of a date range and of later ones
-pub texts_on : (ids : List (List ℕ)) (r : DateRange) (later : List DateRange) → texts_left ids (r ∷ later) ≡ texts_left ids (r ∷ []) ++ texts_left ids later
+pub texts_on : (ids : List (List ℕ)) (r : DateRange) (later : List DateRange) → date_range_texts_left_in_window ids (r ∷ later) ≡ date_range_texts_left_in_window ids (r ∷ []) ++ date_range_texts_left_in_window ids later
 texts_on ids r later = grind arith

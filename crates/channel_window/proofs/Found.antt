@@ -9,7 +9,7 @@ use Rattle.stitcher.specs.declared.marked.MarkedSegment.{MarkedSegment as Held}
 use Rattle.stitcher.specs.StitchedSegments.{meant}
 use Rattle.channel_spec.specs.Kept.{origin_segment, listed}
 use Rattle.channel_window.specs.Marking.{history_in}
-use Rattle.channel_window.specs.Listed.{held_segment, segments_in}
+use Rattle.channel_window.specs.Listed.{held_segment, window_segments_in}
 use Rattle.playlist_model.specs.Same.{same_segment}
 use Rattle.channel_spec.specs.declared.fault.RefreshFault.{RefreshFault}
 use Rattle.channel_spec.specs.declared.fault.RefreshFault.TheVariants.{Changed}
@@ -83,26 +83,26 @@ was_after old s first r e h outside =
 
 -- ---- of the segments that are held
 
-pub held_there : (held : List Held) (i : ℕ) (m : Held) → i < length held → m ≡ get_or held i m → m.segment ≡ get_or (segments_in held) i m.segment
+pub held_there : (held : List Held) (i : ℕ) (m : Held) → i < length held → m ≡ get_or held i m → m.segment ≡ get_or (window_segments_in held) i m.segment
 held_there [] i m h e = absurd (omega (arith, h))
 held_there (x ∷ held) zero m h e = ap held_segment e
 held_there (x ∷ held) (suc i) m h e = held_there held i m (omega (arith, h)) e
 
-pub held_length : (held : List Held) → length (segments_in held) ≡ length held
+pub held_length : (held : List Held) → length (window_segments_in held) ≡ length held
 held_length [] = refl
 held_length (x ∷ held) = omega (arith, held_length held)
 
-pub held_last : (held : List Held) (m : Held) → last_discontinuity (segments_in (held ++ m ∷ [])) ≡ m.segment.discontinuity_sequence
+pub held_last : (held : List Held) (m : Held) → last_discontinuity (window_segments_in (held ++ m ∷ [])) ≡ m.segment.discontinuity_sequence
 held_last [] m = refl
 held_last (x ∷ []) m = refl
 held_last (x ∷ y ∷ held) m = held_last (y ∷ held) m
 
-meant_listed : (store : Store) (held : List Held) → map origin_segment (map (meant store) held) ≡ segments_in held
+meant_listed : (store : Store) (held : List Held) → map origin_segment (map (meant store) held) ≡ window_segments_in held
 meant_listed store [] = refl
 meant_listed store (m ∷ held) = ap (λ ss. m.segment ∷ ss) (meant_listed store held)
 
 -- as they are meant, the newest first, they are listed as they are held
-pub held_listed : (store : Store) (held : List Held) → listed (history_in store held) ≡ segments_in held
+pub held_listed : (store : Store) (held : List Held) → listed (history_in store held) ≡ window_segments_in held
 held_listed store held = grind (arith, reverse-reverse, meant_listed)
 
 pub last_append : (xs : List Segment) (x : Segment) → last_discontinuity (xs ++ x ∷ []) ≡ x.discontinuity_sequence

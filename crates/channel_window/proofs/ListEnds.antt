@@ -4,7 +4,7 @@ use Rattle.std.specs.List.{list_all}
 use Rattle.std.proofs.lemmas.List.{append-nil, map-append, reverse-append, length-map, length-drop, drop-drop}
 use Rattle.std.proofs.Math.Seq.{drop-append_seam, drop-append-add}
 use Rattle.pod_store.specs.Marks.{Marked, continues}
-use Rattle.stitcher.specs.Stitched.{Piece, Numbers, Item, can_be_numbered, numbered, numbers_at, next_numbers, steps_between, stitched}
+use Rattle.stitcher.specs.Stitched.{Piece, Numbers, Item, can_be_numbered, numbered, numbers_at, next_stitched_numbers, steps_between, stitched}
 use Rattle.stitcher.specs.Paced.{first_of_run, older, due_with}
 use Rattle.stitcher.specs.Written.{written_item}
 use Rattle.stitcher.specs.declared.OutSegment.{OutSegment}
@@ -75,7 +75,7 @@ base_at first (p ∷ (q ∷ front)) after = base_at first (q ∷ front) after
 
 base_here : (first : Numbers) (p : Piece) (front after : List Piece) → numbers_at first p (front ++ after) ≡ numbers_at (base_at first (p ∷ front) after) p front
 base_here first p [] after = refl
-base_here first p (q ∷ front) after = ap (λ (n : Numbers). next_numbers n (steps_between q p)) (base_here first q front after)
+base_here first p (q ∷ front) after = ap (λ (n : Numbers). next_stitched_numbers n (steps_between q p)) (base_here first q front after)
 
 renumbered : (first : Numbers) (front after : List Piece) → numbered first (front ++ after) ≡ numbered (base_at first front after) front ++ numbered first after
 renumbered first [] after = refl

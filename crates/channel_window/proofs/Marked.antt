@@ -19,9 +19,9 @@ use Rattle.channel_window.specs.Marking.{is_still_inside, stays, next_id, mark_o
 use Rattle.break_finder.specs.Entrances.{Entrances, entrances_in, is_within}
 use Rattle.break_finder.specs.declared.spans.TimesWithin.{TimesWithin}
 use Rattle.channel_window.specs.declared.marking.Run.{Run}
-use Rattle.channel_window.specs.Inner.Terms.{HasItsTerms, is_among}
+use Rattle.channel_window.specs.Inner.Terms.{HasItsTerms, is_window_time_among}
 use Rattle.channel_window.specs.MarkingLaws.{MarksAreShown, LengthsAreKept}
-use Rattle.stitcher.specs.Making.{is_same_run}
+use Rattle.stitcher.specs.Making.{is_same_stitched_run}
 use Rattle.stitcher.specs.declared.marked.MarkedSegment.{MarkedSegment as Held}
 use Rattle.channel_window.proofs.Placed.{same_run}
 
@@ -63,7 +63,7 @@ none_next m None last instant e none = none
 none_next m (Some id) last instant e none = absurd (cc)
 
 -- at quiet instants after a segment without a mark
-pub quiet_next : (m : Moment) (run : Run) (instant : Option ℤ) → HasItsTerms m run → run.before ≡ None → is_among run.quiet instant ≡ true → next_id m run.before run.entered instant ≡ None
+pub quiet_next : (m : Moment) (run : Run) (instant : Option ℤ) → HasItsTerms m run → run.before ≡ None → is_window_time_among run.quiet instant ≡ true → next_id m run.before run.entered instant ≡ None
 quiet_next m run instant r e h = none_next m run.before run.entered instant e (r.quiet instant h)
 
 -- those around an instant
@@ -71,7 +71,7 @@ pub quiet_then : (m : Moment) (e : Entrances) (times : Option TimesWithin) (last
     → e ≡ record { tolerance = m.tolerance; found = entrances_in m.target_duration m.with_init_sections m.store m.breaks }
     → IfSome times (λ t. (k : entering.EntryLimits) (store : Store) (breaks : List Break) (i : ℤ) → k.tolerance ≡ e.tolerance → k.last ≡ last
     → e.found ≡ entrances_in k.target_duration k.with_init_sections store breaks → is_within t.from t.to i ≡ true → entering.entered k store breaks (Some i) ≡ None)
-    → (instant : Option ℤ) → is_among times instant ≡ true → entering.entered (limits m last) m.store m.breaks instant ≡ None
+    → (instant : Option ℤ) → is_window_time_among times instant ≡ true → entering.entered (limits m last) m.store m.breaks instant ≡ None
 quiet_then m e None last is h instant among = absurd (cc)
 quiet_then m e (Some times) last is h None among = absurd (cc)
 quiet_then m e (Some times) last is h (Some i) among = h (limits m last) m.store m.breaks i (sym (ap (λ (x : Entrances). x.tolerance) is)) refl (ap (λ (x : Entrances). x.found) is) among
@@ -114,7 +114,7 @@ all_decided m newest last (s ∷ later) (begun ∷ instants) h =
 
 -- ---- each knows its run
 
-knows_run : (newest : Option (List ℕ)) (h : Held) → h.goes_on ≡ is_same_run h.mark newest → KnowsRun newest h
+knows_run : (newest : Option (List ℕ)) (h : Held) → h.goes_on ≡ is_same_stitched_run h.mark newest → KnowsRun newest h
 knows_run None h e = tt
 knows_run (Some id) h e = e
 
@@ -123,7 +123,7 @@ know_runs m newest last [] instants = tt
 know_runs m newest last (s ∷ later) [] = tt
 know_runs m newest last (s ∷ later) (begun ∷ instants) =
     let id = next_id m newest last begun in
-    (knows_run newest (record { segment = s; instant = begun; mark = id; goes_on = is_same_run id newest }) refl, know_runs m id (or_earlier id last) later instants)
+    (knows_run newest (record { segment = s; instant = begun; mark = id; goes_on = is_same_stitched_run id newest }) refl, know_runs m id (or_earlier id last) later instants)
 
 pod_entered : (id : List ℕ) (last : Option (List ℕ)) (o : Option Pod) → IsSome o → entered_with (mark_with id o) last ≡ Some id
 pod_entered id last None h = absurd (cc)
@@ -143,7 +143,7 @@ shown_all m newest last before (s ∷ later) h e =
     let id = next_id m newest last begun in
     let here = marked_on m before last s later in
     let mark : mark_in m.store id ≡ here.mark = marks_agree m newest last begun ∙ ap (λ o. next_mark m o last begun) (sym e) in
-    let same : meant m.store (record { segment = s; instant = begun; mark = id; goes_on = is_same_run id newest }) ≡ here = ap (λ o. record { segment = s; instant = begun; mark = o }) mark in
+    let same : meant m.store (record { segment = s; instant = begun; mark = id; goes_on = is_same_stitched_run id newest }) ≡ here = ap (λ o. record { segment = s; instant = begun; mark = o }) mark in
     let d = next_decided m newest last begun h in
     ap (λ x. reverse_aux (map (meant m.store) (mark_on m id (or_earlier id last) later (instants_after (ends_at begun s.duration) later))) (x ∷ before)) same
     ∙ (shown_all m id (or_earlier id last) (here ∷ before) later d (sym mark)
@@ -170,7 +170,7 @@ lengths_are_kept m newest last before so_far (s ∷ later) h e =
     let here = marked_on m before last s later in
     let mark : mark_in m.store id ≡ here.mark = marks_agree m newest last begun ∙ ap (λ o. next_mark m o last begun) (sym e) in
     let d = next_decided m newest last begun h in
-    let goes_on : is_same_run id newest ≡ continues here before = sym (ap (are_one here.mark) e ∙ ap (λ o. are_one o (mark_in m.store newest)) (sym mark) ∙ same_run m.store id newest d h) in
+    let goes_on : is_same_stitched_run id newest ≡ continues here before = sym (ap (are_one here.mark) e ∙ ap (λ o. are_one o (mark_in m.store newest)) (sym mark) ∙ same_run m.store id newest d h) in
     let one : capped_in m.store id (s.duration + length_before id newest so_far) ≡ extended here before so_far =
     capped_same m.store id (s.duration + length_before id newest so_far)
     ∙ ap (λ o. capped o (s.duration + length_before id newest so_far)) mark ∙ ap (λ b. capped here.mark (s.duration + cond b so_far 0)) goes_on in

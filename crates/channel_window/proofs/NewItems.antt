@@ -11,7 +11,7 @@ use Rattle.channel_spec.specs.declared.heading.Heading.{Heading}
 use Rattle.stitcher.specs.Stitched.{Piece, Numbers, Item, can_be_numbered, numbered, stitched}
 use Rattle.stitcher.specs.Paced.{due_with, rest_pieces}
 use Rattle.stitcher.specs.Written.{written_item}
-use Rattle.stitcher.specs.Making.{is_same_run}
+use Rattle.stitcher.specs.Making.{is_same_stitched_run}
 use Rattle.stitcher.specs.StitchedSegments.{AreDecided, IsDecided, item_fits, meant, rest_in, stitched_segments}
 use Rattle.stitcher.specs.declared.OutSegment.{OutSegment}
 use Rattle.stitcher.specs.declared.ends.Ends.{Ends}
@@ -74,11 +74,11 @@ begins_last store list before newest e f =
     ∙ (ap (λ xs. begins_run (history_in store (newest ∷ [])) (history_in store xs)) (take-append_seam before (newest ∷ [])) ∙ begins_with store newest [] (history_in store before) f)))
 
 pub begins_other : (store : Store) (list before earlier : List Held) (newest previous : Held) (mark other : Option (List ℕ)) (same : Bool) → list ≡ before ++ newest ∷ [] → before ≡ earlier ++ previous ∷ [] → AreDecided store list
-    → mark ≡ newest.mark → other ≡ previous.mark → same ≡ is_same_run mark other → not same ≡ true → BeginsAt store (length list - 1) list
+    → mark ≡ newest.mark → other ≡ previous.mark → same ≡ is_same_stitched_run mark other → not same ≡ true → BeginsAt store (length list - 1) list
 begins_other store list before earlier newest previous mark other same e f d m o s h =
     let front = (all_after (λ (x : Held). IsDecided store x.mark) before (newest ∷ []) (subst (AreDecided store) e d)).0 in
-    let apart : is_same_run newest.mark previous.mark ≡ false =
-    ap (λ a. is_same_run a previous.mark) (sym m) ∙ (ap (is_same_run mark) (sym o) ∙ (sym s ∙ not_true same h)) in
+    let apart : is_same_stitched_run newest.mark previous.mark ≡ false =
+    ap (λ a. is_same_stitched_run a previous.mark) (sym m) ∙ (ap (is_same_stitched_run mark) (sym o) ∙ (sym s ∙ not_true same h)) in
     begins_last store list before newest e
     (ap (are_one (mark_in store newest.mark)) (newest_seen store before earlier previous f)
     ∙ (same_run store newest.mark previous.mark (newest_decided store list before newest e d) (newest_decided store before earlier previous f front) ∙ apart))

@@ -16,8 +16,8 @@ use Rattle.stitcher.specs.declared.ends.Ends.{Ends}
 use Rattle.stitcher.specs.declared.making.Last.{Last}
 use Rattle.stitcher.specs.Written.{written_item}
 use Rattle.stitcher.specs.StitchedSegments.{IsDecided, AreDecided, KnowRuns, item_fits, stitched_segments}
-use Rattle.stitcher.specs.Making.{pod_with, begun, is_same_run}
-use Rattle.stitcher.specs.Inner.Making.{counted, last_of, numbers_after, begun_with, pieces_in_part, part_at, part_due, whole_from, goes_on_to_last, pieces_on, pieces_of_rest, pieces_between}
+use Rattle.stitcher.specs.Making.{pod_with, begun, is_same_stitched_run}
+use Rattle.stitcher.specs.Inner.Making.{counted, last_of, numbers_after, begun_with, pieces_in_part, stitched_part_at, part_due, whole_from, stitched_run_goes_on_to_last, pieces_on, pieces_of_rest, pieces_between}
 use Rattle.stitcher.proofs.Parts.{whole_is_part}
 use Rattle.stitcher.proofs.Runs.{in_order, rest_in_order}
 use Rattle.stitcher.proofs.Known.{known_front}
@@ -27,7 +27,7 @@ use Rattle.channel_spec.specs.declared.fault.RefreshFault.TheVariants.{NumberRan
 use Rattle.channel_spec.proofs.Windows.{length-reverse}
 use Rattle.channel_spec.proofs.SoundPods.{kept_is_sound}
 use Rattle.channel_window.specs.Marking.{history_in, place_on}
-use Rattle.channel_window.specs.Inner.Placing.{rest_count}
+use Rattle.channel_window.specs.Inner.Placing.{window_rest_count}
 use Rattle.channel_window.specs.Listed.{RefusesList}
 use Rattle.channel_window.specs.Inner.Listed.{IsFront, first_alone, first_numbers_of, pod_keeps}
 use Rattle.channel_window.proofs.Listed.{all_after}
@@ -57,7 +57,7 @@ due_some : (so_far : Option ℕ) (pieces : List Piece) → 0 < length pieces →
 due_some None pieces h = part_some true 0 pieces h
 due_some (Some length) pieces h = part_some false length pieces h
 
-at_some : (so_far : Option ℕ) (mark : Option (List ℕ)) (later : List MarkedSegment) (pieces : List Piece) → 0 < length pieces → 0 < length (pieces_in_part (part_at so_far mark later) pieces)
+at_some : (so_far : Option ℕ) (mark : Option (List ℕ)) (later : List MarkedSegment) (pieces : List Piece) → 0 < length pieces → 0 < length (pieces_in_part (stitched_part_at so_far mark later) pieces)
 at_some so_far mark later pieces h = grind (arith, due_some, part_some)
 
 front_some : (store : Store) (ends : Ends) (m : MarkedSegment) (later : List MarkedSegment) (id : List ℕ) → m.mark ≡ Some id → 0 < length (pod_with id (pod_for store id)) → 0 < length (pieces_between store ends (m ∷ later))
@@ -109,10 +109,10 @@ pub as_long : (store : Store) (first : Numbers) (ends : Ends) (list : List Marke
 as_long store first ends list d = grind (arith, in_order, pieces_counted)
 
 -- a run that goes on to the last segment begins where it begins
-stays_put : (store : Store) (mark : Option (List ℕ)) (start count : ℕ) (front tail : List MarkedSegment) → goes_on_to_last mark (front ++ tail) ≡ true → place_on store mark start count front ≡ start
+stays_put : (store : Store) (mark : Option (List ℕ)) (start count : ℕ) (front tail : List MarkedSegment) → stitched_run_goes_on_to_last mark (front ++ tail) ≡ true → place_on store mark start count front ≡ start
 stays_put store mark start count [] tail h = refl
 stays_put store mark start count (m ∷ front) tail h =
-    let p = and_parts (is_same_run m.mark mark) (goes_on_to_last m.mark (front ++ tail)) h in
+    let p = and_parts (is_same_stitched_run m.mark mark) (stitched_run_goes_on_to_last m.mark (front ++ tail)) h in
     ap (λ b. cond b (place_on store m.mark start count front) (place_on store m.mark count (count + length (begun store m m.mark)) front)) p.0
     ∙ stays_put store m.mark start count front tail p.1
 
@@ -127,9 +127,9 @@ place_bounded store so_far previous start count (m ∷ front) tail h =
     let more = length (begun store m m.mark) in
     let on = place_bounded store so_far m.mark start count front tail h in
     let anew = place_bounded store so_far m.mark count (count + more) front tail (omega arith) in
-    step (is_same_run m.mark previous) (goes_on_to_last m.mark (front ++ tail)) refl on anew
+    step (is_same_stitched_run m.mark previous) (stitched_run_goes_on_to_last m.mark (front ++ tail)) refl on anew
   where
-    step : (same goes : Bool) → goes_on_to_last m.mark (front ++ tail) ≡ goes
+    step : (same goes : Bool) → stitched_run_goes_on_to_last m.mark (front ++ tail) ≡ goes
         → place_on store m.mark start count front ≤ count + length (pieces_on store so_far m.mark (front ++ tail))
         → place_on store m.mark count (count + length (begun store m m.mark)) front ≤ (count + length (begun store m m.mark)) + length (pieces_on store so_far m.mark (front ++ tail))
         → cond same (place_on store m.mark start count front) (place_on store m.mark count (count + length (begun store m m.mark)) front)
@@ -140,12 +140,12 @@ place_bounded store so_far previous start count (m ∷ front) tail h =
         let a = length-append (begun_with store (whole_from 0) m m.mark) (pieces_on store so_far m.mark (front ++ tail)) in
         omega (arith, anew, a, whole_long store m m.mark)
 
-rest_long : (store : Store) (rest : Option Rest) → length (pieces_of_rest store rest) ≡ rest_count store rest
+rest_long : (store : Store) (rest : Option Rest) → length (pieces_of_rest store rest) ≡ window_rest_count store rest
 rest_long store rest = grind (arith, rest_in_order, length-reverse)
 
 -- the item of each front's last segment is among the items
 pub within : (store : Store) (first : Numbers) (ends : Ends) (list front : List MarkedSegment) → AreDecided store list → IsFront front list
-    → place_on store None 0 0 front + rest_count store ends.rest ≤ length (stitched_segments store first ends list)
+    → place_on store None 0 0 front + window_rest_count store ends.rest ≤ length (stitched_segments store first ends list)
 within store first ends list front d f = grind (arith, place_bounded, length-append, rest_long, as_long)
 
 pub front_decided : (store : Store) (list front : List MarkedSegment) → AreDecided store list → IsFront front list → AreDecided store front

@@ -8,7 +8,7 @@ use Rattle.stitcher.specs.Stitched.{stitched, run_pieces, newest_place}
 use Rattle.pod_store.specs.Store.{Store, pod_for}
 use Rattle.stitcher.specs.declared.marked.MarkedSegment.{MarkedSegment as Held}
 use Rattle.stitcher.specs.StitchedSegments.{meant, IsDecided, AreDecided}
-use Rattle.stitcher.specs.Making.{is_same_run, begun, pod_with}
+use Rattle.stitcher.specs.Making.{is_same_stitched_run, begun, pod_with}
 use Rattle.channel_spec.proofs.Windows.{length-reverse}
 use Rattle.channel_window.specs.Marking.{place_on}
 use Rattle.channel_window.specs.MarkingLaws.{PlaceIsCounted}
@@ -23,7 +23,7 @@ both id other (Some pod) None h k = absurd (cc)
 both id other (Some pod) (Some q) h k = refl
 
 pub same_run : (store : Store) (mark previous : Option (List ℕ)) → IsDecided store mark → IsDecided store previous
-    → are_one (mark_in store mark) (mark_in store previous) ≡ is_same_run mark previous
+    → are_one (mark_in store mark) (mark_in store previous) ≡ is_same_stitched_run mark previous
 same_run store mark previous h k = grind arith
 
 pod_long : (store : Store) (m : Held) (id : List ℕ) (o : Option Pod) → IsSome o → length (run_pieces (meant store m) (mark_with id o)) ≡ length (pod_with id o)
@@ -39,7 +39,7 @@ counted_on : (store : Store) (previous : Option (List ℕ)) (before : List Marke
 counted_on store previous before [] h k d = refl
 counted_on store previous before (m ∷ later) h k d =
     counted_on store m.mark (meant store m ∷ before) later refl d.0 d.1
-    ∙ step (is_same_run m.mark previous) (ap (are_one (mark_in store m.mark)) h ∙ same_run store m.mark previous d.0 k)
+    ∙ step (is_same_stitched_run m.mark previous) (ap (are_one (mark_in store m.mark)) h ∙ same_run store m.mark previous d.0 k)
   where
     step : (b : Bool) → are_one (mark_in store m.mark) (newest_mark before) ≡ b
         → place_on store m.mark (newest_place (meant store m ∷ before)) (length (stitched (meant store m ∷ before))) later

@@ -14,7 +14,7 @@ use Rattle.stitcher.specs.declared.marked.MarkedSegment.{MarkedSegment as Held}
 use Rattle.stitcher.specs.StitchedSegments.{meant, IsDecided, AreDecided, KnowRuns}
 use Rattle.stitcher.specs.Inner.Making.{mark_after}
 use Rattle.stitcher.proofs.Known.{known_on}
-use Rattle.break_finder.specs.Known.{is_this, carry}
+use Rattle.break_finder.specs.Known.{is_this_break, carry}
 use Rattle.channel_spec.specs.Successor.{has_init_sections}
 use Rattle.channel_spec.specs.Marking.{Moment, mark_id, last_mark, last_entered, is_new, newest_end}
 use Rattle.channel_spec.specs.Live.{is_mark_of}
@@ -40,8 +40,8 @@ mark_named : (store : Store) (o : Option (List ℕ)) → IsDecided store o → o
 mark_named store None h = refl
 mark_named store (Some id) h = pod_marks id (pod_for store id) h
 
-pub marked_too : (store : Store) (id : List ℕ) (o : Option (List ℕ)) → IsDecided store o → is_mark_of id (mark_in store o) ≡ is_this id o
-marked_too store id o d = ap (is_this id) (mark_named store o d)
+pub marked_too : (store : Store) (id : List ℕ) (o : Option (List ℕ)) → IsDecided store o → is_mark_of id (mark_in store o) ≡ is_this_break id o
+marked_too store id o d = ap (is_this_break id) (mark_named store o d)
 
 -- ---- the last break entered
 

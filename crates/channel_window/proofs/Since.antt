@@ -10,7 +10,7 @@ use Rattle.stitcher.specs.declared.marked.MarkedSegment.{MarkedSegment as Held}
 use Rattle.channel_spec.specs.Sound.{RiseFrom}
 use Rattle.channel_spec.specs.Successor.{first_number}
 use Rattle.channel_window.specs.Checked.{AreContiguous, AreTaken}
-use Rattle.channel_window.specs.Listed.{AreRising, RiseByOne, segments_in}
+use Rattle.channel_window.specs.Listed.{AreRising, RiseByOne, window_segments_in}
 use Rattle.channel_window.specs.Inner.Listed.{is_after, since_with}
 
 -- ---- numbers that rise
@@ -33,7 +33,7 @@ contiguous : (n : ℕ) (xs : List Segment) → RiseFrom n xs → AreContiguous x
 contiguous n [] r = tt
 contiguous n (s ∷ xs) r = subst (λ k. RiseFrom k (s ∷ xs)) (sym r.0) r
 
-held_rise : (n : ℕ) (held : List Held) → RiseByOne n held → RiseFrom n (segments_in held)
+held_rise : (n : ℕ) (held : List Held) → RiseByOne n held → RiseFrom n (window_segments_in held)
 held_rise n [] r = tt
 held_rise n (m ∷ later) r = (r.0, held_rise (n + 1) later r.1)
 
@@ -112,14 +112,14 @@ whole_there front read = take-append-drop front read
 pub are_contiguous : (front : ℕ) (read taken : List Segment) → AreContiguous (with_taken front read taken) → AreContiguous (since_with front read taken)
 are_contiguous front read taken r = grind (arith, whole_there, rise_parts, contiguous)
 
-pub are_after : (front : ℕ) (read taken : List Segment) (shown rest : List Held) (m : Held) → AreContiguous (with_taken front read taken) → AreTaken (segments_in shown) taken
+pub are_after : (front : ℕ) (read taken : List Segment) (shown rest : List Held) (m : Held) → AreContiguous (with_taken front read taken) → AreTaken (window_segments_in shown) taken
     → AreRising shown → shown ≡ rest ++ m ∷ []
     → filter (is_after m.segment.media_sequence) (since_with front read taken) ≡ filter (is_after m.segment.media_sequence) (with_taken front read taken)
 are_after front read [] shown rest m r taken rising is = ap (filter (is_after m.segment.media_sequence)) (sym (whole_there front read))
 are_after front read (t ∷ ts) shown rest m r taken rising is =
     let newest = newest_number rising.0 rest m (subst (RiseByOne rising.0) is rising.1) in
-    let held : length (segments_in shown) ≡ length rest + 1 = length-map shown _ ∙ (ap length is ∙ length-append rest (m ∷ [])) in
-    sym (since_after m.segment.media_sequence front read (segments_in shown) t ts (first_number (with_taken front read (t ∷ ts))) r rising.0 (held_rise rising.0 shown rising.1)
+    let held : length (window_segments_in shown) ≡ length rest + 1 = length-map shown _ ∙ (ap length is ∙ length-append rest (m ∷ [])) in
+    sym (since_after m.segment.media_sequence front read (window_segments_in shown) t ts (first_number (with_taken front read (t ∷ ts))) r rising.0 (held_rise rising.0 shown rising.1)
     (omega (arith, newest, held)) taken)
 
 -- nothing is shown, so nothing was taken over
@@ -133,9 +133,9 @@ none_in_none (t ∷ ts) a = let h : map kept_parts (t ∷ ts) ≡ [] = a.same �
     nothing (suc from) zero = refl
     nothing (suc from) (suc till) = refl
 
-empty_held : (shown : List Held) → length shown ≡ 0 → segments_in shown ≡ []
+empty_held : (shown : List Held) → length shown ≡ 0 → window_segments_in shown ≡ []
 empty_held [] h = refl
 empty_held (m ∷ later) h = absurd (cc)
 
-pub are_all : (front : ℕ) (read taken : List Segment) (shown : List Held) → AreTaken (segments_in shown) taken → length shown ≡ 0 → since_with front read taken ≡ with_taken front read taken
+pub are_all : (front : ℕ) (read taken : List Segment) (shown : List Held) → AreTaken (window_segments_in shown) taken → length shown ≡ 0 → since_with front read taken ≡ with_taken front read taken
 are_all front read taken shown a none = grind (arith, none_in_none, empty_held, whole_there)

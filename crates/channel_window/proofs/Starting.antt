@@ -26,7 +26,7 @@ use Rattle.channel_window.specs.declared.state.ChannelState.{ChannelState}
 use Rattle.channel_window.specs.Marking.{history_in, place_on}
 use Rattle.channel_window.specs.Listed.{RefusesList}
 use Rattle.channel_window.specs.Inner.Listed.{IsFront}
-use Rattle.channel_window.specs.Inner.Placing.{rest_count}
+use Rattle.channel_window.specs.Inner.Placing.{window_rest_count}
 use Rattle.channel_window.specs.Inner.Placing.{HasRoom, rest_of_newest_run}
 use Rattle.channel_window.specs.Showing.{kept_in}
 use Rattle.channel_window.proofs.Listed.{newest_seen}
@@ -47,29 +47,29 @@ module _ (state : ChannelState) (number : ℕ) (list : List Held) where
   start_first place is e = is ∙ sym (ap (λ o. start_on o number (kept_in state) (history_in state.store list)) e)
 
   pub start_later : (last : Heading) (stood start : ℕ) → state.last ≡ Some last → (number == first_number (listed (kept_in state).shown)) ≡ false → stood ≡ length (last_pieces state.last (kept_in state))
-      → start ≡ min (item_place number (history_in state.store list) + rest_count state.store state.shown.rest) stood → start ≡ start_on state.last number (kept_in state) (history_in state.store list)
+      → start ≡ min (item_place number (history_in state.store list) + window_rest_count state.store state.shown.rest) stood → start ≡ start_on state.last number (kept_in state) (history_in state.store list)
   start_later last stood start e other s is =
-      let here = item_place number (history_in state.store list) + rest_count state.store state.shown.rest in
+      let here = item_place number (history_in state.store list) + window_rest_count state.store state.shown.rest in
       let old = length (last_pieces (Some last) (kept_in state)) in
       is ∙ ap (min here) (s ∙ ap (λ o. length (last_pieces o (kept_in state))) e)
       ∙ sym (ap (λ o. start_on o number (kept_in state) (history_in state.store list)) e ∙ ap (λ t. cond t 0 (min here old)) other)
 
   pub start_same : (last : Heading) → state.last ≡ Some last → number ≡ first_number (listed (kept_in state).shown) → 0 ≡ start_on state.last number (kept_in state) (history_in state.store list)
   start_same last e same =
-      let here = item_place number (history_in state.store list) + rest_count state.store state.shown.rest in
+      let here = item_place number (history_in state.store list) + window_rest_count state.store state.shown.rest in
       let old = length (last_pieces (Some last) (kept_in state)) in
       sym (ap (λ o. start_on o number (kept_in state) (history_in state.store list)) e ∙ ap (λ t. cond t 0 (min here old)) (eq-eqb number (first_number (listed (kept_in state).shown)) same))
 
   pub rest_later : (last : Heading) (start : ℕ) → state.last ≡ Some last → (number == first_number (listed (kept_in state).shown)) ≡ false
-      → rest_over (rest_count state.store state.shown.rest) start number (history_in state.store list) ≡ next_rest state.last (first_number (listed (kept_in state).shown)) number start (history_in state.store list) (rest_in state.store state.shown.rest)
+      → rest_over (window_rest_count state.store state.shown.rest) start number (history_in state.store list) ≡ next_rest state.last (first_number (listed (kept_in state).shown)) number start (history_in state.store list) (rest_in state.store state.shown.rest)
   rest_later last start e other =
       sym (ap (λ o. next_rest o (first_number (listed (kept_in state).shown)) number start (history_in state.store list) (rest_in state.store state.shown.rest)) e
-      ∙ ap (λ t. cond t (rest_in state.store state.shown.rest) (rest_over (rest_count state.store state.shown.rest) start number (history_in state.store list))) other)
+      ∙ ap (λ t. cond t (rest_in state.store state.shown.rest) (rest_over (window_rest_count state.store state.shown.rest) start number (history_in state.store list))) other)
 
   pub rest_same : (last : Heading) (start : ℕ) → state.last ≡ Some last → number ≡ first_number (listed (kept_in state).shown) → rest_in state.store state.shown.rest ≡ next_rest state.last (first_number (listed (kept_in state).shown)) number start (history_in state.store list) (rest_in state.store state.shown.rest)
   rest_same last start e same =
       sym (ap (λ o. next_rest o (first_number (listed (kept_in state).shown)) number start (history_in state.store list) (rest_in state.store state.shown.rest)) e
-      ∙ ap (λ t. cond t (rest_in state.store state.shown.rest) (rest_over (rest_count state.store state.shown.rest) start number (history_in state.store list))) (eq-eqb number (first_number (listed (kept_in state).shown)) same))
+      ∙ ap (λ t. cond t (rest_in state.store state.shown.rest) (rest_over (window_rest_count state.store state.shown.rest) start number (history_in state.store list))) (eq-eqb number (first_number (listed (kept_in state).shown)) same))
 
 -- ---- the rest that it starts with
 
@@ -122,9 +122,9 @@ module _ (state : ChannelState) (p : Playlist) (list : List Held) (n : ℕ) (end
       ∙ (ap (λ (xs : List Item). map written_item (reverse (from_place start xs))) items_are
       ∙ ap (λ k. map written_item (reverse (from_place k (items_on (kept_in state) p seen n)))) start_is))
 
-  pub room_left : (items : List OutSegment) → items ≡ stitched_segments state.store first ends list → (front : List Held) → IsFront front list → place_on state.store None 0 0 front + rest_count state.store state.shown.rest ≤ length items
+  pub room_left : (items : List OutSegment) → items ≡ stitched_segments state.store first ends list → (front : List Held) → IsFront front list → place_on state.store None 0 0 front + window_rest_count state.store state.shown.rest ≤ length items
   room_left items items_is front f =
-      let same : rest_count state.store ends.rest ≡ rest_count state.store state.shown.rest = ap (λ (e : StitchedEnds). length (rest_pieces e.rest)) ends_are in
+      let same : window_rest_count state.store ends.rest ≡ window_rest_count state.store state.shown.rest = ap (λ (e : StitchedEnds). length (rest_pieces e.rest)) ends_are in
       omega (arith, within state.store first ends list front decided f, same, ap length items_is)
 
   pub has_room : (items : List OutSegment) → items ≡ stitched_segments state.store first ends list → length items < 2 ^ 64 → HasRoom state.store state.shown.rest list

@@ -34,8 +34,8 @@ RefusesList _ OutOfRange = ⊥
 abbrev pub held_segment : Held → Segment
 held_segment m = m.segment
 
-abbrev pub segments_in : List Held → List Segment
-segments_in held = map held_segment held
+abbrev pub window_segments_in : List Held → List Segment
+window_segments_in held = map held_segment held
 
 -- their numbers rise by one, from this number on
 abbrev pub RiseByOne : ℕ → List Held → Type 0

@@ -9,7 +9,7 @@ use Rattle.pod_store.specs.Store.{Store, pod_for}
 use Rattle.break_finder.specs.Entering.{is_inside, entered}
 use Rattle.stitcher.specs.declared.marked.MarkedSegment.{MarkedSegment as Held}
 use Rattle.stitcher.specs.StitchedSegments.{meant}
-use Rattle.stitcher.specs.Making.{is_same_run, begun}
+use Rattle.stitcher.specs.Making.{is_same_stitched_run, begun}
 use Rattle.channel_spec.specs.Marking.{Moment, limits}
 
 -- these segments as they are meant, the newest first
@@ -34,7 +34,7 @@ abbrev pub mark_on : Moment → Option (List ℕ) → Option (List ℕ) → List
 mark_on m newest last [] instants = []
 mark_on m newest last (s ∷ later) [] = []
 mark_on m newest last (s ∷ later) (instant ∷ instants) =
-    record { segment = s; instant = instant; mark = next_id m newest last instant; goes_on = is_same_run (next_id m newest last instant) newest }
+    record { segment = s; instant = instant; mark = next_id m newest last instant; goes_on = is_same_stitched_run (next_id m newest last instant) newest }
     ∷ mark_on m (next_id m newest last instant) (or_earlier (next_id m newest last instant) last) later instants
 
 -- the first list, turned round, before the second
@@ -46,7 +46,7 @@ reversed_onto xs ys = reverse_aux xs ys
 abbrev pub place_on : Store → Option (List ℕ) → ℕ → ℕ → List Held → ℕ
 place_on store previous start count [] = start
 place_on store previous start count (m ∷ later) =
-    if is_same_run m.mark previous then place_on store m.mark start count later
+    if is_same_stitched_run m.mark previous then place_on store m.mark start count later
     else place_on store m.mark count (count + length (begun store m m.mark)) later
 
 -- no more of a run's length counts than a nanosecond above its pod's total
@@ -59,7 +59,7 @@ capped_in store None length = 0
 capped_in store (Some id) length = capped_by (pod_for store id) length
 
 abbrev pub length_before : Option (List ℕ) → Option (List ℕ) → ℕ → ℕ
-length_before mark previous so_far = if is_same_run mark previous then so_far else 0
+length_before mark previous so_far = if is_same_stitched_run mark previous then so_far else 0
 
 -- how long the newest run has lasted with these segments, after one of this mark and a run that had lasted so long
 abbrev pub length_after : Store → Option (List ℕ) → ℕ → List Held → ℕ

@@ -14,13 +14,16 @@ mod successor;
 mod writing;
 
 pub use listing::place_of_number;
-pub use marking::text_in;
+pub use marking::mark_text_in_window;
 pub use placing::newest_run_place;
-pub use row::Row;
+pub use row::WindowRow;
 pub use showing::{Showing, shown_with};
 pub use state::{Before, ChannelState, Ending, Shown};
-pub use stepping::{SteppedList, end_within, run_end, stepped_of};
+pub use stepping::{SteppedList, stepped_window_of, window_end_within, window_run_end};
 pub use successor::{
-    check_successor, first_number, first_shown, has_init_sections, have_init_sections,
+    check_successor, first_shown_number, first_successor_number, shown_have_init_sections,
+    successor_has_init_sections,
 };
-pub use writing::{PlacedList, date_ranges_left, head_numbers, is_any_timed, placed_of};
+pub use writing::{
+    PlacedList, date_ranges_left, is_any_window_item_timed, placed_of, window_head_numbers,
+};

@@ -11,7 +11,7 @@ ghost use Rattle.channel_spec.specs.Kept.{shown_from};
 ghost use Rattle.playlist_kept.specs.Kept.{playlist_in};
 ghost use Rattle.channel_window.specs.Checked.{AreContiguous, AreTaken};
 ghost use Rattle.channel_window.specs.Marking.{history_in};
-ghost use Rattle.channel_window.specs.Listed.{AreRising, RiseByOne, segments_in};
+ghost use Rattle.channel_window.specs.Listed.{AreRising, RiseByOne, window_segments_in};
 ghost use Rattle.channel_window.specs.Inner.Listed.{IsFront, IsTail, is_after, since};
 ghost use Rattle.channel_spec.specs.Successor.{first_number};
 
@@ -23,7 +23,7 @@ use stitcher::{MarkedSegment, SharedMark};
 #[tactic(auto, using(crate::proofs::Listed::newest_seen, crate::proofs::Listed::newest_decided, crate::proofs::Listed::none_seen, crate::proofs::Listed::last_mark, crate::proofs::Listed::no_mark))]
 /// The mark of the newest of the `shown` segments, which is the last; no mark if there is none. Fails only if an
 /// allocation fails.
-pub fn newest_mark(alloc: Global, shown: &[MarkedSegment]) -> Result<SharedMark, AllocError>
+pub fn newest_shown_mark(alloc: Global, shown: &[MarkedSegment]) -> Result<SharedMark, AllocError>
     ensures mark { IfOk result
         (λ id. (store : Store) → newest_mark (history_in store shown.now) ≡ mark_in store id) }
     ensures decided { IfOk result
@@ -38,7 +38,7 @@ pub fn newest_mark(alloc: Global, shown: &[MarkedSegment]) -> Result<SharedMark,
 
 #[tactic(auto, using(crate::proofs::Listed::newest_ends, crate::proofs::Listed::none_seen))]
 /// When the newest of the `shown` segments ends, in nanoseconds from 1970; `None` if it has no instant.
-pub fn newest_end(shown: &[MarkedSegment]) -> Option<i128>
+pub fn newest_shown_end(shown: &[MarkedSegment]) -> Option<i128>
     ensures { (store : Store) → result ≡ newest_end (history_in store shown.now) }
 {
     match shown.split_last() {
@@ -48,7 +48,7 @@ pub fn newest_end(shown: &[MarkedSegment]) -> Option<i128>
 }
 
 // The Media Sequence Number of the first of these; 0 if there is none.
-fn first_number(segments: &SegmentSlice<'_>) -> u64
+fn first_listed_window_number(segments: &SegmentSlice<'_>) -> u64
     ensures { result ≡ first_number segments.now }
 {
     match segments.first() {
@@ -58,12 +58,12 @@ fn first_number(segments: &SegmentSlice<'_>) -> u64
 }
 
 // Those of these segments that are numbered after this: the last ones.
-fn after<'a>(number: u64, segments: &SegmentSlice<'a>) -> SegmentSlice<'a>
+fn window_segments_after<'a>(number: u64, segments: &SegmentSlice<'a>) -> SegmentSlice<'a>
     requires { AreContiguous segments.now }
     ensures value { result ≡ filter (is_after number) segments.now }
     ensures last { IsTail result segments.now }
 {
-    let first = first_number(segments);
+    let first = first_listed_window_number(segments);
     if number < first {
         return segments.again();
     }
@@ -73,7 +73,7 @@ fn after<'a>(number: u64, segments: &SegmentSlice<'a>) -> SegmentSlice<'a>
 }
 
 // The segments that were read since others were taken over; all if none were.
-fn since_taken<'a>(read: &'a Read<'_>) -> SegmentSlice<'a>
+fn window_segments_since_taken<'a>(read: &'a Read<'_>) -> SegmentSlice<'a>
     ensures { result ≡ since read.now }
 {
     let segments = read.playlist.segments.as_slice();
@@ -85,40 +85,42 @@ fn since_taken<'a>(read: &'a Read<'_>) -> SegmentSlice<'a>
 
 /// Those segments of the playlist that was `read` that aren't among the `shown` ones: its last ones. All of them were read,
 /// since those that were taken over are shown.
-pub fn fresh_of<'a>(shown: &[MarkedSegment], read: &'a Read<'_>) -> SegmentSlice<'a>
+pub fn fresh_window_segments_of<'a>(shown: &[MarkedSegment], read: &'a Read<'_>) -> SegmentSlice<'a>
     requires contiguous { AreContiguous (playlist_in read.now).segments }
-    requires taken { AreTaken (segments_in shown.now) read.now.taken.now }
+    requires taken { AreTaken (window_segments_in shown.now) read.now.taken.now }
     requires rising { AreRising shown.now }
     requires front { read.now.front ≤ length read.now.playlist.segments }
     ensures value { (store : Store) → result
         ≡ filter (is_new (history_in store shown.now)) (playlist_in read.now).segments }
     ensures last { IsTail result read.now.playlist.segments }
 {
-    let segments = since_taken(read);
+    let segments = window_segments_since_taken(read);
     match shown.split_last() {
-        Some((newest, _)) => after(newest.segment.get().media_sequence(), &segments),
+        Some((newest, _)) => window_segments_after(
+            newest.segment.get().media_sequence(),
+            &segments,
+        ),
         None => segments,
     }
 }
 
 // Copies of these segments.
-fn copied_segments(alloc: Global, segments: &SegmentSlice<'_>) -> Result<Segments, AllocError>
+fn copied_window_segments(
+    alloc: Global,
+    segments: &SegmentSlice<'_>,
+) -> Result<Segments, AllocError>
     ensures { IfOk result (λ copies. copies ≡ segments.now) }
 {
-    let mut done = GrowingSegments::new(alloc);
-    let mut rest = segments.again();
-    while let Some((segment, later)) = rest.split_first() {
-        done.push_copy(&segment)?;
-        rest = later;
-    }
-    Ok(done.into_segments())
+    let mut copies = GrowingSegments::new(alloc);
+    copies.push_copies(segments.again())?;
+    Ok(copies.into_segments())
 }
 
 #[tactic(auto, using(crate::proofs::Listed::tail_whole))]
 /// A list that ends with `fresh`, as `segments` does: `segments` itself, or a list of copies if `fresh` are fewer
 /// than half of it, so that a segment which is shown for long doesn't hold all that were listed with it. Fails only
 /// if an allocation fails.
-pub fn list_with(
+pub fn window_list_with(
     alloc: Global,
     fresh: &SegmentSlice<'_>,
     segments: &Shared<Segments>,
@@ -129,11 +131,11 @@ pub fn list_with(
     if fresh.len() >= segments.len() / 2 {
         return segments.clone();
     }
-    Shared::new(alloc, copied_segments(alloc, fresh)?)
+    Shared::new(alloc, copied_window_segments(alloc, fresh)?)
 }
 
 /// The members of `list` that are `fresh`, with which it ends.
-pub fn last_members<'a>(list: &'a Shared<Segments>, fresh: &SegmentSlice<'_>) -> Members<'a>
+pub fn last_window_members<'a>(list: &'a Shared<Segments>, fresh: &SegmentSlice<'_>) -> Members<'a>
     requires { IsTail fresh.now list.now }
     ensures { result ≡ fresh.now }
 {
@@ -160,7 +162,7 @@ pub fn place_of_number(number: u64, list: &[MarkedSegment]) -> usize
 }
 
 /// The segments of `list`, whose numbers rise by one, up to the one of the media sequence number `number`.
-pub fn front_to(number: u64, list: &[MarkedSegment]) -> &[MarkedSegment]
+pub fn window_front_to(number: u64, list: &[MarkedSegment]) -> &[MarkedSegment]
     requires { AreRising list.now }
     ensures seen { (store : Store) → history_in store result.now
         ≡ up_to number (history_in store list.now) }
@@ -178,7 +180,7 @@ pub fn front_to(number: u64, list: &[MarkedSegment]) -> &[MarkedSegment]
 }
 
 /// The segments of `list`, whose numbers rise by one, before the media sequence number `number`.
-pub fn front_before(number: u64, list: &[MarkedSegment]) -> &[MarkedSegment]
+pub fn window_front_before(number: u64, list: &[MarkedSegment]) -> &[MarkedSegment]
     requires { AreRising list.now }
     ensures seen { (store : Store) → history_in store result.now
         ≡ gone_before number (history_in store list.now) }

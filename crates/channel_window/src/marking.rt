@@ -7,13 +7,13 @@ ghost use Rattle.break_finder.specs.Entering.{entered};
 ghost use Rattle.channel_spec.specs.Marking.{limits};
 ghost use Rattle.channel_spec.specs.Successor.{has_init_sections};
 ghost use Rattle.playlist_kept.specs.Kept.{playlist_in};
-ghost use Rattle.stitcher.specs.Making.{is_same_run};
+ghost use Rattle.stitcher.specs.Making.{is_same_stitched_run};
 ghost use Rattle.channel_window.specs.Marking.{next_id, mark_on, length_after};
 ghost use Rattle.channel_window.specs.Inner.Terms.{entered_after};
-ghost use Rattle.channel_window.specs.Inner.Terms.{AreTerms, IsExtended, HasItsTerms, capped_at, is_among, stays_in};
+ghost use Rattle.channel_window.specs.Inner.Terms.{AreTerms, IsExtended, HasItsTerms, window_run_length_capped_at, is_window_time_among, window_segment_stays_in};
 
 use crate::state::Shown;
-use crate::successor::has_init_sections;
+use crate::successor::successor_has_init_sections;
 use break_finder::{Entrances, Knowledge, Stay, TimesWithin};
 use fixed_duration::Nanos;
 use playlist_kept::Read;
@@ -21,11 +21,11 @@ use playlist_model::{Instant, Member, Members, Shared, Text};
 use pod_store::PodStore;
 use std::alloc::{AllocError, Global};
 use std::marker::Model;
-use stitcher::{MarkedSegment, SharedMark, is_same_run};
+use stitcher::{MarkedSegment, SharedMark, is_same_stitched_run};
 use timeline::{Beginnings, OptionalInstant};
 
 /// The characters of `text`, if there is one.
-pub fn text_in(text: &Option<Shared<Text>>) -> Option<&str>
+pub fn mark_text_in_window(text: &Option<Shared<Text>>) -> Option<&str>
     ensures { option_copied result ≡ text.now }
 {
     match text {
@@ -35,7 +35,7 @@ pub fn text_in(text: &Option<Shared<Text>>) -> Option<&str>
 }
 
 /// Another owner of `text`, if there is one. Fails only if it has too many.
-pub fn copied_text(text: &Option<Shared<Text>>) -> Result<Option<Shared<Text>>, AllocError>
+pub fn copied_window_mark(text: &Option<Shared<Text>>) -> Result<Option<Shared<Text>>, AllocError>
     ensures { IfOk result (λ t. t ≡ text.now) }
 {
     match text {
@@ -54,8 +54,8 @@ struct Terms {
 }
 
 // Whether a segment at an instant stays in the break of these terms; none do if there is no such break.
-fn stays_in(terms: &Option<Terms>, instant: Option<Instant>) -> bool
-    ensures { result ≡ stays_in terms.now instant }
+fn window_segment_stays_in(terms: &Option<Terms>, instant: Option<Instant>) -> bool
+    ensures { result ≡ window_segment_stays_in terms.now instant }
 {
     match terms {
         Some(terms) => terms.stay.holds(instant),
@@ -64,8 +64,8 @@ fn stays_in(terms: &Option<Terms>, instant: Option<Instant>) -> bool
 }
 
 // Whether an instant is one of these.
-fn is_among(times: &Option<TimesWithin>, instant: Option<Instant>) -> bool
-    ensures { result ≡ is_among times.now instant }
+fn is_window_time_among(times: &Option<TimesWithin>, instant: Option<Instant>) -> bool
+    ensures { result ≡ is_window_time_among times.now instant }
 {
     match (times, instant) {
         (Some(times), Some(instant)) => times.holds(instant),
@@ -74,8 +74,8 @@ fn is_among(times: &Option<TimesWithin>, instant: Option<Instant>) -> bool
 }
 
 // As much of a run's length as counts by these terms, if it lasts for `duration` more than `before`.
-fn capped_at(terms: &Option<Terms>, duration: Nanos, before: Nanos) -> Nanos
-    ensures { result ≡ capped_at terms.now (duration + before) }
+fn window_run_length_capped_at(terms: &Option<Terms>, duration: Nanos, before: Nanos) -> Nanos
+    ensures { result ≡ window_run_length_capped_at terms.now (duration + before) }
 {
     match terms {
         Some(terms) => Nanos(duration.0.saturating_add(before.0).min(terms.most)),
@@ -131,11 +131,14 @@ impl<'a> Model for Marker<'a> {
 }
 
 // Notes the break that marks a segment, if one does, as the last one entered.
-fn enter(entered: &mut Option<Shared<Text>>, mark: &Option<Shared<Text>>) -> Result<(), AllocError>
+fn enter_window_mark(
+    entered: &mut Option<Shared<Text>>,
+    mark: &Option<Shared<Text>>,
+) -> Result<(), AllocError>
     ensures { OnOk result (entered.new ≡ or_earlier mark.now entered.old) }
 {
     if mark.is_some() {
-        *entered = copied_text(mark)?;
+        *entered = copied_window_mark(mark)?;
     }
     Ok(())
 }
@@ -148,7 +151,7 @@ struct NextMark {
 }
 
 // The mark of one more segment of a run, or of one more without a mark.
-fn same_mark(run: &Run) -> Result<NextMark, AllocError>
+fn same_window_mark(run: &Run) -> Result<NextMark, AllocError>
     ensures mark { IfOk result (λ next. next.mark ≡ run.now.before) }
     ensures same { IfOk result (λ next. next.goes_on ≡ is_some run.now.before) }
 {
@@ -157,7 +160,11 @@ fn same_mark(run: &Run) -> Result<NextMark, AllocError>
     Ok(NextMark { mark, goes_on })
 }
 
-fn marked_with(segment: Member, instant: OptionalInstant, next: NextMark) -> MarkedSegment
+fn window_segment_marked_with(
+    segment: Member,
+    instant: OptionalInstant,
+    next: NextMark,
+) -> MarkedSegment
     ensures { result ≡ record { segment = segment; instant = instant; mark = next.mark; goes_on = next.goes_on } }
 {
     MarkedSegment {
@@ -183,7 +190,7 @@ impl<'a> Marker<'a> {
             (λ marker. marker ≡ record { tolerance = tolerance; target_duration = read.now.playlist.target_duration; with_init_sections = has_init_sections (playlist_in read.now).segments; breaks = knowledge.now; store = store.now }) }
     {
         let target_duration = read.playlist.target_duration;
-        let with_init_sections = has_init_sections(read);
+        let with_init_sections = successor_has_init_sections(read);
         Ok(Marker {
             tolerance,
             target_duration,
@@ -270,13 +277,13 @@ impl<'a> Marker<'a> {
         if run.before.is_some() {
             return false;
         }
-        self.is_quiet(instant.get()) || is_among(&run.quiet, instant.get())
+        self.is_quiet(instant.get()) || is_window_time_among(&run.quiet, instant.get())
     }
 
     #[tactic(auto, using(crate::proofs::Marked::quiet_then))]
     // Instants around this one at which no break is entered after this last one.
     fn quiet_around(&self, instant: Option<Instant>, last: Option<&str>) -> Option<TimesWithin>
-        ensures { (i : Option ℤ) → is_among result i ≡ true
+        ensures { (i : Option ℤ) → is_window_time_among result i ≡ true
             → entered (limits self.now (option_copied last.entry)) self.now.store self.now.breaks i ≡ None }
     {
         self.entrances.quiet_around(instant, last)
@@ -292,21 +299,21 @@ impl<'a> Marker<'a> {
     ) -> Result<NextMark, AllocError>
         ensures mark { IfOk result
             (λ next. next.mark ≡ entered (limits self.old run.old.entered) self.old.store self.old.breaks instant) }
-        ensures same { IfOk result (λ next. next.goes_on ≡ is_same_run next.mark run.old.before) }
+        ensures same { IfOk result (λ next. next.goes_on ≡ is_same_stitched_run next.mark run.old.before) }
         ensures goes { IfOk result
             (λ next. IsExtended self.old.store duration next.mark run.old run.new) }
         ensures run { OnOk result (HasItsTerms self.old run.new) }
         ensures kept { self.new ≡ self.old }
     {
-        let id = self.find_entered(text_in(&run.entered), instant.get())?;
+        let id = self.find_entered(mark_text_in_window(&run.entered), instant.get())?;
         let mark = self.mark_of(alloc, id)?;
-        let goes_on = is_same_run(&mark, &run.before);
+        let goes_on = is_same_stitched_run(&mark, &run.before);
         let before = if goes_on { run.so_far } else { Nanos(0) };
-        enter(&mut run.entered, &mark)?;
+        enter_window_mark(&mut run.entered, &mark)?;
         run.before = mark.clone()?;
         run.terms = self.terms_of(&mark);
-        run.quiet = self.quiet_around(instant.get(), text_in(&run.entered));
-        run.so_far = capped_at(&run.terms, duration, before);
+        run.quiet = self.quiet_around(instant.get(), mark_text_in_window(&run.entered));
+        run.so_far = window_run_length_capped_at(&run.terms, duration, before);
         Ok(NextMark { mark, goes_on })
     }
 
@@ -322,7 +329,7 @@ impl<'a> Marker<'a> {
         requires { HasItsTerms self.old run.old }
         ensures mark { IfOk result
             (λ next. next.mark ≡ next_id self.old run.old.before run.old.entered instant) }
-        ensures same { IfOk result (λ next. next.goes_on ≡ is_same_run next.mark run.old.before) }
+        ensures same { IfOk result (λ next. next.goes_on ≡ is_same_stitched_run next.mark run.old.before) }
         ensures goes { IfOk result
             (λ next. IsExtended self.old.store segment.now.duration next.mark run.old run.new) }
         ensures run { OnOk result (HasItsTerms self.old run.new) }
@@ -330,12 +337,12 @@ impl<'a> Marker<'a> {
     {
         if self.is_unmarked(run, instant) {
             run.so_far = Nanos(0);
-            return same_mark(run);
+            return same_window_mark(run);
         }
         let duration = segment.get().duration();
-        if stays_in(&run.terms, instant.get()) {
-            run.so_far = capped_at(&run.terms, duration, run.so_far);
-            return same_mark(run);
+        if window_segment_stays_in(&run.terms, instant.get()) {
+            run.so_far = window_run_length_capped_at(&run.terms, duration, run.so_far);
+            return same_window_mark(run);
         }
         self.begin(alloc, run, instant, duration)
     }
@@ -350,14 +357,14 @@ impl<'a> Marker<'a> {
     ) -> Result<MarkedSegment, AllocError>
         requires { HasItsTerms self.old run.old }
         ensures marked { IfOk result
-            (λ m. m ≡ record { segment = segment; instant = instant; mark = next_id self.old run.old.before run.old.entered instant; goes_on = is_same_run (next_id self.old run.old.before run.old.entered instant) run.old.before }) }
+            (λ m. m ≡ record { segment = segment; instant = instant; mark = next_id self.old run.old.before run.old.entered instant; goes_on = is_same_stitched_run (next_id self.old run.old.before run.old.entered instant) run.old.before }) }
         ensures goes { IfOk result
             (λ m. IsExtended self.old.store segment.duration m.mark run.old run.new) }
         ensures run { OnOk result (HasItsTerms self.old run.new) }
         ensures kept { self.new ≡ self.old }
     {
         let mark = self.next_mark(alloc, run, &segment, instant)?;
-        Ok(marked_with(segment, instant, mark))
+        Ok(window_segment_marked_with(segment, instant, mark))
     }
 
     // Puts these segments, which begin at these instants, after those that are done, with their marks.
@@ -418,7 +425,7 @@ impl<'a> Marker<'a> {
                 mark: self.unmarked.clone()?,
                 goes_on: false,
             };
-            done.push(marked_with(segment, begun, unmarked))?;
+            done.push(window_segment_marked_with(segment, begun, unmarked))?;
         }
         Ok(())
     }
@@ -434,7 +441,7 @@ impl<'a> Marker<'a> {
         Ok(Run {
             terms: self.terms_of(&newest),
             before: newest,
-            entered: copied_text(&shown.entered)?,
+            entered: copied_window_mark(&shown.entered)?,
             quiet: None,
             so_far: shown.so_far,
         })

@@ -4,13 +4,13 @@ ghost use Rattle.pod_store.specs.Pods.{segment_count};
 ghost use Rattle.stitcher.specs.Making.{begun};
 ghost use Rattle.stitcher.specs.StitchedSegments.{KnowRuns};
 ghost use Rattle.channel_window.specs.Marking.{place_on};
-ghost use Rattle.channel_window.specs.Inner.Placing.{rest_count};
+ghost use Rattle.channel_window.specs.Inner.Placing.{window_rest_count};
 
 use playlist_model::{Shared, Text};
 use pod_store::{Ad, PodStore};
-use stitcher::{MarkedSegment, Rest, goes_on};
+use stitcher::{MarkedSegment, Rest, stitched_run_goes_on};
 
-fn segments_in(ads: &[Ad]) -> usize
+fn window_ad_segments_in(ads: &[Ad]) -> usize
     requires { sum (map segment_count ads.now) < 2 ^ 64 }
     ensures { result ≡ sum (map segment_count ads.now) }
 {
@@ -24,7 +24,7 @@ fn segments_in(ads: &[Ad]) -> usize
 }
 
 // How many items stand for a whole run that begins with this segment.
-fn items_of(store: &PodStore, marked: &MarkedSegment) -> usize
+fn window_items_of(store: &PodStore, marked: &MarkedSegment) -> usize
     ensures value { result ≡ length (begun store.now marked.now marked.now.mark) }
     ensures few { result ≤ 500 }
 {
@@ -32,7 +32,7 @@ fn items_of(store: &PodStore, marked: &MarkedSegment) -> usize
         return 1;
     };
     match store.pod_for(id.as_str()) {
-        Some(pod) => segments_in(pod.ads()),
+        Some(pod) => window_ad_segments_in(pod.ads()),
         None => 0,
     }
 }
@@ -50,9 +50,9 @@ pub fn newest_run_place(store: &PodStore, held: &[MarkedSegment]) -> usize
     let mut items = 0;
     let mut rest = held;
     while let Some((here, later)) = rest.split_first() {
-        if !goes_on(here, previous) {
+        if !stitched_run_goes_on(here, previous) {
             start += items;
-            items = items_of(store, here);
+            items = window_items_of(store, here);
         }
         previous = &*here.mark;
         rest = later;
@@ -61,15 +61,15 @@ pub fn newest_run_place(store: &PodStore, held: &[MarkedSegment]) -> usize
 }
 
 /// How many items there are for `rest`, the rest of a pod in `store`.
-pub fn rest_count(store: &PodStore, rest: &Option<Rest>) -> usize
-    ensures value { result ≡ rest_count store.now rest.now }
+pub fn window_rest_count(store: &PodStore, rest: &Option<Rest>) -> usize
+    ensures value { result ≡ window_rest_count store.now rest.now }
     ensures few { result ≤ 500 }
 {
     let Some(rest) = rest else {
         return 0;
     };
     match store.pod_for(rest.id.as_str()) {
-        Some(pod) => segments_in(pod.ads()).saturating_sub(rest.place),
+        Some(pod) => window_ad_segments_in(pod.ads()).saturating_sub(rest.place),
         None => 0,
     }
 }

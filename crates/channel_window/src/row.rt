@@ -8,11 +8,11 @@ use std::mem::swap;
 /// Values one after the other. Others come after them, and can be taken back; a front of them goes. They stand in one
 /// piece, so that a reader has a slice of them.
 #[derive(Drop)]
-pub struct Row<T> {
+pub struct WindowRow<T> {
     items: Vec<T>,
 }
 
-impl<T> Model for Row<T> {
+impl<T> Model for WindowRow<T> {
     ghost use Rattle.std.specs.Prelude.{List};
 
     ghost Value = { List T };
@@ -20,12 +20,12 @@ impl<T> Model for Row<T> {
     ghost view = { λ a. a.items.items };
 }
 
-impl<T> Row<T> {
+impl<T> WindowRow<T> {
     /// A row without a value. Takes no memory.
-    pub fn new(alloc: Global) -> Row<T>
+    pub fn new(alloc: Global) -> WindowRow<T>
         ensures { result ≡ [] }
     {
-        Row {
+        WindowRow {
             items: Vec::new(alloc),
         }
     }
@@ -45,7 +45,7 @@ impl<T> Row<T> {
     }
 }
 
-impl<T: Drop> Row<T> {
+impl<T: Drop> WindowRow<T> {
     /// Moves the values of `come` behind the others. Fails only if an allocation fails, and the row is then as it was.
     pub fn append(&mut self, come: &mut Vec<T>) -> Result<(), AllocError>
         ensures ok { OnOk result (self.new ≡ self.old ++ come.old.items) }

@@ -3,11 +3,14 @@ ghost use Rattle.std.specs.Prelude.{None, IfOk, ◌++◌, ◌≤◌, length};
 ghost use Rattle.stitcher.specs.StitchedSegments.{AreDecided, KnowRuns};
 ghost use Rattle.playlist_kept.specs.Kept.{playlist_in};
 ghost use Rattle.channel_window.specs.Checked.{AreContiguous, AreTaken};
-ghost use Rattle.channel_window.specs.Listed.{RisesOn, segments_in};
+ghost use Rattle.channel_window.specs.Listed.{RisesOn, window_segments_in};
 ghost use Rattle.channel_window.specs.Showing.{IsLastEntered, IsShown, kept_in};
 
-use crate::listing::{fresh_of, last_members, list_with, newest_end, newest_mark};
-use crate::marking::{Marker, text_in};
+use crate::listing::{
+    fresh_window_segments_of, last_window_members, newest_shown_end, newest_shown_mark,
+    window_list_with,
+};
+use crate::marking::{Marker, mark_text_in_window};
 use crate::state::ChannelState;
 use break_finder::Knowledge;
 use fixed_duration::Nanos;
@@ -41,7 +44,7 @@ pub fn shown_with(
     read: &Read<'_>,
 ) -> Result<Showing, AllocError>
     requires contiguous { AreContiguous (playlist_in read.now).segments }
-    requires taken { AreTaken (segments_in state.now.list) read.now.taken.now }
+    requires taken { AreTaken (window_segments_in state.now.list) read.now.taken.now }
     requires front { read.now.front ≤ length read.now.playlist.segments }
     requires decided { AreDecided state.now.store state.now.list }
     requires runs { KnowRuns None state.now.list }
@@ -51,19 +54,19 @@ pub fn shown_with(
         (λ a. IsShown tolerance state.now (playlist_in read.now) (state.now.list ++ a.come.items) a) }
 {
     let shown = state.list.as_slice();
-    let newest = newest_mark(alloc, shown)?;
+    let newest = newest_shown_mark(alloc, shown)?;
     let known = &state.shown.knowledge;
-    let knowledge = known.carry(alloc, &read.playlist, text_in(&newest))?;
-    let fresh = fresh_of(shown, read);
-    let segments = list_with(alloc, &fresh, &read.playlist.segments)?;
+    let knowledge = known.carry(alloc, &read.playlist, mark_text_in_window(&newest))?;
+    let fresh = fresh_window_segments_of(shown, read);
+    let segments = window_list_with(alloc, &fresh, &read.playlist.segments)?;
     let (store, count) = (&state.store, fresh.len());
     let marker = Marker::new(alloc, tolerance, read, &knowledge, store, count)?;
     let marks = marker.mark(
         alloc,
         &state.shown,
         newest,
-        last_members(&segments, &fresh),
-        Beginnings::new(alloc, newest_end(shown), fresh),
+        last_window_members(&segments, &fresh),
+        Beginnings::new(alloc, newest_shown_end(shown), fresh),
     )?;
     Ok(Showing {
         knowledge,

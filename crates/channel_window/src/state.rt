@@ -2,7 +2,7 @@
 ghost use Rattle.std.specs.Prelude.{◌≡◌, [], None, IfOk, take};
 ghost use Rattle.channel_window.specs.Showing.{kept_before};
 
-use crate::row::Row;
+use crate::row::WindowRow;
 use break_finder::Knowledge;
 use channel_spec::Heading;
 use fixed_duration::Nanos;
@@ -65,7 +65,7 @@ pub struct ChannelState {
     /// The heading of the playlist that was accepted last.
     pub last: Option<Heading>,
     /// The segments that it shows, the oldest first.
-    pub list: Row<MarkedSegment>,
+    pub list: WindowRow<MarkedSegment>,
     /// What it knows beside them.
     pub shown: Shown,
 }

@@ -1,12 +1,10 @@
 //! The stitched list after a refresh, of which what is new is made alone: it goes on from a run that the last window ended with.
-ghost use Rattle.std.specs.Prelude.{◌≡◌, ◌<◌, ◌≤◌, ◌++◌, ◌-◌, ◌+◌, ◌^◌, ℕ, List, Some, None, true, IfOk, IfSome, IsSome, drop, take, length, map, option_map, reverse, slice_get, if◌then◌else◌};
+ghost use Rattle.std.specs.Prelude.{◌≡◌, ◌<◌, ◌≤◌, ◌++◌, ◌-◌, ◌+◌, Some, None, true, IfOk, IfSome, drop, take, length, option_map, slice_get, if◌then◌else◌};
 ghost use Rattle.std.specs.List.{list_all};
 ghost use Rattle.pod_store.specs.Store.{Store};
-ghost use Rattle.stitcher.specs.Stitched.{can_be_numbered, stitched};
+ghost use Rattle.stitcher.specs.Stitched.{stitched};
 ghost use Rattle.stitcher.specs.Paced.{due_with, rest_pieces};
 ghost use Rattle.stitcher.specs.StitchedSegments.{AreDecided, KnowRuns, item_fits, rest_in, stitched_segments};
-ghost use Rattle.stitcher.specs.Written.{written_item};
-ghost use Rattle.stitcher.specs.declared.OutSegment.{OutSegment};
 ghost use Rattle.channel_spec.specs.Kept.{items_on};
 ghost use Rattle.channel_spec.specs.LastWindow.{last_items, last_pieces};
 ghost use Rattle.channel_spec.specs.LiveLaws.{GoesOn};
@@ -14,19 +12,21 @@ ghost use Rattle.playlist_kept.specs.Kept.{playlist_in};
 ghost use Rattle.channel_window.specs.Marking.{history_in};
 ghost use Rattle.channel_window.specs.Listed.{AreRising, IsRestDecided, head_of};
 ghost use Rattle.channel_window.specs.Showing.{kept_before, kept_in};
-ghost use Rattle.channel_window.specs.ListEnd.{BeginsAt, IsEndOf, IsEndingOf, IsLastEnding};
+ghost use Rattle.channel_window.specs.ListEnd.{BeginsAt, IsEndOf, IsLastEnding};
 ghost use Rattle.channel_window.specs.Stepped.{IsStepped};
 ghost use Rattle.channel_window.specs.Inner.NewItems.{IsFirst, IsLater, out_of};
 
 use crate::listing::place_of_number;
 use crate::state::{Before, Ending};
-use crate::successor::first_number;
-use crate::writing::{Start, copied_rest, first_numbers_in, start_of};
+use crate::successor::first_successor_number;
+use crate::writing::{Start, copied_window_rest, first_window_numbers_in, window_start_of};
 use fixed_duration::Nanos;
 use playlist_kept::Read;
 use pod_store::PodStore;
 use std::alloc::{AllocError, Global};
-use stitcher::{Ends, MarkedSegment, Numbers, Rest, StitchFault, StitchedList, goes_on, stitch};
+use stitcher::{
+    Ends, MarkedSegment, Numbers, Rest, StitchFault, StitchedList, stitch, stitched_run_goes_on,
+};
 
 /// A stitched list after a refresh, without the items that stand between its first and its new ones.
 #[derive(Drop)]
@@ -46,7 +46,7 @@ pub struct SteppedList<'a> {
 }
 
 // The stitched list of these segments between these ends; none if a number would pass its range.
-fn stitch_if_in_range<'a>(
+fn stitch_window_if_in_range<'a>(
     alloc: Global,
     list: &'a [MarkedSegment],
     cut: usize,
@@ -68,7 +68,7 @@ fn stitch_if_in_range<'a>(
 }
 
 // How long the newest run has lasted, if it is open.
-fn open_length(ended: bool, lasted: Nanos) -> Option<Nanos>
+fn open_window_run_length(ended: bool, lasted: Nanos) -> Option<Nanos>
     ensures { result ≡ (if ended then None else Some lasted) }
 {
     if ended { None } else { Some(lasted) }
@@ -76,7 +76,7 @@ fn open_length(ended: bool, lasted: Nanos) -> Option<Nanos>
 
 #[tactic(auto, using(crate::proofs::NewItems::run_items_are))]
 // The items of these segments, with whose first a run begins. The newest run has lasted for `lasted`.
-fn run_items<'a>(
+fn window_run_items<'a>(
     alloc: Global,
     list: &'a [MarkedSegment],
     cut: usize,
@@ -94,14 +94,14 @@ fn run_items<'a>(
 {
     let ends = Ends {
         rest: None,
-        so_far: open_length(ended, lasted),
+        so_far: open_window_run_length(ended, lasted),
     };
-    stitch_if_in_range(alloc, list, cut, store, first, &ends)
+    stitch_window_if_in_range(alloc, list, cut, store, first, &ends)
 }
 
 #[tactic(auto, using(crate::proofs::NewItems::front_items_are))]
 // The items of these segments after a rest, if a run begins after the last of them.
-fn front_items<'a>(
+fn window_front_items<'a>(
     alloc: Global,
     list: &'a [MarkedSegment],
     store: &PodStore,
@@ -116,14 +116,14 @@ fn front_items<'a>(
         (stitched (history_in store.now list.now) ++ rest_pieces (rest_in store.now rest.now)))) }
 {
     let ends = Ends {
-        rest: copied_rest(rest)?,
+        rest: copied_window_rest(rest)?,
         so_far: None,
     };
-    stitch_if_in_range(alloc, list, 0, store, first, &ends)
+    stitch_window_if_in_range(alloc, list, 0, store, first, &ends)
 }
 
 // The place of the first segment without a mark from `place` on, if another segment comes after it.
-fn unmarked_from(place: usize, list: &[MarkedSegment]) -> Option<usize>
+fn unmarked_window_place_from(place: usize, list: &[MarkedSegment]) -> Option<usize>
     ensures { IfSome result
         (λ found. (found + 1 < length list.now)
         × (option_map (λ m. m.mark) (slice_get list.now found) ≡ Some None)) }
@@ -147,7 +147,7 @@ fn unmarked_from(place: usize, list: &[MarkedSegment]) -> Option<usize>
 }
 
 // Whether a run begins with the last of these segments, after another one.
-fn is_run_begun(list: &[MarkedSegment]) -> bool
+fn is_window_run_begun(list: &[MarkedSegment]) -> bool
     requires { KnowRuns None list.now }
     ensures { result ≡ true → (store : Store) → AreDecided store list.now
         → BeginsAt store (length list.now - 1) list.now }
@@ -156,14 +156,14 @@ fn is_run_begun(list: &[MarkedSegment]) -> bool
         return false;
     };
     match before.split_last() {
-        Some((previous, _)) => !goes_on(newest, &previous.mark),
+        Some((previous, _)) => !stitched_run_goes_on(newest, &previous.mark),
         None => false,
     }
 }
 
 // The last `segments`, with whose first a run begins, and for which the last `count` of these items stand; none if there is no
 // such item.
-fn end_with(segments: usize, count: usize, items: &StitchedList<'_>) -> Option<Ending>
+fn window_end_with(segments: usize, count: usize, items: &StitchedList<'_>) -> Option<Ending>
     ensures { IfSome result
         (λ e. (e.segments ≡ segments) × (e.items ≡ count) × (0 < count) × (count ≤ length items.now)
         × (e.numbers ≡ head_of (drop (length items.now - count) items.now))) }
@@ -175,14 +175,14 @@ fn end_with(segments: usize, count: usize, items: &StitchedList<'_>) -> Option<E
     Some(Ending {
         segments,
         items: count,
-        numbers: first_numbers_in(items.items_from(place)),
+        numbers: first_window_numbers_in(items.items_from(place)),
     })
 }
 
 /// The end of these `items`, which are the last ones of the stitched list of the segments `list`, if a run begins with the last
 /// of them, after another segment. That run has lasted for `lasted`, and is open if the playlist hasn't `ended`. Fails only if an
 /// allocation fails. `store` has the pods.
-pub fn run_end(
+pub fn window_run_end(
     alloc: Global,
     store: &PodStore,
     list: &[MarkedSegment],
@@ -195,15 +195,15 @@ pub fn run_end(
     ensures { IfOk result
         (λ some. IfSome some (IsEndOf store.now ended lasted list.now items.now)) }
 {
-    if !is_run_begun(list) {
+    if !is_window_run_begun(list) {
         return Ok(None);
     }
     let newest = list.split_at(list.len().saturating_sub(1)).1;
     let unnumbered = Numbers::zero();
-    let Some(run) = run_items(alloc, newest, 0, store, unnumbered, ended, lasted)? else {
+    let Some(run) = window_run_items(alloc, newest, 0, store, unnumbered, ended, lasted)? else {
         return Ok(None);
     };
-    Ok(end_with(1, run.count(), items))
+    Ok(window_end_with(1, run.count(), items))
 }
 
 // The items from the begin of a run on that the last window ended with.
@@ -217,7 +217,7 @@ struct Later<'a> {
 }
 
 // The items from that run on.
-fn later_items<'a>(
+fn later_window_items<'a>(
     alloc: Global,
     before: &Before<'_>,
     read: &Read<'_>,
@@ -246,7 +246,7 @@ fn later_items<'a>(
     };
     let later = list.split_at(begin.min(list.len())).1;
     let (store, ended) = (&before.state.store, read.playlist.end_list);
-    let Some(items) = run_items(
+    let Some(items) = window_run_items(
         alloc,
         later,
         ending.segments,
@@ -269,7 +269,7 @@ fn later_items<'a>(
 }
 
 // The end from which the list goes on with the next refresh: the newest run, or the run that these items begin with.
-fn next_end(
+fn next_window_end(
     alloc: Global,
     store: &PodStore,
     list: &[MarkedSegment],
@@ -286,14 +286,14 @@ fn next_end(
     ensures { IfOk result
         (λ some. IfSome some (IsEndOf store.now ended lasted list.now later.now.items)) }
 {
-    match run_end(alloc, store, list, ended, lasted, &later.items)? {
+    match window_run_end(alloc, store, list, ended, lasted, &later.items)? {
         Some(end) => Ok(Some(end)),
-        None => Ok(end_with(list.len() - later.begin, later.items.count(), &later.items)),
+        None => Ok(window_end_with(list.len() - later.begin, later.items.count(), &later.items)),
     }
 }
 
 /// The end `end`, if its segments are among the last `segments`, and its items among the last `items`.
-pub fn end_within(end: Option<Ending>, segments: usize, items: usize) -> Option<Ending>
+pub fn window_end_within(end: Option<Ending>, segments: usize, items: usize) -> Option<Ending>
     ensures { IfSome result
         (λ e. (end ≡ Some e) × (e.segments ≤ segments) × (e.items ≤ items)) }
 {
@@ -305,7 +305,7 @@ pub fn end_within(end: Option<Ending>, segments: usize, items: usize) -> Option<
 }
 
 // The first items of the list, up to a segment without a mark that stands in the window, if there is one before the last segment.
-fn first_items<'a>(
+fn first_window_items<'a>(
     alloc: Global,
     before: &Before<'_>,
     gone: usize,
@@ -317,18 +317,18 @@ fn first_items<'a>(
         (λ some. IfSome some (IsFirst (kept_before before.now) list.now)) }
 {
     let (store, shown) = (&before.state.store, &before.state.shown);
-    let Some(place) = unmarked_from(gone, list) else {
+    let Some(place) = unmarked_window_place_from(gone, list) else {
         return Ok(None);
     };
     let front = list.split_at(place + 1).0;
-    front_items(alloc, front, store, shown.numbers, &shown.rest)
+    window_front_items(alloc, front, store, shown.numbers, &shown.rest)
 }
 
 /// The stitched list of the segments `list`, which a channel that kept `before` shows with the playlist that was `read`, without most
 /// of the items that the last window had. The newest run of a break has lasted for `lasted`. The last window had `stood`
 /// items, and went on from `ending`. None if the list has to be made whole: then `placed_of` makes it. Fails only if an
 /// allocation fails.
-pub fn stepped_of<'a>(
+pub fn stepped_window_of<'a>(
     alloc: Global,
     before: &Before<'_>,
     read: &Read<'_>,
@@ -351,20 +351,20 @@ pub fn stepped_of<'a>(
         (λ some. IfSome some
         (IsStepped (kept_before before.now) (playlist_in read.now) list.now lasted stood)) }
 {
-    let Some(later) = later_items(alloc, before, read, list, lasted, stood, ending)? else {
+    let Some(later) = later_window_items(alloc, before, read, list, lasted, stood, ending)? else {
         return Ok(None);
     };
-    let gone = place_of_number(first_number(read), list);
-    let Some(front) = first_items(alloc, before, gone, list)? else {
+    let gone = place_of_number(first_successor_number(read), list);
+    let Some(front) = first_window_items(alloc, before, gone, list)? else {
         return Ok(None);
     };
-    let Start { place, rest } = start_of(before, read, list, stood)?;
+    let Start { place, rest } = window_start_of(before, read, list, stood)?;
     if place >= front.count() || place >= stood || place > later.count {
         return Ok(None);
     }
     let (store, ended) = (&before.state.store, read.playlist.end_list);
     let count = later.count - place;
-    let end = next_end(alloc, store, list, ended, lasted, &later)?;
+    let end = next_window_end(alloc, store, list, ended, lasted, &later)?;
     let mut fresh = later.items;
     fresh.leave_out(ending.items);
     Ok(Some(SteppedList {
@@ -373,6 +373,6 @@ pub fn stepped_of<'a>(
         rest,
         fresh,
         count,
-        ending: end_within(end, list.len() - gone, count),
+        ending: window_end_within(end, list.len() - gone, count),
     }))
 }

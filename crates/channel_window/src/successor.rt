@@ -1,20 +1,20 @@
 //! Which playlist may follow which (RFC 8216, sections 6.2.1 and 6.2.2).
-ghost use Rattle.std.specs.Prelude.{◌≡◌, Bool, true, false, not, ◌&&◌, option_map, is_none};
+ghost use Rattle.std.specs.Prelude.{◌≡◌, true, false, not, ◌&&◌, option_map};
 ghost use Rattle.channel_spec.specs.declared.fault.RefreshFault.TheVariants.{Changed};
-ghost use Rattle.channel_spec.specs.Successor.{are_different, end_number, first_changed, first_discontinuity, first_number, discontinuity_out_of_range, has_init_sections, is_same_window, last_discontinuity, answer_of, following_fault};
+ghost use Rattle.channel_spec.specs.Successor.{end_number, first_changed, first_discontinuity, first_number, discontinuity_out_of_range, has_init_sections, is_same_window, last_discontinuity, answer_of, following_fault};
 ghost use Rattle.playlist_kept.specs.Kept.{playlist_in};
 ghost use Rattle.channel_window.specs.Checked.{AreContiguous, AreTaken};
-ghost use Rattle.channel_window.specs.Listed.{segments_in};
+ghost use Rattle.channel_window.specs.Listed.{window_segments_in};
 ghost use Rattle.channel_window.specs.Inner.Checked.{is_as_before};
 
 use channel_spec::{Heading, RefreshFault};
 use playlist_kept::{Read, is_same_kind};
-use playlist_model::{SegmentRef, SegmentSlice, Shared, same_segment};
+use playlist_model::{SegmentRef, SegmentSlice, same_segment};
 use stitcher::MarkedSegment;
 
 /// The Media Sequence Number of the first segment of the playlist that was `read` (RFC 8216, section 4.3.3.2); 0 if it has
 /// none.
-pub fn first_number(read: &Read<'_>) -> u64
+pub fn first_successor_number(read: &Read<'_>) -> u64
     ensures { result ≡ first_number (playlist_in read.now).segments }
 {
     match read.first() {
@@ -24,15 +24,15 @@ pub fn first_number(read: &Read<'_>) -> u64
 }
 
 // The number one past the last.
-fn end_number(read: &Read<'_>) -> u128
+fn end_successor_number(read: &Read<'_>) -> u128
     ensures { result ≡ end_number (playlist_in read.now).segments }
 {
-    u128::from(first_number(read)) + read.count()
+    u128::from(first_successor_number(read)) + read.count()
 }
 
 /// The Media Sequence Number of the first of the `shown` segments (RFC 8216, section 4.3.3.2); 0 if there is none.
-pub fn first_shown(shown: &[MarkedSegment]) -> u64
-    ensures { result ≡ first_number (segments_in shown.now) }
+pub fn first_shown_number(shown: &[MarkedSegment]) -> u64
+    ensures { result ≡ first_number (window_segments_in shown.now) }
 {
     match shown.first() {
         Some(marked) => marked.segment.get().media_sequence(),
@@ -42,13 +42,13 @@ pub fn first_shown(shown: &[MarkedSegment]) -> u64
 
 #[tactic(auto, using(crate::proofs::Found::held_length))]
 // The number one past the last that is shown.
-fn end_shown(shown: &[MarkedSegment]) -> u128
-    ensures { result ≡ end_number (segments_in shown.now) }
+fn end_shown_number(shown: &[MarkedSegment]) -> u128
+    ensures { result ≡ end_number (window_segments_in shown.now) }
 {
-    u128::from(first_shown(shown)) + shown.len() as u128
+    u128::from(first_shown_number(shown)) + shown.len() as u128
 }
 
-fn first_discontinuity(read: &Read<'_>) -> u64
+fn first_successor_discontinuity(read: &Read<'_>) -> u64
     ensures { result ≡ first_discontinuity (playlist_in read.now).segments }
 {
     match read.first() {
@@ -58,8 +58,8 @@ fn first_discontinuity(read: &Read<'_>) -> u64
 }
 
 #[tactic(auto, using(crate::proofs::Found::held_last))]
-fn last_discontinuity(shown: &[MarkedSegment]) -> u64
-    ensures { result ≡ last_discontinuity (segments_in shown.now) }
+fn last_shown_discontinuity(shown: &[MarkedSegment]) -> u64
+    ensures { result ≡ last_discontinuity (window_segments_in shown.now) }
 {
     match shown.split_last() {
         Some((last, _)) => last.segment.get().discontinuity_sequence(),
@@ -69,7 +69,7 @@ fn last_discontinuity(shown: &[MarkedSegment]) -> u64
 
 /// Whether the segments of the playlist that was `read` have initialisation sections (RFC 8216, section 4.3.2.5): whether
 /// the first one has.
-pub fn has_init_sections(read: &Read<'_>) -> bool
+pub fn successor_has_init_sections(read: &Read<'_>) -> bool
     ensures { result ≡ has_init_sections (playlist_in read.now).segments }
 {
     match read.first() {
@@ -79,8 +79,8 @@ pub fn has_init_sections(read: &Read<'_>) -> bool
 }
 
 /// Whether the `shown` segments have initialisation sections: whether the first one has.
-pub fn have_init_sections(shown: &[MarkedSegment]) -> bool
-    ensures { result ≡ has_init_sections (segments_in shown.now) }
+pub fn shown_have_init_sections(shown: &[MarkedSegment]) -> bool
+    ensures { result ≡ has_init_sections (window_segments_in shown.now) }
 {
     match shown.first() {
         Some(marked) => marked.segment.get().init_section().is_some(),
@@ -89,11 +89,11 @@ pub fn have_init_sections(shown: &[MarkedSegment]) -> bool
 }
 
 // Whether a segment is as it is shown, or isn't shown.
-fn is_as_shown(shown: &[MarkedSegment], segment: &SegmentRef<'_>) -> bool
-    requires { AreContiguous (segments_in shown.now) }
-    ensures { result ≡ is_as_before (segments_in shown.now) segment.now }
+fn is_segment_as_shown(shown: &[MarkedSegment], segment: &SegmentRef<'_>) -> bool
+    requires { AreContiguous (window_segments_in shown.now) }
+    ensures { result ≡ is_as_before (window_segments_in shown.now) segment.now }
 {
-    let (first, number) = (first_shown(shown), segment.media_sequence());
+    let (first, number) = (first_shown_number(shown), segment.media_sequence());
     if number < first {
         return true;
     }
@@ -104,13 +104,13 @@ fn is_as_shown(shown: &[MarkedSegment], segment: &SegmentRef<'_>) -> bool
 }
 
 // The number of the first of these segments that isn't as it is shown.
-fn first_changed_of(shown: &[MarkedSegment], new: &SegmentSlice<'_>) -> Option<u64>
-    requires { AreContiguous (segments_in shown.now) }
-    ensures { option_map Changed result ≡ first_changed (segments_in shown.now) new.now }
+fn first_changed_of_successor(shown: &[MarkedSegment], new: &SegmentSlice<'_>) -> Option<u64>
+    requires { AreContiguous (window_segments_in shown.now) }
+    ensures { option_map Changed result ≡ first_changed (window_segments_in shown.now) new.now }
 {
     let mut rest = new.again();
     while let Some((segment, later)) = rest.split_first() {
-        if !is_as_shown(shown, &segment) {
+        if !is_segment_as_shown(shown, &segment) {
             return Some(segment.media_sequence());
         }
         rest = later;
@@ -120,32 +120,36 @@ fn first_changed_of(shown: &[MarkedSegment], new: &SegmentSlice<'_>) -> Option<u
 
 #[tactic(auto, using(crate::proofs::TakenOver::changed_apart))]
 // The number of the first segment that isn't as it is shown. Those that were taken over are.
-fn first_changed(shown: &[MarkedSegment], read: &Read<'_>) -> Option<u64>
-    requires contiguous { AreContiguous (segments_in shown.now) }
-    requires taken { AreTaken (segments_in shown.now) read.now.taken.now }
+fn first_changed_from_shown(shown: &[MarkedSegment], read: &Read<'_>) -> Option<u64>
+    requires contiguous { AreContiguous (window_segments_in shown.now) }
+    requires taken { AreTaken (window_segments_in shown.now) read.now.taken.now }
     ensures { option_map Changed result
-        ≡ first_changed (segments_in shown.now) (playlist_in read.now).segments }
+        ≡ first_changed (window_segments_in shown.now) (playlist_in read.now).segments }
 {
-    first_changed_of(shown, &read.playlist.segments.as_slice())
+    first_changed_of_successor(shown, &read.playlist.segments.as_slice())
 }
 
 // Whether the one starts directly after the other, with a discontinuity number that doesn't follow: it is less, or
 // more than 1,000 higher (RFC 8216, section 6.2.1).
-fn discontinuity_out_of_range(shown: &[MarkedSegment], read: &Read<'_>) -> bool
+fn successor_discontinuity_out_of_range(shown: &[MarkedSegment], read: &Read<'_>) -> bool
     ensures { result
-        ≡ discontinuity_out_of_range (segments_in shown.now) (playlist_in read.now).segments }
+        ≡ discontinuity_out_of_range (window_segments_in shown.now) (playlist_in read.now).segments }
 {
-    if u128::from(first_number(read)) != end_shown(shown) {
+    if u128::from(first_successor_number(read)) != end_shown_number(shown) {
         return false;
     }
-    let (last, next) = (last_discontinuity(shown), first_discontinuity(read));
+    let (last, next) = (
+        last_shown_discontinuity(shown),
+        first_successor_discontinuity(read),
+    );
     next < last || u128::from(last) + 1000 < u128::from(next)
 }
 
-fn is_same_window(shown: &[MarkedSegment], read: &Read<'_>) -> bool
-    ensures { result ≡ is_same_window (segments_in shown.now) (playlist_in read.now).segments }
+fn is_same_window_shown(shown: &[MarkedSegment], read: &Read<'_>) -> bool
+    ensures { result ≡ is_same_window (window_segments_in shown.now) (playlist_in read.now).segments }
 {
-    first_number(read) == first_shown(shown) && end_number(read) == end_shown(shown)
+    first_successor_number(read) == first_shown_number(shown)
+        && end_successor_number(read) == end_shown_number(shown)
 }
 
 /// Whether the playlist that was `read` may follow one of the heading `old` of which the segments `shown` are shown (RFC
@@ -162,10 +166,10 @@ pub fn check_successor(
     shown: &[MarkedSegment],
     read: &Read<'_>,
 ) -> Result<(), RefreshFault>
-    requires contiguous { AreContiguous (segments_in shown.now) }
-    requires taken { AreTaken (segments_in shown.now) read.now.taken.now }
+    requires contiguous { AreContiguous (window_segments_in shown.now) }
+    requires taken { AreTaken (window_segments_in shown.now) read.now.taken.now }
     ensures { result
-        ≡ answer_of (following_fault old.now (segments_in shown.now) (playlist_in read.now)) }
+        ≡ answer_of (following_fault old.now (window_segments_in shown.now) (playlist_in read.now)) }
 {
     let new = &read.playlist;
     if new.version != old.version {
@@ -177,25 +181,25 @@ pub fn check_successor(
     if !is_same_kind(new.playlist_type, old.playlist_type) {
         return Err(RefreshFault::TypeChanged);
     }
-    if has_init_sections(read) != have_init_sections(shown) {
+    if successor_has_init_sections(read) != shown_have_init_sections(shown) {
         return Err(RefreshFault::MapsChanged);
     }
-    if first_number(read) < first_shown(shown) {
+    if first_successor_number(read) < first_shown_number(shown) {
         return Err(RefreshFault::Back);
     }
-    if u128::from(first_number(read)) > end_shown(shown) {
+    if u128::from(first_successor_number(read)) > end_shown_number(shown) {
         return Err(RefreshFault::Gap);
     }
-    if end_number(read) < end_shown(shown) {
+    if end_successor_number(read) < end_shown_number(shown) {
         return Err(RefreshFault::Shrunk);
     }
-    if let Some(number) = first_changed(shown, read) {
+    if let Some(number) = first_changed_from_shown(shown, read) {
         return Err(RefreshFault::Changed(number));
     }
-    if discontinuity_out_of_range(shown, read) {
-        return Err(RefreshFault::Changed(first_number(read)));
+    if successor_discontinuity_out_of_range(shown, read) {
+        return Err(RefreshFault::Changed(first_successor_number(read)));
     }
-    if old.end_list && !(new.end_list && is_same_window(shown, read)) {
+    if old.end_list && !(new.end_list && is_same_window_shown(shown, read)) {
         return Err(RefreshFault::Ended);
     }
     Ok(())

@@ -1,12 +1,12 @@
 //! The window, as it is written.
-ghost use Rattle.std.specs.Prelude.{◌≡◌, ◌<◌, ◌≤◌, ◌+◌, ◌-◌, ◌^◌, ◌||◌, ◌∷◌, ◌++◌, [], ℕ, List, IfOk, IfErr, OnOk, MatchOption, None, drop, filter, length, map, min, nat_lt, not, bytes_eq, reverse, false, true};
+ghost use Rattle.std.specs.Prelude.{◌≡◌, ◌<◌, ◌≤◌, ◌+◌, ◌-◌, ◌^◌, ◌∷◌, ◌++◌, [], ℕ, IfOk, IfErr, IfSome, OnOk, MatchOption, None, drop, length, map, min, nat_lt, is_some, reverse, false, true};
 ghost use Rattle.std.specs.List.{list_all, list_any};
 ghost use Rattle.stitcher.specs.Stitched.{can_be_numbered};
 ghost use Rattle.pod_store.specs.Store.{Store, pod_for};
 ghost use Rattle.playlist_model.specs.declared.DateRange.{DateRange};
-ghost use Rattle.stitcher.specs.StitchedSegments.{AreDecided, KnowRuns, ends_in, item_fits, rest_in, stitched_segments};
+ghost use Rattle.stitcher.specs.StitchedSegments.{AreDecided, IsDecided, KnowRuns, ends_in, item_fits, rest_in, stitched_segments};
 ghost use Rattle.stitcher.specs.Written.{written_item};
-ghost use Rattle.channel_spec.specs.Kept.{items_on, listed, numbers_on, rest_after, next_rest, start_on, stitched_on, window_on};
+ghost use Rattle.channel_spec.specs.Kept.{items_on, listed, numbers_on, rest_after, next_rest, start_on, window_on};
 ghost use Rattle.channel_spec.specs.Inner.Kept.{ends_of};
 ghost use Rattle.channel_spec.specs.LastWindow.{last_pieces};
 ghost use Rattle.channel_spec.specs.Live.{date_range_text, date_ranges_left, item_place, rest_over};
@@ -14,16 +14,16 @@ ghost use Rattle.channel_spec.specs.Successor.{first_number};
 ghost use Rattle.playlist_kept.specs.Kept.{playlist_in};
 ghost use Rattle.channel_window.specs.Marking.{place_on, history_in};
 ghost use Rattle.channel_window.specs.Listed.{AreRising, IsRestDecided, RefusesList, head_of, writes_time};
-ghost use Rattle.channel_window.specs.Inner.Listed.{first_alone, first_numbers_of, pod_keeps, texts_left, AreAmong};
+ghost use Rattle.channel_window.specs.Inner.Listed.{first_alone, first_numbers_of, pod_keeps, date_range_texts_left_in_window, AreAmong};
 ghost use Rattle.pod_store.specs.Store.{is_one_of};
-ghost use Rattle.channel_window.specs.Inner.Placing.{rest_count};
+ghost use Rattle.channel_window.specs.Inner.Placing.{window_rest_count};
 ghost use Rattle.channel_window.specs.Inner.Placing.{HasRoom, IsWithin, rest_of_newest_run};
 ghost use Rattle.channel_window.specs.Showing.{kept_before, kept_in};
 
-use crate::listing::{front_before, front_to};
-use crate::placing::{newest_run_place, rest_count};
+use crate::listing::{window_front_before, window_front_to};
+use crate::placing::{newest_run_place, window_rest_count};
 use crate::state::Before;
-use crate::successor::{first_number, first_shown};
+use crate::successor::{first_shown_number, first_successor_number};
 use channel_spec::{Heading, RefreshFault};
 use fixed_duration::Nanos;
 use playlist_kept::Read;
@@ -36,7 +36,7 @@ use stitcher::{
 };
 
 // The stitched list of these segments between these ends, whose first item has these numbers.
-fn stitch_segments<'a>(
+fn stitch_window_segments<'a>(
     alloc: Global,
     list: &'a [MarkedSegment],
     cut: usize,
@@ -62,7 +62,7 @@ fn stitch_segments<'a>(
 }
 
 /// Another owner of `rest`. Fails only if an allocation fails.
-pub(crate) fn copied_rest(rest: &Option<Rest>) -> Result<Option<Rest>, AllocError>
+pub(crate) fn copied_window_rest(rest: &Option<Rest>) -> Result<Option<Rest>, AllocError>
     ensures { IfOk result (λ r. r ≡ rest.now) }
 {
     let Some(rest) = rest else {
@@ -75,33 +75,38 @@ pub(crate) fn copied_rest(rest: &Option<Rest>) -> Result<Option<Rest>, AllocErro
 }
 
 // What stands at the ends of the list of the segments that are shown.
-fn ends_of(rest: &Option<Rest>, ended: bool, so_far: Nanos) -> Result<Ends, AllocError>
+fn window_ends_of(rest: &Option<Rest>, ended: bool, so_far: Nanos) -> Result<Ends, AllocError>
     ensures { IfOk result
         (λ ends. (store : Store) → ends_in store ends
         ≡ ends_of ended so_far (rest_in store rest.now)) }
 {
-    let rest = copied_rest(rest)?;
+    let rest = copied_window_rest(rest)?;
     let open = if ended { None } else { Some(so_far) };
     Ok(Ends { rest, so_far: open })
 }
 
 // The place, from 0, of the item of the segment `number` of `list`, the rest before the first one apart.
-fn item_place(store: &PodStore, rest: &Option<Rest>, number: u64, list: &[MarkedSegment]) -> usize
+fn window_item_place(
+    store: &PodStore,
+    rest: &Option<Rest>,
+    number: u64,
+    list: &[MarkedSegment],
+) -> usize
     requires room { HasRoom store.now rest.now list.now }
     requires decided { AreDecided store.now list.now }
     requires runs { KnowRuns None list.now }
     requires rising { AreRising list.now }
     ensures value { result ≡ item_place number (history_in store.now list.now) }
-    ensures room { result + rest_count store.now rest.now < 2 ^ 64 }
+    ensures room { result + window_rest_count store.now rest.now < 2 ^ 64 }
     ensures within { (most : ℕ) → IsWithin store.now rest.now list.now most
-        → result + rest_count store.now rest.now ≤ most }
+        → result + window_rest_count store.now rest.now ≤ most }
 {
-    newest_run_place(store, front_to(number, list))
+    newest_run_place(store, window_front_to(number, list))
 }
 
 // What a window that starts at `start` has of the pod of the newest run of `gone`, the segments before it, after `rest_items`
 // items of a rest.
-fn rest_of(
+fn window_rest_of(
     store: &PodStore,
     gone: &[MarkedSegment],
     rest_items: usize,
@@ -138,7 +143,7 @@ pub(crate) struct Start {
 
 // The start of a window whose first segment has the number `number`, if the last window, of `stood` items, began with
 // another one: at the item of that segment, but no later than one past the last window.
-fn later_start(
+fn later_window_start(
     store: &PodStore,
     rest: &Option<Rest>,
     number: u64,
@@ -151,30 +156,30 @@ fn later_start(
     requires rising { AreRising list.now }
     ensures place { IfOk result
         (λ s. s.place ≡ min (item_place number
-        (history_in store.now list.now) + rest_count store.now rest.now) stood) }
+        (history_in store.now list.now) + window_rest_count store.now rest.now) stood) }
     ensures within { IfOk result
         (λ s. (most : ℕ) → IsWithin store.now rest.now list.now most
         → s.place ≤ most) }
     ensures decided { IfOk result (λ s. IsRestDecided store.now s.rest) }
     ensures rest { IfOk result
         (λ s. rest_in store.now s.rest
-        ≡ rest_over (rest_count store.now rest.now) s.place number
+        ≡ rest_over (window_rest_count store.now rest.now) s.place number
         (history_in store.now list.now)) }
 {
-    let rest_items = rest_count(store, rest);
-    let item = item_place(store, rest, number, list) + rest_items;
+    let rest_items = window_rest_count(store, rest);
+    let item = window_item_place(store, rest, number, list) + rest_items;
     let place = item.min(stood);
     if item <= place {
         return Ok(Start { place, rest: None });
     }
-    let gone = front_before(number, list);
-    let rest = rest_of(store, gone, rest_items, place)?;
+    let gone = window_front_before(number, list);
+    let rest = window_rest_of(store, gone, rest_items, place)?;
     Ok(Start { place, rest })
 }
 
 /// The start of the window of the playlist that was `read` in the stitched list of `list`, after the rest that a channel kept in
 /// `before` (RFC 8216, section 6.2.2). The last window had `stood` items. Fails only if an allocation fails.
-pub(crate) fn start_of(
+pub(crate) fn window_start_of(
     before: &Before<'_>,
     read: &Read<'_>,
     list: &[MarkedSegment],
@@ -202,16 +207,16 @@ pub(crate) fn start_of(
         (rest_in (kept_before before.now).store (kept_before before.now).shown.rest)) }
 {
     let (store, shown) = (&before.state.store, &before.state.shown);
-    let number = first_number(read);
+    let number = first_successor_number(read);
     let Some(_) = &before.state.last else {
-        let place = item_place(store, &shown.rest, number, list);
+        let place = window_item_place(store, &shown.rest, number, list);
         return Ok(Start { place, rest: None });
     };
-    if number == first_shown(before.list) {
-        let rest = copied_rest(&shown.rest)?;
+    if number == first_shown_number(before.list) {
+        let rest = copied_window_rest(&shown.rest)?;
         return Ok(Start { place: 0, rest });
     }
-    Ok(later_start(store, &shown.rest, number, list, stood)?)
+    Ok(later_window_start(store, &shown.rest, number, list, stood)?)
 }
 
 /// The stitched list from the first item of the last window on.
@@ -267,11 +272,11 @@ pub fn placed_of<'a>(
         ≡ false)) }
 {
     let (store, shown) = (&before.state.store, &before.state.shown);
-    let ends = ends_of(&shown.rest, read.playlist.end_list, lasted)?;
-    let first = numbers_on(&before.state.last, shown.numbers, list, store, &ends)?;
+    let ends = window_ends_of(&shown.rest, read.playlist.end_list, lasted)?;
+    let first = window_numbers_on(&before.state.last, shown.numbers, list, store, &ends)?;
     let cut = before.list.len();
-    let whole = stitch_segments(alloc, list, cut, store, first, &ends)?;
-    let start = start_of(before, read, list, stood)?;
+    let whole = stitch_window_segments(alloc, list, cut, store, first, &ends)?;
+    let start = window_start_of(before, read, list, stood)?;
     Ok(PlacedList {
         whole,
         start: start.place,
@@ -280,14 +285,14 @@ pub fn placed_of<'a>(
 }
 
 /// The numbers of the first of `items`; all are 0 if there is none.
-pub fn head_numbers(items: &StitchedList<'_>) -> Numbers
+pub fn window_head_numbers(items: &StitchedList<'_>) -> Numbers
     ensures { result ≡ head_of items.now }
 {
-    first_numbers_in(items.items())
+    first_window_numbers_in(items.items())
 }
 
 /// The numbers of the first of `items`, which are still to come; all are 0 if there is none.
-pub(crate) fn first_numbers_in(items: StitchedItems<'_>) -> Numbers
+pub(crate) fn first_window_numbers_in(items: StitchedItems<'_>) -> Numbers
     ensures { result ≡ head_of items.entry }
 {
     let mut items = items;
@@ -302,7 +307,7 @@ pub(crate) fn first_numbers_in(items: StitchedItems<'_>) -> Numbers
 }
 
 /// Whether one of `items` states a time. Mostly the first one does, if one does.
-pub fn is_any_timed(items: &StitchedList<'_>) -> bool
+pub fn is_any_window_item_timed(items: &StitchedList<'_>) -> bool
     ensures { result ≡ list_any writes_time items.now }
 {
     let mut items = items.items();
@@ -315,7 +320,7 @@ pub fn is_any_timed(items: &StitchedList<'_>) -> bool
 }
 
 // The numbers of a first item that a pod stands at.
-fn first_with_pod(segment: &SegmentRef<'_>) -> Result<Numbers, RefreshFault>
+fn first_window_numbers_with_pod(segment: &SegmentRef<'_>) -> Result<Numbers, RefreshFault>
     ensures ok { IfOk result (λ numbers. numbers ≡ first_alone segment.now true) }
     ensures err { IfErr result
         (λ e. (e ≡ RefreshFault.NumberRange)
@@ -331,17 +336,23 @@ fn first_with_pod(segment: &SegmentRef<'_>) -> Result<Numbers, RefreshFault>
     })
 }
 
-// Knows that a pod keeps the rules, as its type says.
-fn know_pod(store: &PodStore, id: &str)
-    ensures { pod_keeps (pod_for store.now id.now) ≡ true }
+// Whether an ad stands for a segment of this mark: its break has a pod then, and a pod has an ad.
+fn window_begins_with_ad(store: &PodStore, mark: &Option<Shared<Text>>) -> bool
+    requires { IsDecided store.now mark.now }
+    ensures value { result ≡ is_some mark.now }
+    ensures keeps { IfSome mark.now (λ id. pod_keeps (pod_for store.now id) ≡ true) }
 {
-    if let Some(pod) = store.pod_for(id) {
-        let _ads = pod.ads();
+    let Some(id) = mark else {
+        return false;
+    };
+    match store.pod_for(id.as_str()) {
+        Some(pod) => !pod.ads().is_empty(),
+        None => false,
     }
 }
 
 // The numbers of the first item if these segments are the first ever shown.
-fn first_numbers(
+fn first_window_numbers(
     list: &[MarkedSegment],
     store: &PodStore,
     ends: &Ends,
@@ -356,9 +367,8 @@ fn first_numbers(
         return Ok(Numbers::zero());
     };
     let segment = first.segment.get();
-    if let Some(id) = &*first.mark {
-        know_pod(store, id.as_str());
-        return first_with_pod(&segment);
+    if window_begins_with_ad(store, &first.mark) {
+        return first_window_numbers_with_pod(&segment);
     }
     Ok(Numbers {
         media_sequence: segment.media_sequence(),
@@ -370,7 +380,7 @@ fn first_numbers(
 #[tactic(auto, using(crate::proofs::Passing::first_here, crate::proofs::Passing::refuses_first))]
 // The numbers of the first item of the stitched list of these segments: those that are kept, if a playlist was
 // accepted before. `NumberRange` if one would pass 2^64 - 1.
-fn numbers_on(
+fn window_numbers_on(
     last: &Option<Heading>,
     numbers: Numbers,
     list: &[MarkedSegment],
@@ -387,17 +397,17 @@ fn numbers_on(
 {
     match last {
         Some(_) => Ok(numbers),
-        None => first_numbers(list, store, ends),
+        None => first_window_numbers(list, store, ends),
     }
 }
 
 // The texts of the date ranges of other breaks, where they stand.
-fn texts_left<'a>(
+fn date_range_texts_left_in_window<'a>(
     alloc: Global,
     set: &IdSet<'_>,
     date_ranges: &'a [Shared<DateRange>],
 ) -> Result<Vec<TextRef<'a>>, AllocError>
-    ensures { IfOk result (λ v. v.items ≡ texts_left set.now date_ranges.now) }
+    ensures { IfOk result (λ v. v.items ≡ date_range_texts_left_in_window set.now date_ranges.now) }
 {
     let mut texts = Vec::new(alloc);
     let mut rest = date_ranges;
@@ -411,7 +421,7 @@ fn texts_left<'a>(
 }
 
 // What is left of these breaks after the first, if that is this one.
-fn ids_after<'a>(ids: &'a [Shared<Text>], id: &str) -> Option<&'a [Shared<Text>]>
+fn window_break_ids_after<'a>(ids: &'a [Shared<Text>], id: &str) -> Option<&'a [Shared<Text>]>
     ensures { MatchOption result (Unit {0}) (λ left. ids.now ≡ id.now ∷ left.now) }
 {
     match ids.split_first() {
@@ -422,7 +432,10 @@ fn ids_after<'a>(ids: &'a [Shared<Text>], id: &str) -> Option<&'a [Shared<Text>]
 
 #[tactic(auto, using(crate::proofs::Few::among_themselves, crate::proofs::Few::among_later, crate::proofs::Few::here, crate::proofs::Few::not_here))]
 // What is left of these breaks after this one, if it is one of them.
-fn left_after_found<'a>(ids: &'a [Shared<Text>], id: &str) -> Option<&'a [Shared<Text>]>
+fn window_breaks_left_after_found<'a>(
+    ids: &'a [Shared<Text>],
+    id: &str,
+) -> Option<&'a [Shared<Text>]>
     ensures { MatchOption result (is_one_of ids.now id.now ≡ false)
         (λ left. (is_one_of ids.now id.now ≡ true) × AreAmong left.now ids.now) }
 {
@@ -439,7 +452,7 @@ fn left_after_found<'a>(ids: &'a [Shared<Text>], id: &str) -> Option<&'a [Shared
 #[tactic(auto, using(crate::proofs::Few::among_later, crate::proofs::Few::first_among, crate::proofs::Few::text_kept, crate::proofs::Few::text_gone))]
 // Puts the text of a date range after others, if it is of none of the breaks `ids`. Of these `left` are looked at first, and
 // the answer is looked at first the next time: breaks mostly come in the order of their date ranges.
-fn push_other<'a, 'b>(
+fn push_other_window_date_range<'a, 'b>(
     texts: &mut Vec<TextRef<'a>>,
     ids: &'b [Shared<Text>],
     left: &'b [Shared<Text>],
@@ -447,13 +460,13 @@ fn push_other<'a, 'b>(
 ) -> Result<&'b [Shared<Text>], AllocError>
     requires { AreAmong left.now ids.now }
     ensures texts { OnOk result
-        (texts.new.items ≡ texts.old.items ++ texts_left ids.now (date_range.now ∷ [])) }
+        (texts.new.items ≡ texts.old.items ++ date_range_texts_left_in_window ids.now (date_range.now ∷ [])) }
     ensures left { IfOk result (λ left. AreAmong left.now ids.now) }
 {
-    if let Some(later) = ids_after(left, date_range.id.as_str()) {
+    if let Some(later) = window_break_ids_after(left, date_range.id.as_str()) {
         return Ok(later);
     }
-    if let Some(later) = left_after_found(ids, date_range.id.as_str()) {
+    if let Some(later) = window_breaks_left_after_found(ids, date_range.id.as_str()) {
         return Ok(later);
     }
     texts.push(TextRef::new(&date_range.attributes))?;
@@ -462,18 +475,18 @@ fn push_other<'a, 'b>(
 
 #[tactic(auto, using(crate::proofs::Few::among_themselves, crate::proofs::Few::texts_on))]
 // The texts of the date ranges of other breaks than these few.
-fn texts_of_others<'a>(
+fn other_date_range_texts_in_window<'a>(
     alloc: Global,
     ids: &[Shared<Text>],
     date_ranges: &'a [Shared<DateRange>],
 ) -> Result<Vec<TextRef<'a>>, AllocError>
-    ensures { IfOk result (λ v. v.items ≡ texts_left ids.now date_ranges.now) }
+    ensures { IfOk result (λ v. v.items ≡ date_range_texts_left_in_window ids.now date_ranges.now) }
 {
     let mut texts = Vec::new(alloc);
     let mut left = ids;
     let mut rest = date_ranges;
     while let Some((date_range, later)) = rest.split_first() {
-        left = push_other(&mut texts, ids, left, date_range)?;
+        left = push_other_window_date_range(&mut texts, ids, left, date_range)?;
         rest = later;
     }
     Ok(texts)
@@ -499,12 +512,12 @@ pub fn date_ranges_left<'a>(
     if date_ranges.is_empty() {
         return Ok(Vec::new(alloc));
     }
-    if !is_any_timed(items) {
+    if !is_any_window_item_timed(items) {
         return Ok(Vec::new(alloc));
     }
     if ids.len() <= FEW_IDS {
-        return texts_of_others(alloc, ids, date_ranges);
+        return other_date_range_texts_in_window(alloc, ids, date_ranges);
     }
     let set = IdSet::of(alloc, hashing, ids)?;
-    texts_left(alloc, &set, date_ranges)
+    date_range_texts_left_in_window(alloc, &set, date_ranges)
 }

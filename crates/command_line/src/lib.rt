@@ -28,7 +28,11 @@ pub enum Command<'a> {
 }
 
 // `vod` with these words after it.
-fn vod_with<'a>(verb: &str, base: &'a str, decisions: Option<&'a str>) -> Option<Command<'a>>
+fn vod_command_with<'a>(
+    verb: &str,
+    base: &'a str,
+    decisions: Option<&'a str>,
+) -> Option<Command<'a>>
     ensures { option_map asked result ≡ vod_said verb.now base.now (option_copied decisions.entry) }
 {
     if verb == "vod" {
@@ -38,7 +42,7 @@ fn vod_with<'a>(verb: &str, base: &'a str, decisions: Option<&'a str>) -> Option
     }
 }
 
-fn port_of(word: &str) -> Option<u16>
+fn port_of_command_word(word: &str) -> Option<u16>
     ensures { result ≡ port_said (decimal_of word.now) }
 {
     let Ok(number) = read_decimal(word) else {
@@ -50,7 +54,7 @@ fn port_of(word: &str) -> Option<u16>
     Some(number as u16)
 }
 
-fn count_of(word: &str) -> Option<u32>
+fn count_of_command_word(word: &str) -> Option<u32>
     ensures { result ≡ count_said (decimal_of word.now) }
 {
     let Ok(number) = read_decimal(word) else {
@@ -63,11 +67,11 @@ fn count_of(word: &str) -> Option<u32>
 }
 
 // `live` with these words after it.
-fn live_with<'a>(port: &str, count: &str) -> Option<Command<'a>>
+fn live_command_with<'a>(port: &str, count: &str) -> Option<Command<'a>>
     ensures { option_map asked result ≡ live_said port.now count.now }
 {
-    let port = port_of(port)?;
-    let count = count_of(count)?;
+    let port = port_of_command_word(port)?;
+    let count = count_of_command_word(count)?;
     Some(Command::Live { port, count })
 }
 
@@ -83,12 +87,12 @@ pub fn read_command(words: &[String]) -> Option<Command<'_>>
     ensures { option_map asked result ≡ asked_by (map string_bytes words.now) }
 {
     match words {
-        [verb, base] => vod_with(verb.as_str(), base.as_str(), None),
+        [verb, base] => vod_command_with(verb.as_str(), base.as_str(), None),
         [verb, first, second] => {
             if verb.as_str() == "live" {
-                live_with(first.as_str(), second.as_str())
+                live_command_with(first.as_str(), second.as_str())
             } else {
-                vod_with(verb.as_str(), first.as_str(), Some(second.as_str()))
+                vod_command_with(verb.as_str(), first.as_str(), Some(second.as_str()))
             }
         }
         _ => None,

@@ -7,16 +7,16 @@ use Rattle.http_messages.specs.Received.{IsAsked}
 use Rattle.http_messages.specs.Requests.{IsUnfinished}
 use Rattle.http_messages.proofs.Whole.{asked_one}
 use Rattle.http_edge.specs.Served.{BeginsWithRead}
-use Rattle.connections.specs.Inner.Reads.{is_read}
+use Rattle.connections.specs.Inner.Reads.{is_playlist_read_by_client}
 
-pub decides : (bytes : List ℕ) (it : Asked) → IsAsked bytes it → Decides (is_read it) (BeginsWithRead bytes)
+pub decides : (bytes : List ℕ) (it : Asked) → IsAsked bytes it → Decides (is_playlist_read_by_client it) (BeginsWithRead bytes)
 decides bytes (Request request) asks = (
   λ reads. record { request = request; asks = asks; reads = reads },
-  λ other. ap is_read (asked_one bytes (Request request) (Request other.request) asks other.asks) ∙ other.reads,
+  λ other. ap is_playlist_read_by_client (asked_one bytes (Request request) (Request other.request) asks other.asks) ∙ other.reads,
 )
 decides bytes (Refused refusal) refused = (
   λ reads. absurd (true≢false (sym reads)),
-  λ other. ap is_read (asked_one bytes (Refused refusal) (Request other.request) refused other.asks) ∙ other.reads,
+  λ other. ap is_playlist_read_by_client (asked_one bytes (Refused refusal) (Request other.request) refused other.asks) ∙ other.reads,
 )
 
 pub not_yet : (bytes : List ℕ) → IsUnfinished bytes → Decides false (BeginsWithRead bytes)

@@ -43,9 +43,9 @@ holds s arrival = nat_lt 0 (held_of (at s arrival.place))
 
 -- ---- the first of connections in the order in which they came
 
-abbrev pub first : List Arrival → Option ℕ
-first [] = None
-first (arrival ∷ later) = Some arrival.place
+abbrev pub first_client_arrival : List Arrival → Option ℕ
+first_client_arrival [] = None
+first_client_arrival (arrival ∷ later) = Some arrival.place
 
 -- the first of which this is so: none of which it is so came before
 abbrev pub first_that : (Arrival → Bool) → List Arrival → Option ℕ
@@ -54,7 +54,7 @@ first_that test arrivals = option_map arrival_place (find test arrivals)
 -- for one that comes the client is given up that has asked longest; if none asks, the one that has been ending longest, and
 -- only if all have a reply on its way the one that came first
 abbrev pub gives_place : State → List Arrival → List Arrival → Option ℕ
-gives_place s served ending = option_or (first_that (asks s) served) (option_or (first ending) (first served))
+gives_place s served ending = option_or (first_that (asks s) served) (option_or (first_client_arrival ending) (first_client_arrival served))
 
 -- for bytes that have no room it is the client that has asked longest, of those whose bytes are held
 abbrev pub gives_room : State → List Arrival → Option ℕ

@@ -12,7 +12,7 @@ use Rattle.connections.specs.Devices.{DeviceStand, AreNext}
 use Rattle.connections.specs.Limits.{reads_in_turn, writes_in_turn}
 use Rattle.connections.specs.Runs.{EventsLeadTo}
 use Rattle.connections.specs.Table.{State, ClientEvent, arrival, request_bytes, reply_bytes, departure, at, held_of, left_of}
-use Rattle.connections.specs.Turns.{MovedEach, HasListened, HasListenedUntil, HasNoMore, HasSpoken, HasSpokenUntil, is_read_out}
+use Rattle.connections.specs.Turns.{MovedEach, HasListened, HasListenedUntil, HasNoMore, HasSpoken, HasSpokenUntil, is_client_read_out}
 
 -- its device, its place, whether its end alone is awaited, and whether the system was asked to tell of it
 pub record ClientAt (X : Type 0) : Type 0 where
@@ -66,7 +66,7 @@ module _ {X : Type 0} (incoming outgoing : X → DeviceStand) (place : ℕ) (bef
 
 -- the last call told its end, or failed; or it was granted what it asked, and nothing that it sent is unread
 abbrev pub ConnectionHasEnded : Bool → Option Passage → Type 0
-ConnectionHasEnded granted last = HasNoMore last ⊎ ((granted ≡ true) × (is_read_out last ≡ true))
+ConnectionHasEnded granted last = HasNoMore last ⊎ ((granted ≡ true) × (is_client_read_out last ≡ true))
 
 -- of its reply so many bytes fewer are left, at least
 abbrev pub AreSent : ℕ → ℕ → State → State → Type 0

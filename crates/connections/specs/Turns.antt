@@ -86,8 +86,8 @@ abbrev pub HasNoMore : Option Passage → Type 0
 HasNoMore last = (last ≡ Some (Bytes 0)) ⊎ (last ≡ Some HasFailed)
 
 -- nothing is unread: it told the end, or would wait
-abbrev pub is_read_out : Option Passage → Bool
-is_read_out None = false
-is_read_out (Some (Bytes n)) = n == 0
-is_read_out (Some WouldWait) = true
-is_read_out (Some HasFailed) = false
+abbrev pub is_client_read_out : Option Passage → Bool
+is_client_read_out None = false
+is_client_read_out (Some (Bytes n)) = n == 0
+is_client_read_out (Some WouldWait) = true
+is_client_read_out (Some HasFailed) = false

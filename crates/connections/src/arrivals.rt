@@ -1,7 +1,7 @@
 //! The order in which connections came, and which of them is given up if there is no room.
 ghost use Rattle.std.specs.Prelude.{◌≡◌, [], ◌∷◌, ◌++◌, filter, option_map, length, IfOk, OnOk, OnErr};
 ghost use Rattle.std.specs.List.{find};
-ghost use Rattle.connections.specs.Arrivals.{is_elsewhere, has_come, is_late, asks, holds, first, first_that, gives_place, gives_room};
+ghost use Rattle.connections.specs.Arrivals.{is_elsewhere, has_come, is_late, asks, holds, first_client_arrival, first_that, gives_place, gives_room};
 
 use crate::table::{Connections, Phase};
 use std::alloc::{AllocError, Global};
@@ -40,7 +40,7 @@ pub fn has_come(until: Instant, now: Instant) -> bool
     }
 }
 
-fn first_late(arrivals: &[Arrival], now: Instant) -> Option<usize>
+fn first_late_client(arrivals: &[Arrival], now: Instant) -> Option<usize>
     ensures { result ≡ first_that (is_late now) arrivals.now }
 {
     for arrival in arrivals {
@@ -51,7 +51,7 @@ fn first_late(arrivals: &[Arrival], now: Instant) -> Option<usize>
     None
 }
 
-fn first_asking(arrivals: &[Arrival], connections: &Connections) -> Option<usize>
+fn first_asking_client(arrivals: &[Arrival], connections: &Connections) -> Option<usize>
     ensures { result ≡ first_that (asks connections.now) arrivals.now }
 {
     for arrival in arrivals {
@@ -62,7 +62,7 @@ fn first_asking(arrivals: &[Arrival], connections: &Connections) -> Option<usize
     None
 }
 
-fn first_holding(arrivals: &[Arrival], connections: &Connections) -> Option<usize>
+fn first_holding_client(arrivals: &[Arrival], connections: &Connections) -> Option<usize>
     ensures { result ≡ first_that (holds connections.now) arrivals.now }
 {
     for arrival in arrivals {
@@ -73,8 +73,8 @@ fn first_holding(arrivals: &[Arrival], connections: &Connections) -> Option<usiz
     None
 }
 
-fn first(arrivals: &[Arrival]) -> Option<usize>
-    ensures { result ≡ first arrivals.now }
+fn first_client_arrival(arrivals: &[Arrival]) -> Option<usize>
+    ensures { result ≡ first_client_arrival arrivals.now }
 {
     match arrivals {
         [arrival, ..] => Some(arrival.place),
@@ -82,7 +82,7 @@ fn first(arrivals: &[Arrival]) -> Option<usize>
     }
 }
 
-fn remove(arrivals: &mut Vec<Arrival>, place: usize)
+fn remove_client_arrival(arrivals: &mut Vec<Arrival>, place: usize)
     ensures { arrivals.new.items ≡ filter (is_elsewhere place) arrivals.old.items }
 {
     arrivals.retain(|arrival| arrival.place != place);
@@ -120,21 +120,21 @@ impl Arrivals {
     pub fn remove(&mut self, place: usize)
         ensures { self.new ≡ filter (is_elsewhere place) self.old }
     {
-        remove(&mut self.arrivals, place);
+        remove_client_arrival(&mut self.arrivals, place);
     }
 
     /// The place of the first connection whose time is up at `now`.
     pub fn late(&self, now: Instant) -> Option<usize>
         ensures { result ≡ first_that (is_late now) self.now }
     {
-        first_late(self.arrivals.as_slice(), now)
+        first_late_client(self.arrivals.as_slice(), now)
     }
 
     /// The place of the client that has asked longest and whose request isn't whole, by what `connections` hold.
     pub fn asked_longest(&self, connections: &Connections) -> Option<usize>
         ensures { result ≡ first_that (asks connections.now) self.now }
     {
-        first_asking(self.arrivals.as_slice(), connections)
+        first_asking_client(self.arrivals.as_slice(), connections)
     }
 
     /// The place of the client that is given up if there is no room for bytes: of those that `connections` hold bytes
@@ -142,7 +142,7 @@ impl Arrivals {
     pub fn for_bytes(&self, connections: &Connections) -> Option<usize>
         ensures { result ≡ gives_room connections.now self.now }
     {
-        first_holding(self.arrivals.as_slice(), connections)
+        first_holding_client(self.arrivals.as_slice(), connections)
     }
 
     /// The place of the client that is given up if another comes and no place is vacant: the one that has asked
@@ -154,9 +154,9 @@ impl Arrivals {
         if let Some(place) = self.asked_longest(connections) {
             return Some(place);
         }
-        if let Some(place) = first(ending.arrivals.as_slice()) {
+        if let Some(place) = first_client_arrival(ending.arrivals.as_slice()) {
             return Some(place);
         }
-        first(self.arrivals.as_slice())
+        first_client_arrival(self.arrivals.as_slice())
     }
 }

@@ -14,7 +14,7 @@ use crate::devices::{Ending, Incoming, Looking, Outgoing, Passage, Socket};
 use crate::line::{Call, When};
 use crate::seats::Seat;
 use crate::table::Connections;
-use crate::turns::{Turn, drain, is_read_out, listen, speak};
+use crate::turns::{Turn, drain, is_client_read_out, listen, speak};
 use mio::{Interest, Registry, Token};
 use std::marker::Model;
 
@@ -216,7 +216,7 @@ impl<T: Incoming + Ending> Client<T> {
         ensures room { result ≡ Turn.Full → ⊥ }
         ensures stays { IfGone result (λ fault. ⊥) }
     {
-        if was_granted && is_read_out(&mut self.device) {
+        if was_granted && is_client_read_out(&mut self.device) {
             return Turn::Done;
         }
         self.device.end_output();

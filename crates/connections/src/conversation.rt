@@ -22,7 +22,7 @@ pub enum Conversation {
 /// one, the request is applied to `edge`, or refused, as a whole, and what is left is the reply: the same that
 /// `serve` gives these bytes. `TooManyReads` at the piece with which `serve` would answer it; `OutOfMemory` only if
 /// an allocation fails. After a fault `edge` is as it was.
-pub(crate) fn give(
+pub(crate) fn give_to_connection(
     conversation: Conversation,
     alloc: Global,
     edge: &mut Edge,

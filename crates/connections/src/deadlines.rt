@@ -13,7 +13,7 @@ const SERVING_MILLIS: u64 = 10_000;
 const ENDING_MILLIS: u64 = 250;
 
 // So much later, or the same instant if the clock has no such one.
-fn later(now: Instant, time: Duration) -> Instant
+fn later_connection_deadline(now: Instant, time: Duration) -> Instant
     ensures later { FitsClock (instant_nanos now + as_nanos time) →
         instant_nanos result ≡ instant_nanos now + as_nanos time }
     ensures last { ¬ (FitsClock (instant_nanos now + as_nanos time)) → result ≡ now }
@@ -31,7 +31,7 @@ pub fn serving_deadline(now: Instant) -> Instant
         instant_nanos result ≡ instant_nanos now + serving_nanos }
     ensures last { ¬ (FitsClock (instant_nanos now + serving_nanos)) → result ≡ now }
 {
-    later(now, Duration::from_millis(SERVING_MILLIS))
+    later_connection_deadline(now, Duration::from_millis(SERVING_MILLIS))
 }
 
 /// Until when a client whose reply is gone at `now` may close: 250 ms later, or `now` itself if the clock doesn't
@@ -41,5 +41,5 @@ pub fn ending_deadline(now: Instant) -> Instant
         instant_nanos result ≡ instant_nanos now + ending_nanos }
     ensures last { ¬ (FitsClock (instant_nanos now + ending_nanos)) → result ≡ now }
 {
-    later(now, Duration::from_millis(ENDING_MILLIS))
+    later_connection_deadline(now, Duration::from_millis(ENDING_MILLIS))
 }

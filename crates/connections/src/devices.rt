@@ -2,7 +2,7 @@
 ghost use Rattle.std.specs.Prelude.{◌≡◌, ◌<◌, length};
 ghost use Rattle.std.specs.IoError.{error_kind};
 ghost use Rattle.connections.specs.Devices.{DeviceStand, no_calls, one_call, PassesAtMost, LookPasses, ReadPasses, WritePasses};
-ghost use Rattle.connections.specs.Inner.Passages.{would_wait, passage_of};
+ghost use Rattle.connections.specs.Inner.Passages.{device_would_wait, device_passage_of};
 
 use mio::net::TcpStream;
 use std::io;
@@ -86,8 +86,8 @@ impl<T> Model for NonBlocking<T> {
     ghost view = { λ d. (d.inner, record { count = d.count; last = d.last }) };
 }
 
-fn would_wait(error: &io::Error) -> bool
-    ensures { result ≡ would_wait (error_kind error.now) }
+fn device_would_wait(error: &io::Error) -> bool
+    ensures { result ≡ device_would_wait (error_kind error.now) }
 {
     match error.kind() {
         ErrorKind::WouldBlock => true,
@@ -96,12 +96,12 @@ fn would_wait(error: &io::Error) -> bool
 }
 
 // What a call came to.
-fn passage_of(answer: io::Result<usize>) -> Passage
-    ensures { result ≡ passage_of answer }
+fn device_passage_of(answer: io::Result<usize>) -> Passage
+    ensures { result ≡ device_passage_of answer }
 {
     match answer {
         Ok(count) => Passage::Bytes(count),
-        Err(error) if would_wait(&error) => Passage::WouldWait,
+        Err(error) if device_would_wait(&error) => Passage::WouldWait,
         Err(_) => Passage::HasFailed,
     }
 }
@@ -120,11 +120,11 @@ impl<T> NonBlocking<T> {
 
     // Counts a call that was answered so, and says what it came to. Nothing else counts one.
     fn note(&mut self, answer: io::Result<usize>) -> Passage
-        ensures passage { result ≡ passage_of answer }
-        ensures calls { self.new.1 ≡ one_call (passage_of answer) self.old.1 }
+        ensures passage { result ≡ device_passage_of answer }
+        ensures calls { self.new.1 ≡ one_call (device_passage_of answer) self.old.1 }
         ensures inner { self.new.0 ≡ self.old.0 }
     {
-        let passage = passage_of(answer);
+        let passage = device_passage_of(answer);
         self.count = self.count.saturating_add(1);
         self.last = Some(passage);
         passage

@@ -24,5 +24,5 @@ pub use devices::{Ending, Incoming, Looking, NonBlocking, Outgoing, Passage, Soc
 pub use line::{Call, Line, When};
 pub use seats::Seat;
 pub use table::{Connections, MAX_HELD, NewTable, PLACES, Phase};
-pub use turns::{Turn, drain, is_read_out, listen, speak};
+pub use turns::{Turn, drain, is_client_read_out, listen, speak};
 pub use wire::{Moved, hear, say};

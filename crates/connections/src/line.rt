@@ -60,7 +60,7 @@ impl Model for Line {
     ghost view = { λ l. l.places.items };
 }
 
-fn stands_in(places: &[usize], place: usize) -> bool
+fn client_stands_in_line(places: &[usize], place: usize) -> bool
     ensures { result ≡ is_in_line place places.now }
 {
     for other in places {
@@ -92,7 +92,7 @@ impl Line {
     pub fn has(&self, place: usize) -> bool
         ensures { result ≡ is_in_line place self.now }
     {
-        stands_in(self.places.as_slice(), place)
+        client_stands_in_line(self.places.as_slice(), place)
     }
 
     /// The client at `place` stands in line, behind all others, unless it does already. Fails only if an allocation
@@ -101,7 +101,7 @@ impl Line {
         ensures ok { OnOk result (self.new ≡ after (joins place) self.old) }
         ensures err { OnErr result (self.new ≡ self.old) }
     {
-        if stands_in(self.places.as_slice(), place) {
+        if client_stands_in_line(self.places.as_slice(), place) {
             return Ok(());
         }
         self.places.push(place)?;
@@ -112,7 +112,7 @@ impl Line {
     pub fn leave(&mut self, place: usize)
         ensures { self.new ≡ after (leaves place) self.old }
     {
-        leave(&mut self.places, place);
+        client_leaves_line(&mut self.places, place);
     }
 
     /// Calls the first one, which leaves the line. `None` if nobody stands there.
@@ -127,7 +127,7 @@ impl Line {
     }
 }
 
-fn leave(places: &mut Vec<usize>, place: usize)
+fn client_leaves_line(places: &mut Vec<usize>, place: usize)
     ensures { places.new.items ≡ filter (is_other place) places.old.items }
 {
     places.retain(|other| *other != place);

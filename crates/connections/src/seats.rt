@@ -37,7 +37,7 @@ impl<T> Seat<T> {
 }
 
 // All seats, of which the last is that of the first place.
-pub(crate) fn all_seats<T>(alloc: Global) -> Result<Vec<Seat<T>>, AllocError>
+pub(crate) fn all_client_seats<T>(alloc: Global) -> Result<Vec<Seat<T>>, AllocError>
     ensures { IfOk result (λ seats. seats.items ≡ places_below place_count) }
 {
     let mut seats = Vec::with_capacity(alloc, PLACES)?;

@@ -5,15 +5,15 @@ ghost use Rattle.http_edge.specs.Served.{BeginsWithRead};
 ghost use Rattle.http_edge.specs.declared.serving.EdgeFault.TheVariants.{TooManyReads};
 ghost use Rattle.connections.specs.Conversing.{HasTooManyAt};
 ghost use Rattle.connections.specs.Inner.Giving.{IsFaultOfGiving};
-ghost use Rattle.connections.specs.Inner.Reads.{is_read};
+ghost use Rattle.connections.specs.Inner.Reads.{is_playlist_read_by_client};
 ghost use Rattle.connections.specs.Limits.{most_held, place_count};
 ghost use Rattle.connections.specs.Arrivals.{is_asking};
 ghost use Rattle.connections.specs.Table.{at, held_of, held_in, left_of, taken_of, phase_of, PutsAtPlace, Happens};
 ghost use Rattle.connections.specs.Table.{arrival, request_bytes, reply_bytes, departure};
 ghost use Rattle.connections.specs.Seats.{places_below};
 
-use crate::conversation::{Conversation, give};
-use crate::seats::{Seat, all_seats};
+use crate::conversation::{Conversation, give_to_connection};
+use crate::seats::{Seat, all_client_seats};
 use http_edge::{Edge, EdgeFault};
 use http_messages::{Arrived, Arriving, Asked};
 use std::alloc::{AllocError, Global};
@@ -65,7 +65,7 @@ pub enum Phase {
     Answering(u16),
 }
 
-fn held_by(it: &Option<Conversation>) -> usize
+fn bytes_held_by_connection(it: &Option<Conversation>) -> usize
     ensures { result ≡ held_of it.now }
 {
     match it {
@@ -75,7 +75,7 @@ fn held_by(it: &Option<Conversation>) -> usize
 }
 
 // The places, all of them vacant.
-fn vacant(alloc: Global) -> Result<Vec<Option<Conversation>>, AllocError>
+fn vacant_connections(alloc: Global) -> Result<Vec<Option<Conversation>>, AllocError>
     ensures { IfOk result (λ places. places.items ≡ replicate place_count None) }
 {
     let mut places = Vec::with_capacity(alloc, PLACES)?;
@@ -94,7 +94,7 @@ impl Connections {
         Ok(Connections {
             alloc,
             edge,
-            places: vacant(alloc)?,
+            places: vacant_connections(alloc)?,
             held: 0,
         })
     }
@@ -109,7 +109,7 @@ impl Connections {
         let edge = Edge::new(alloc, hashing)?;
         Ok(NewTable {
             connections: Connections::new(alloc, edge)?,
-            seats: all_seats(alloc)?,
+            seats: all_client_seats(alloc)?,
         })
     }
 
@@ -145,7 +145,7 @@ impl Connections {
         ensures { result ≡ held_of (at self.now place) }
     {
         match self.places.get(place) {
-            Some(it) => held_by(it),
+            Some(it) => bytes_held_by_connection(it),
             None => 0,
         }
     }
@@ -156,7 +156,7 @@ impl Connections {
         ensures { IfOk result (λ it. Decides it (BeginsWithRead bytes.now)) }
     {
         match Arriving::new(self.alloc).take(self.alloc, bytes)? {
-            Arrived::Whole(asked) => Ok(is_read(&self.edge, &asked)),
+            Arrived::Whole(asked) => Ok(is_playlist_read_by_client(&self.edge, &asked)),
             Arrived::More(_) => Ok(false),
         }
     }
@@ -170,7 +170,7 @@ impl Connections {
         ensures bound { held_in self.old.places ≤ most_held }
     {
         let it = self.places[seat.place()].take();
-        self.held -= held_by(&it);
+        self.held -= bytes_held_by_connection(&it);
         it
     }
 
@@ -182,7 +182,7 @@ impl Connections {
         ensures edge { self.new.edge ≡ self.old.edge }
     {
         let it = Some(conversation);
-        self.held += held_by(&it);
+        self.held += bytes_held_by_connection(&it);
         self.places[seat.place()] = it;
     }
 
@@ -208,7 +208,7 @@ impl Connections {
         let Some(conversation) = self.take_out(seat) else {
             return Ok(());
         };
-        let after = give(conversation, self.alloc, &mut self.edge, piece)?;
+        let after = give_to_connection(conversation, self.alloc, &mut self.edge, piece)?;
         self.put_back(seat, after);
         Ok(())
     }
@@ -231,7 +231,7 @@ impl Connections {
         let Some(conversation) = self.take_out(seat) else {
             return;
         };
-        let after = advance(conversation, count);
+        let after = advance_connection_reply(conversation, count);
         self.put_back(seat, after);
     }
 
@@ -244,8 +244,8 @@ impl Connections {
 }
 
 // Whether what was asked reads a playlist that stands.
-fn is_read(edge: &Edge, asked: &Asked) -> bool
-    ensures { result ≡ is_read asked.now }
+fn is_playlist_read_by_client(edge: &Edge, asked: &Asked) -> bool
+    ensures { result ≡ is_playlist_read_by_client asked.now }
 {
     match asked {
         Asked::Request(request) => edge.reads_playlist(request),
@@ -254,7 +254,7 @@ fn is_read(edge: &Edge, asked: &Asked) -> bool
 }
 
 // The connection when so many bytes of its reply are gone.
-fn advance(conversation: Conversation, count: usize) -> Conversation
+fn advance_connection_reply(conversation: Conversation, count: usize) -> Conversation
     requires { count ≤ length (left_of (Some conversation)) }
     ensures { Some result ≡ taken_of count (Some conversation) }
 {

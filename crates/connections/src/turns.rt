@@ -6,7 +6,7 @@ ghost use Rattle.connections.specs.Limits.{most_held, reads_in_turn, writes_in_t
 ghost use Rattle.connections.specs.Arrivals.{is_asking};
 ghost use Rattle.connections.specs.Clients.{AreSent};
 ghost use Rattle.connections.specs.Runs.{HasRun};
-ghost use Rattle.connections.specs.Turns.{HasListened, HasListenedUntil, HasSpoken, HasSpokenUntil, IfGone, Stays, HasNoMore, MovedEach, is_read_out};
+ghost use Rattle.connections.specs.Turns.{HasListened, HasListenedUntil, HasSpoken, HasSpokenUntil, IfGone, Stays, HasNoMore, MovedEach, is_client_read_out};
 
 use crate::devices::{Incoming, Outgoing, Passage};
 use crate::seats::Seat;
@@ -142,8 +142,8 @@ pub fn drain<T: Incoming>(device: &mut T) -> Turn
 
 /// Reads one byte of `device`, and says whether its client has sent nothing that is unread: it has ended, or would
 /// have to be waited for.
-pub fn is_read_out<T: Incoming>(device: &mut T) -> bool
-    ensures { result ≡ is_read_out (T.stand device.new).calls.last }
+pub fn is_client_read_out<T: Incoming>(device: &mut T) -> bool
+    ensures { result ≡ is_client_read_out (T.stand device.new).calls.last }
 {
     let mut byte = [0u8; 1];
     match device.read(&mut byte) {

@@ -1,5 +1,5 @@
 //! What goes through a client's socket: over any device whose calls don't wait.
-ghost use Rattle.std.specs.Prelude.{◌≡◌, ◌<◌, ◌+◌, ◌++◌, [], length, take, true};
+ghost use Rattle.std.specs.Prelude.{◌≡◌, ◌<◌, ◌+◌, ◌++◌, [], length, take};
 ghost use Rattle.http_edge.specs.declared.serving.EdgeFault.TheVariants.{Read, Write, Ended};
 ghost use Rattle.connections.specs.Limits.{most_held};
 ghost use Rattle.connections.specs.Table.{Happens, at, left_of, held_in, departure};
@@ -11,7 +11,7 @@ use crate::devices::{Incoming, Outgoing, Passage};
 use crate::seats::Seat;
 use crate::table::{Connections, MAX_HELD};
 use http_edge::EdgeFault;
-use http_messages::{Block, fill};
+use http_messages::{Block, fill_message_block};
 
 // So many bytes are written at once at the most, so that a client's turn is short.
 const MAX_WRITTEN: usize = 65_536;
@@ -32,7 +32,7 @@ pub enum Moved {
 }
 
 // Removes a client, for this fault.
-fn dismiss<T>(connections: &mut Connections, seat: &Seat<T>, fault: EdgeFault) -> Moved
+fn dismiss_client<T>(connections: &mut Connections, seat: &Seat<T>, fault: EdgeFault) -> Moved
     ensures removed { Happens connections.old (departure seat.now) connections.new }
     ensures fault { result ≡ Moved.Failed fault }
 {
@@ -77,10 +77,10 @@ pub fn hear<T: Incoming>(
     let count = match device.read(block) {
         Passage::Bytes(count) => count,
         Passage::WouldWait => return Moved::Waits,
-        Passage::HasFailed => return dismiss(connections, seat, EdgeFault::Read),
+        Passage::HasFailed => return dismiss_client(connections, seat, EdgeFault::Read),
     };
     if count == 0 {
-        return dismiss(connections, seat, EdgeFault::Ended);
+        return dismiss_client(connections, seat, EdgeFault::Ended);
     }
     match connections.give(seat, &block[..count]) {
         Ok(()) => Moved::Some,
@@ -89,7 +89,7 @@ pub fn hear<T: Incoming>(
 }
 
 // The front of a text that is written at once.
-fn cut(text: &[u8]) -> &[u8]
+fn cut_client_text(text: &[u8]) -> &[u8]
     ensures front { result.now ≡ take (length result.now) text.now }
     ensures some { length result.now ≡ 0 → text.now ≡ [] }
 {
@@ -97,15 +97,15 @@ fn cut(text: &[u8]) -> &[u8]
 }
 
 // A front of two texts: both, if they fit into a block, else the first that isn't empty.
-fn front<'a>(block: &'a mut Block, head: &'a [u8], body: &'a [u8]) -> &'a [u8]
+fn front_of_client_reply<'a>(block: &'a mut Block, head: &'a [u8], body: &'a [u8]) -> &'a [u8]
     requires { block.old.items ≡ [] }
     ensures front { result.now ≡ take (length result.now) (head.now ++ body.now) }
     ensures some { length result.now ≡ 0 → head.now ++ body.now ≡ [] }
 {
     if head.is_empty() {
-        return cut(body);
+        return cut_client_text(body);
     }
-    if fill(block, head, body) {
+    if fill_message_block(block, head, body) {
         return block.as_slice();
     }
     head
@@ -133,17 +133,17 @@ pub fn say<T: Outgoing>(device: &mut T, connections: &mut Connections, seat: &Se
 {
     let mut block = Block::new();
     let (head, body) = connections.parts(seat);
-    let bytes = front(&mut block, head, body);
+    let bytes = front_of_client_reply(&mut block, head, body);
     if bytes.is_empty() {
         return Moved::Nothing;
     }
     let count = match device.write(bytes) {
         Passage::Bytes(count) => count,
         Passage::WouldWait => return Moved::Waits,
-        Passage::HasFailed => return dismiss(connections, seat, EdgeFault::Write),
+        Passage::HasFailed => return dismiss_client(connections, seat, EdgeFault::Write),
     };
     if count == 0 {
-        return dismiss(connections, seat, EdgeFault::Write);
+        return dismiss_client(connections, seat, EdgeFault::Write);
     }
     connections.advance(seat, count);
     Moved::Some

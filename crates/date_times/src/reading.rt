@@ -4,11 +4,11 @@ ghost use Rattle.std.specs.Option.{ok_or, IfSome};
 ghost use Rattle.jiff_core.specs.Calendar.{IsEpochDay, IsWithin};
 ghost use Rattle.std.specs.List.{prefix_len};
 ghost use Rattle.std.specs.Char.{is_ascii_digit};
-ghost use Rattle.date_times.specs.Instant.{field, are_digits, has_date_form, is_day, is_date, day_number, has_clock_form, is_clock, fraction_len, is_fraction, offset_seconds, zone_offset, if_in_range, instant_of, IsDayOf};
-ghost use Rattle.date_times.specs.Inner.Instant.{has_offset_form, minutes_of};
+ghost use Rattle.date_times.specs.Instant.{date_field, are_date_digits, has_date_form, is_day, is_date, calendar_day_number, has_clock_form, is_clock, second_fraction_length, is_second_fraction, zone_offset_seconds, zone_offset_of, if_in_range, instant_of, IsDayOf};
+ghost use Rattle.date_times.specs.Inner.Instant.{has_offset_form, zone_offset_minutes};
 
 use crate::Instant;
-use fixed_duration::{are_all_digits, nanos_of_fraction, number_of};
+use fixed_duration::{are_duration_digits, nanos_number_of_digits, nanos_of_fraction};
 use jiff_core::civil::Date;
 use std::marker::Model;
 
@@ -77,7 +77,7 @@ impl TimeReader {
         if *date == self.date {
             return Some(self.day);
         }
-        let day = day_of(date)?;
+        let day = date_day_of(date)?;
         self.date = *date;
         self.day = day;
         Some(day)
@@ -92,31 +92,31 @@ impl TimeReader {
         let Some(day) = self.day_of(text) else {
             return Err(TimeFault::BadTime);
         };
-        instant_on(text, day).ok_or(TimeFault::BadTime)
+        instant_on_day(text, day).ok_or(TimeFault::BadTime)
     }
 }
 
 // The instant of a text at whose front this day stands.
-fn instant_on(text: &[u8], day: i64) -> Option<Instant>
+fn instant_on_day(text: &[u8], day: i64) -> Option<Instant>
     requires { IsDayOf text.now day }
     ensures { result ≡ instant_of text.now }
 {
-    if !is_at(text, 10, b'T') {
+    if !is_date_mark_at(text, 10, b'T') {
         return None;
     }
-    let clock = clock_of(text)?;
+    let clock = clock_seconds_of(text)?;
     let rest = text.get(19..)?;
-    let len = fraction_len(rest);
-    if !is_fraction(len) {
+    let len = second_fraction_length(rest);
+    if !is_second_fraction(len) {
         return None;
     }
     let (fraction, zone) = rest.split_at(len);
-    let nanos = nanos_of_fraction(after_point_of(fraction));
-    let offset = zone_offset(zone)?;
-    instant_at(seconds_from_1970(day, clock, offset), nanos)
+    let nanos = nanos_of_fraction(second_digits_after_point(fraction));
+    let offset = zone_offset_of(zone)?;
+    instant_of_seconds(instant_seconds_from_1970(day, clock, offset), nanos)
 }
 
-fn seconds_from_1970(day: i64, clock: u32, offset: i64) -> i64
+fn instant_seconds_from_1970(day: i64, clock: u32, offset: i64) -> i64
     requires day { IsEpochDay day }
     requires clock { clock < 86400 }
     requires offset { IsWithin 86400 offset }
@@ -126,48 +126,48 @@ fn seconds_from_1970(day: i64, clock: u32, offset: i64) -> i64
 }
 
 // Whether this byte, which isn't 0, stands at a place.
-fn is_at(text: &[u8], place: usize, byte: u8) -> bool
+fn is_date_mark_at(text: &[u8], place: usize, byte: u8) -> bool
     requires { 0 < byte }
     ensures { result ≡ (slice_index text.now place == byte) }
 {
     place < text.len() && text[place] == byte
 }
 
-fn are_digits(text: &[u8], from: usize, to: usize) -> bool
+fn are_date_digits(text: &[u8], from: usize, to: usize) -> bool
     requires { from ≤ to }
-    ensures { result ≡ are_digits text.now from to }
+    ensures { result ≡ are_date_digits text.now from to }
 {
-    to <= text.len() && are_all_digits(&text[from..to])
+    to <= text.len() && are_duration_digits(&text[from..to])
 }
 
 // The number that the digits from one place up to another write.
-fn field(text: &[u8], from: usize, to: usize) -> u32
+fn date_field(text: &[u8], from: usize, to: usize) -> u32
     requires order { from ≤ to }
     requires few { to ≤ from + 4 }
-    requires digits { IsTrue (are_digits text.now from to) }
-    ensures value { result ≡ field text.now from to }
+    requires digits { IsTrue (are_date_digits text.now from to) }
+    ensures value { result ≡ date_field text.now from to }
     ensures below { result < 10 ^ (to - from) }
 {
-    number_of(&text[from..to])
+    nanos_number_of_digits(&text[from..to])
 }
 
 fn has_date_form(text: &[u8]) -> bool
     ensures { result ≡ has_date_form text.now }
 {
-    are_digits(text, 0, 4)
-        && is_at(text, 4, b'-')
-        && are_digits(text, 5, 7)
-        && is_at(text, 7, b'-')
-        && are_digits(text, 8, 10)
+    are_date_digits(text, 0, 4)
+        && is_date_mark_at(text, 4, b'-')
+        && are_date_digits(text, 5, 7)
+        && is_date_mark_at(text, 7, b'-')
+        && are_date_digits(text, 8, 10)
 }
 
 // The number of a day of the calendar, from 1970.
-fn day_number(year: u32, month: u32, day: u32) -> Option<i64>
+fn calendar_day_number(year: u32, month: u32, day: u32) -> Option<i64>
     requires year { year < 10 ^ 4 }
     requires month { month < 10 ^ 2 }
     requires day { day < 10 ^ 2 }
     ensures value { MatchOption result (is_day year month day ≡ false)
-        (λ number. (is_day year month day ≡ true) × (number +ℤ pos 719528 ≡ pos (day_number year month day))) }
+        (λ number. (is_day year month day ≡ true) × (number +ℤ pos 719528 ≡ pos (calendar_day_number year month day))) }
     ensures bound { IfSome result IsEpochDay }
 {
     let Ok(date) = Date::new(year as i16, month as i8, day as i8) else {
@@ -177,40 +177,44 @@ fn day_number(year: u32, month: u32, day: u32) -> Option<i64>
 }
 
 // The day at the front, in days from 1970.
-fn day_of(text: &[u8]) -> Option<i64>
+fn date_day_of(text: &[u8]) -> Option<i64>
     ensures value { MatchOption result (is_date text.now ≡ false)
-        (λ day. (is_date text.now ≡ true) × (day +ℤ pos 719528 ≡ pos (day_number (field text.now 0 4) (field text.now 5 7) (field text.now 8 10)))) }
+        (λ day. (is_date text.now ≡ true) × (day +ℤ pos 719528 ≡ pos (calendar_day_number (date_field text.now 0 4) (date_field text.now 5 7) (date_field text.now 8 10)))) }
     ensures bound { IfSome result IsEpochDay }
 {
     if !has_date_form(text) {
         return None;
     }
-    day_number(field(text, 0, 4), field(text, 5, 7), field(text, 8, 10))
+    calendar_day_number(
+        date_field(text, 0, 4),
+        date_field(text, 5, 7),
+        date_field(text, 8, 10),
+    )
 }
 
 fn has_clock_form(text: &[u8]) -> bool
     ensures { result ≡ has_clock_form text.now }
 {
-    are_digits(text, 11, 13)
-        && is_at(text, 13, b':')
-        && are_digits(text, 14, 16)
-        && is_at(text, 16, b':')
-        && are_digits(text, 17, 19)
+    are_date_digits(text, 11, 13)
+        && is_date_mark_at(text, 13, b':')
+        && are_date_digits(text, 14, 16)
+        && is_date_mark_at(text, 16, b':')
+        && are_date_digits(text, 17, 19)
 }
 
 // The time of day, in seconds.
-fn clock_of(text: &[u8]) -> Option<u32>
+fn clock_seconds_of(text: &[u8]) -> Option<u32>
     ensures value { MatchOption result (is_clock text.now ≡ false)
-        (λ seconds. (is_clock text.now ≡ true) × (seconds ≡ field text.now 11 13 * 3600 + field text.now 14 16 * 60 + field text.now 17 19)) }
+        (λ seconds. (is_clock text.now ≡ true) × (seconds ≡ date_field text.now 11 13 * 3600 + date_field text.now 14 16 * 60 + date_field text.now 17 19)) }
     ensures bound { IfSome result (λ seconds. seconds < 86400) }
 {
     if !has_clock_form(text) {
         return None;
     }
     let (hour, minute, second) = (
-        field(text, 11, 13),
-        field(text, 14, 16),
-        field(text, 17, 19),
+        date_field(text, 11, 13),
+        date_field(text, 14, 16),
+        date_field(text, 17, 19),
     );
     if hour >= 24 || minute >= 60 || second >= 60 {
         return None;
@@ -218,7 +222,7 @@ fn clock_of(text: &[u8]) -> Option<u32>
     Some(hour * 3600 + minute * 60 + second)
 }
 
-fn digits_len(text: &[u8]) -> usize
+fn date_digits_length(text: &[u8]) -> usize
     ensures value { result ≡ prefix_len is_ascii_digit text.now }
     ensures bound { result ≤ length text.now }
 {
@@ -226,23 +230,23 @@ fn digits_len(text: &[u8]) -> usize
 }
 
 // The bytes of a point and the digits after it.
-fn fraction_len(text: &[u8]) -> usize
-    ensures value { result ≡ fraction_len text.now }
+fn second_fraction_length(text: &[u8]) -> usize
+    ensures value { result ≡ second_fraction_length text.now }
     ensures bound { result ≤ length text.now }
 {
-    if !is_at(text, 0, b'.') {
+    if !is_date_mark_at(text, 0, b'.') {
         return 0;
     }
-    digits_len(&text[1..]) + 1
+    date_digits_length(&text[1..]) + 1
 }
 
-fn is_fraction(len: usize) -> bool
-    ensures { result ≡ is_fraction len }
+fn is_second_fraction(len: usize) -> bool
+    ensures { result ≡ is_second_fraction len }
 {
     len == 0 || (2 <= len && len <= 10)
 }
 
-fn after_point_of(bytes: &[u8]) -> &[u8]
+fn second_digits_after_point(bytes: &[u8]) -> &[u8]
     ensures { result.now ≡ drop 1 bytes.now }
 {
     match bytes {
@@ -252,9 +256,9 @@ fn after_point_of(bytes: &[u8]) -> &[u8]
 }
 
 // The minutes of an offset after its sign, if it has a form that is read.
-fn minutes_of(text: &[u8]) -> Option<&[u8]>
+fn zone_offset_minutes(text: &[u8]) -> Option<&[u8]>
     ensures value { MatchOption result (has_offset_form text.now ≡ false)
-        (λ minutes. (has_offset_form text.now ≡ true) × (minutes.now ≡ minutes_of text.now)) }
+        (λ minutes. (has_offset_form text.now ≡ true) × (minutes.now ≡ zone_offset_minutes text.now)) }
     ensures few { IfSome result (λ minutes. (length minutes.now ≤ 2) × (2 ≤ length text.now)) }
 {
     match text {
@@ -266,16 +270,19 @@ fn minutes_of(text: &[u8]) -> Option<&[u8]>
 }
 
 // The seconds of an offset after its sign.
-fn offset_seconds(text: &[u8]) -> Option<u32>
-    ensures value { result ≡ offset_seconds text.now }
+fn zone_offset_seconds(text: &[u8]) -> Option<u32>
+    ensures value { result ≡ zone_offset_seconds text.now }
     ensures bound { IfSome result (λ seconds. seconds < 86400) }
 {
-    let minutes = minutes_of(text)?;
+    let minutes = zone_offset_minutes(text)?;
     let hours = &text[..2];
-    if !are_all_digits(hours) || !are_all_digits(minutes) {
+    if !are_duration_digits(hours) || !are_duration_digits(minutes) {
         return None;
     }
-    let (hours, minutes) = (number_of(hours), number_of(minutes));
+    let (hours, minutes) = (
+        nanos_number_of_digits(hours),
+        nanos_number_of_digits(minutes),
+    );
     if hours >= 24 || minutes >= 60 {
         return None;
     }
@@ -283,21 +290,21 @@ fn offset_seconds(text: &[u8]) -> Option<u32>
 }
 
 // The seconds east of UTC.
-fn zone_offset(text: &[u8]) -> Option<i64>
-    ensures value { result ≡ zone_offset text.now }
+fn zone_offset_of(text: &[u8]) -> Option<i64>
+    ensures value { result ≡ zone_offset_of text.now }
     ensures bound { IfSome result (IsWithin 86400) }
 {
     match text.split_first() {
         None => Some(0),
         Some((b'Z', [])) => Some(0),
-        Some((b'+', east)) => Some(i64::from(offset_seconds(east)?)),
-        Some((b'-', west)) => Some(-i64::from(offset_seconds(west)?)),
+        Some((b'+', east)) => Some(i64::from(zone_offset_seconds(east)?)),
+        Some((b'-', west)) => Some(-i64::from(zone_offset_seconds(west)?)),
         Some(_) => None,
     }
 }
 
 // The instant so many seconds and nanoseconds from 1970, in range.
-fn instant_at(seconds: i64, nanos: u32) -> Option<Instant>
+fn instant_of_seconds(seconds: i64, nanos: u32) -> Option<Instant>
     requires { nanos < 10 ^ 9 }
     ensures { result ≡ if_in_range (seconds *ℤ pos 1000000000 +ℤ pos nanos) }
 {

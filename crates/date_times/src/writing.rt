@@ -1,8 +1,8 @@
 //! How an instant is written.
 ghost use Rattle.std.specs.Prelude.{◌≡◌, ◌++◌, ◌<◌, ◌≤◌, ◌^◌, ◌+◌, ◌-◌, ◌*◌, ◌/◌, [], ◌∷◌, take, OnErr, string_bytes, Some, true};
-ghost use Rattle.date_times.specs.Instant.{is_leap, days_in_month, in_range, instant_of};
+ghost use Rattle.date_times.specs.Instant.{is_leap_year, calendar_days_in_month, in_range, instant_of};
 ghost use Rattle.date_times.specs.Digits.{fixed_digits};
-ghost use Rattle.date_times.specs.Times.{from_1900, days_in_year, year_after, month_after, decimals, date_at, clock_text, time_text_at, time_text};
+ghost use Rattle.date_times.specs.Times.{instant_from_1900, calendar_days_in_year, year_after_days, month_after_days, decimals, date_at, clock_text, time_text_at, time_text};
 ghost use Rattle.fixed_duration.specs.Appended.{Appends};
 
 use crate::{FIRST_INSTANT, Instant};
@@ -32,7 +32,7 @@ static PAIRS: [u8; 200] =
     *b"00010203040506070809101112131415161718192021222324252627282930313233343536373839404142434445464748495051525354555657585960616263646566676869707172737475767778798081828384858687888990919293949596979899";
 
 // Writes one character after the first `at` ones.
-fn put_mark(text: &mut [u8; LONGEST], at: usize, mark: u8)
+fn put_date_mark(text: &mut [u8; LONGEST], at: usize, mark: u8)
     requires { at < 30 }
     ensures { take (at + 1) text.new ≡ take at text.old ++ mark ∷ [] }
 {
@@ -40,53 +40,53 @@ fn put_mark(text: &mut [u8; LONGEST], at: usize, mark: u8)
 }
 
 // Writes the two digits of a number.
-fn put_two(text: &mut [u8; LONGEST], at: usize, number: u64)
+fn put_two_date_digits(text: &mut [u8; LONGEST], at: usize, number: u64)
     requires small { number < 100 }
     requires room { at + 2 ≤ 30 }
     ensures { take (at + 2) text.new ≡ take at text.old ++ fixed_digits 10 2 number }
 {
     let from = number as usize * 2;
-    put_mark(text, at, PAIRS[from]);
-    put_mark(text, at + 1, PAIRS[from + 1]);
+    put_date_mark(text, at, PAIRS[from]);
+    put_date_mark(text, at + 1, PAIRS[from + 1]);
 }
 
 // Writes the three digits of a number.
-fn put_three(text: &mut [u8; LONGEST], at: usize, number: u64)
+fn put_three_second_digits(text: &mut [u8; LONGEST], at: usize, number: u64)
     requires small { number < 1000 }
     requires room { at + 3 ≤ 30 }
     ensures { take (at + 3) text.new ≡ take at text.old ++ fixed_digits 10 3 number }
 {
-    put_mark(text, at, b'0' + (number / 100) as u8);
-    put_two(text, at + 1, number % 100);
+    put_date_mark(text, at, b'0' + (number / 100) as u8);
+    put_two_date_digits(text, at + 1, number % 100);
 }
 
 // Writes the four digits of a number.
-fn put_four(text: &mut [u8; LONGEST], at: usize, number: u64)
+fn put_four_year_digits(text: &mut [u8; LONGEST], at: usize, number: u64)
     requires small { number < 10000 }
     requires room { at + 4 ≤ 30 }
     ensures { take (at + 4) text.new ≡ take at text.old ++ fixed_digits 10 4 number }
 {
-    put_two(text, at, number / 100);
-    put_two(text, at + 2, number % 100);
+    put_two_date_digits(text, at, number / 100);
+    put_two_date_digits(text, at + 2, number % 100);
 }
 
-fn is_leap(year: u64) -> bool
-    ensures { result ≡ is_leap year }
+fn is_leap_year(year: u64) -> bool
+    ensures { result ≡ is_leap_year year }
 {
     year % 4 == 0 && (year % 100 != 0 || year % 400 == 0)
 }
 
-fn days_in_year(year: u64) -> u64
-    ensures { result ≡ days_in_year year }
+fn calendar_days_in_year(year: u64) -> u64
+    ensures { result ≡ calendar_days_in_year year }
 {
-    if is_leap(year) { 366 } else { 365 }
+    if is_leap_year(year) { 366 } else { 365 }
 }
 
-fn days_in_month(year: u64, month: u64) -> u64
-    ensures { result ≡ days_in_month year month }
+fn calendar_days_in_month(year: u64, month: u64) -> u64
+    ensures { result ≡ calendar_days_in_month year month }
 {
     if month == 2 {
-        return if is_leap(year) { 29 } else { 28 };
+        return if is_leap_year(year) { 29 } else { 28 };
     }
     if month == 4 || month == 6 || month == 9 || month == 11 {
         30
@@ -96,29 +96,29 @@ fn days_in_month(year: u64, month: u64) -> u64
 }
 
 // The year in which a day lies that is so many days after the first of this one, and which day of it.
-fn year_after(turns: u16, year: u64, days: u64) -> (u64, u64)
+fn year_after_days(turns: u16, year: u64, days: u64) -> (u64, u64)
     requires { year + turns < 2 ^ 64 }
-    ensures value { result ≡ year_after turns year days }
+    ensures value { result ≡ year_after_days turns year days }
     ensures bound { result.0 ≤ year + turns }
     ensures within { result.1 ≤ days }
 {
     if turns == 0 {
         return (year, days);
     }
-    if days < days_in_year(year) {
+    if days < calendar_days_in_year(year) {
         return (year, days);
     }
-    year_after(turns - 1, year + 1, days - days_in_year(year))
+    year_after_days(turns - 1, year + 1, days - calendar_days_in_year(year))
 }
 
 // The year in which a day lies that is so many days after the first of 1900, and which day of it.
-fn year_of(days: u64) -> (u64, u64)
-    ensures value { result ≡ year_after 300 1900 days }
+fn year_of_days(days: u64) -> (u64, u64)
+    ensures value { result ≡ year_after_days 300 1900 days }
     ensures bound { result.0 ≤ 2200 }
     ensures within { result.1 ≤ days }
 {
     if days < DAYS_TO_1901 || days >= DAYS_TO_2100 {
-        return year_after(300, 1900, days);
+        return year_after_days(300, 1900, days);
     }
     // From 1901 to 2099 each fourth year is a leap year.
     let since = days - DAYS_TO_1901;
@@ -127,29 +127,29 @@ fn year_of(days: u64) -> (u64, u64)
 }
 
 // The same with months of a year.
-fn month_after(turns: u16, year: u64, month: u64, days: u64) -> (u64, u64)
+fn month_after_days(turns: u16, year: u64, month: u64, days: u64) -> (u64, u64)
     requires { month + turns < 2 ^ 64 }
-    ensures value { result ≡ month_after turns year month days }
+    ensures value { result ≡ month_after_days turns year month days }
     ensures bound { result.0 ≤ month + turns }
     ensures within { result.1 ≤ days }
 {
     if turns == 0 {
         return (month, days);
     }
-    if days < days_in_month(year, month) {
+    if days < calendar_days_in_month(year, month) {
         return (month, days);
     }
-    month_after(
+    month_after_days(
         turns - 1,
         year,
         month + 1,
-        days - days_in_month(year, month),
+        days - calendar_days_in_month(year, month),
     )
 }
 
 // The month of a day and which day of it, in a year whose February has 30 days: its months begin
 // at even steps of 367 twelfths of a day.
-fn even_month(days: u64) -> (u64, u64)
+fn month_of_even_days(days: u64) -> (u64, u64)
     requires { days < 367 }
     ensures month { result.0 ≡ (12 * days + 373) / 367 }
     ensures day { result.1 ≡ days - (367 * ((12 * days + 373) / 367) - 362) / 12 }
@@ -159,25 +159,25 @@ fn even_month(days: u64) -> (u64, u64)
 }
 
 // The month in which a day of a year lies, and which day of it.
-fn month_of(year: u64, days: u64) -> (u64, u64)
-    ensures value { result ≡ month_after 12 year 1 days }
+fn month_of_days(year: u64, days: u64) -> (u64, u64)
+    ensures value { result ≡ month_after_days 12 year 1 days }
     ensures bound { result.0 ≤ 13 }
     ensures within { result.1 ≤ days }
 {
-    let year_days = days_in_year(year);
+    let year_days = calendar_days_in_year(year);
     if days >= year_days {
-        return month_after(12, year, 1, days);
+        return month_after_days(12, year, 1, days);
     }
     // 306 days of each year lie after its February.
     if days + 306 < year_days {
-        return even_month(days);
+        return month_of_even_days(days);
     }
-    even_month(days + 367 - year_days)
+    month_of_even_days(days + 367 - year_days)
 }
 
 // Nanoseconds from 1900.
-fn from_1900(time: Instant) -> u64
-    ensures { result ≡ from_1900 time }
+fn instant_from_1900(time: Instant) -> u64
+    ensures { result ≡ instant_from_1900 time }
 {
     let nanos = time.0;
     if nanos < 0 {
@@ -187,57 +187,57 @@ fn from_1900(time: Instant) -> u64
     }
 }
 
-fn put_date(text: &mut [u8; LONGEST], days: u64)
+fn put_calendar_date(text: &mut [u8; LONGEST], days: u64)
     requires { days < 2 ^ 40 }
     ensures { take 10 text.new ≡ date_at days }
 {
-    let (year, rest) = year_of(days);
-    let (month, day) = month_of(year, rest);
-    put_four(text, 0, year);
-    put_mark(text, 4, b'-');
-    put_two(text, 5, month);
-    put_mark(text, 7, b'-');
-    put_two(text, 8, (day + 1) % 100);
+    let (year, rest) = year_of_days(days);
+    let (month, day) = month_of_days(year, rest);
+    put_four_year_digits(text, 0, year);
+    put_date_mark(text, 4, b'-');
+    put_two_date_digits(text, 5, month);
+    put_date_mark(text, 7, b'-');
+    put_two_date_digits(text, 8, (day + 1) % 100);
 }
 
-fn put_clock(text: &mut [u8; LONGEST], seconds: u64)
+fn put_clock_time(text: &mut [u8; LONGEST], seconds: u64)
     requires { seconds < 86400 }
     ensures { take 19 text.new ≡ take 11 text.old ++ clock_text seconds [] }
 {
-    put_two(text, 11, seconds / 3600);
-    put_mark(text, 13, b':');
-    put_two(text, 14, seconds / 60 % 60);
-    put_mark(text, 16, b':');
-    put_two(text, 17, seconds % 60);
+    put_two_date_digits(text, 11, seconds / 3600);
+    put_date_mark(text, 13, b':');
+    put_two_date_digits(text, 14, seconds / 60 % 60);
+    put_date_mark(text, 16, b':');
+    put_two_date_digits(text, 17, seconds % 60);
 }
 
 // Writes the decimals, and returns where they end.
-fn put_decimals(text: &mut [u8; LONGEST], nanos: u64) -> usize
+fn put_second_decimals(text: &mut [u8; LONGEST], nanos: u64) -> usize
     requires { nanos < 1000000000 }
     ensures text { take result text.new ≡ take 20 text.old ++ decimals nanos }
     ensures room { result < 30 }
 {
     if nanos % 1_000_000 == 0 {
-        put_three(text, 20, nanos / 1_000_000);
+        put_three_second_digits(text, 20, nanos / 1_000_000);
         return 23;
     }
-    put_three(text, 20, nanos / 1_000_000);
-    put_three(text, 23, nanos / 1000 % 1000);
-    put_three(text, 26, nanos % 1000);
+    put_three_second_digits(text, 20, nanos / 1_000_000);
+    put_three_second_digits(text, 23, nanos / 1000 % 1000);
+    put_three_second_digits(text, 26, nanos % 1000);
     29
 }
 
 // Writes what stands after the date of the instant so many nanoseconds after 1900, and returns where it ends.
-fn put_after_date(text: &mut [u8; LONGEST], nanos: u64) -> usize
+fn put_clock_after_date(text: &mut [u8; LONGEST], nanos: u64) -> usize
     requires { take 10 text.old ≡ date_at (nanos / 86400000000000) }
     ensures text { take result text.new ≡ time_text_at nanos }
     ensures room { result ≤ 30 }
 {
-    put_mark(text, 10, b'T');
-    put_clock(text, nanos / 1_000_000_000 % 86_400);
-    put_mark(text, 19, b'.');
-    let end = put_decimals(text, nanos % 1_000_000_000);
-    put_mark(text, end, b'Z');
+    put_date_mark(text, 10, b'T');
+    put_clock_time(text, nanos / 1_000_000_000 % 86_400);
+    put_date_mark(text, 19, b'.');
+    let end = put_second_decimals(text, nanos % 1_000_000_000);
+    put_date_mark(text, end, b'Z');
     end + 1
 }
 
@@ -276,7 +276,7 @@ impl TimeWriter {
     /// It has written nothing yet.
     pub fn new() -> TimeWriter {
         let mut date = [b'0'; LONGEST];
-        put_date(&mut date, 0);
+        put_calendar_date(&mut date, 0);
         TimeWriter { days: 0, date }
     }
 
@@ -288,7 +288,7 @@ impl TimeWriter {
         if days == self.days {
             return self.date;
         }
-        put_date(&mut self.date, days);
+        put_calendar_date(&mut self.date, days);
         self.days = days;
         self.date
     }
@@ -299,9 +299,9 @@ impl TimeWriter {
         ensures text { Appends result out.old out.new (time_text instant) }
         ensures err { OnErr result (string_bytes out.new ≡ string_bytes out.old) }
     {
-        let since = from_1900(instant);
+        let since = instant_from_1900(instant);
         let mut bytes = self.date_of(since / NANOS_PER_DAY);
-        let end = put_after_date(&mut bytes, since);
+        let end = put_clock_after_date(&mut bytes, since);
         // What is written is ASCII.
         let time = unsafe { str::from_utf8_unchecked(&bytes[..end]) };
         out.push_str(time)

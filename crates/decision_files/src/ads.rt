@@ -5,51 +5,58 @@ ghost use Rattle.serde_json.specs.Find.{get};
 ghost use Rattle.spec_words.specs.Outcomes.{each_after, optional};
 ghost use Rattle.pod_store.specs.Outcome.{GivesOrDecisionFault, fault_at};
 ghost use Rattle.pod_store.specs.Pods.{segment_count};
-ghost use Rattle.decision_files.specs.Decided.{init_section_said, key_said, ad_said, next_ad, pod_said, ad_of};
+ghost use Rattle.decision_files.specs.Decided.{init_section_said_by_decision_file, key_said_by_decision_file, ad_said_by_decision_file, next_ad, pod_said_by_decision_file, ad_of_decision_file};
 ghost use Rattle.decision_files.specs.Inner.Views.{view_of_part};
 
-use crate::keys::{Part, init_section_said, init_section_with, key_said, keys_of};
-use crate::segments::segments_said;
+use crate::keys::{
+    Part, init_section_said_by_decision_file, init_section_with_decision_file_keys,
+    key_said_by_decision_file, keys_of_decision_file,
+};
+use crate::segments::segments_said_by_decision_file;
 use playlist_model::{Items, Key};
 use pod_store::{Ad, DecisionFault, DecisionKind, MAX_POD_SEGMENTS, Place, Pod, PodSegment};
 use serde_json::Value;
 use std::alloc::{AllocError, Global};
 
-fn stated_init_section(
+fn init_section_in_decision_file(
     alloc: Global,
     place: Place,
     value: &Value,
 ) -> Result<Option<Part>, DecisionFault>
     ensures { GivesOrDecisionFault (option_map view_of_part) result
-        (optional (init_section_said place) (get (codes "map") (view value.now))) }
+        (optional (init_section_said_by_decision_file place) (get (codes "map") (view value.now))) }
 {
     match value.get("map") {
-        Some(map) => Ok(Some(init_section_said(alloc, place, map)?)),
+        Some(map) => Ok(Some(init_section_said_by_decision_file(alloc, place, map)?)),
         None => Ok(None),
     }
 }
 
-fn stated_key(alloc: Global, place: Place, value: &Value) -> Result<Option<Key>, DecisionFault>
+fn key_in_decision_file(
+    alloc: Global,
+    place: Place,
+    value: &Value,
+) -> Result<Option<Key>, DecisionFault>
     ensures { GivesOrDecisionFault (λ key. key) result
-        (optional (key_said place) (get (codes "key") (view value.now))) }
+        (optional (key_said_by_decision_file place) (get (codes "key") (view value.now))) }
 {
     match value.get("key") {
-        Some(key) => Ok(Some(key_said(alloc, place, key)?)),
+        Some(key) => Ok(Some(key_said_by_decision_file(alloc, place, key)?)),
         None => Ok(None),
     }
 }
 
-fn ad_of(
+fn ad_of_decision_file(
     alloc: Global,
     part: Option<Part>,
     key: Option<Key>,
     segments: Vec<PodSegment>,
 ) -> Result<Ad, AllocError>
-    ensures { IfOk result (λ ad. ad ≡ ad_of (option_map view_of_part part) key segments.items) }
+    ensures { IfOk result (λ ad. ad ≡ ad_of_decision_file (option_map view_of_part part) key segments.items) }
 {
-    let keys = keys_of(alloc, key)?;
+    let keys = keys_of_decision_file(alloc, key)?;
     let init_section = match part {
-        Some(part) => Some(init_section_with(&keys, part)?),
+        Some(part) => Some(init_section_with_decision_file_keys(&keys, part)?),
         None => None,
     };
     Ok(Ad {
@@ -60,19 +67,24 @@ fn ad_of(
 }
 
 // The ad at a place, whose pod has so many segments in the ads before.
-fn ad_said(alloc: Global, place: Place, before: usize, value: &Value) -> Result<Ad, DecisionFault>
+fn ad_said_by_decision_file(
+    alloc: Global,
+    place: Place,
+    before: usize,
+    value: &Value,
+) -> Result<Ad, DecisionFault>
     requires { before ≤ MAX_POD_SEGMENTS }
-    ensures said { GivesOrDecisionFault (λ a. a) result (ad_said place before (view value.now)) }
+    ensures said { GivesOrDecisionFault (λ a. a) result (ad_said_by_decision_file place before (view value.now)) }
     ensures most { IfOk result (λ a. before + segment_count a ≤ MAX_POD_SEGMENTS) }
 {
-    let part = stated_init_section(alloc, place, value)?;
-    let key = stated_key(alloc, place, value)?;
-    let segments = segments_said(alloc, place, before, value)?;
-    Ok(ad_of(alloc, part, key, segments)?)
+    let part = init_section_in_decision_file(alloc, place, value)?;
+    let key = key_in_decision_file(alloc, place, value)?;
+    let segments = segments_said_by_decision_file(alloc, place, before, value)?;
+    Ok(ad_of_decision_file(alloc, part, key, segments)?)
 }
 
 // The ads of these objects, of the pod at a place.
-fn ads_of(alloc: Global, pod: Place, list: &[Value]) -> Result<Vec<Ad>, DecisionFault>
+fn ads_of_decision_file(alloc: Global, pod: Place, list: &[Value]) -> Result<Vec<Ad>, DecisionFault>
     ensures said { GivesOrDecisionFault (λ v. v.items) result (each_after (next_ad pod) [] (map view list.now)) }
     ensures most { IfOk result (λ v. sum (map segment_count v.items) ≤ MAX_POD_SEGMENTS) }
 {
@@ -80,7 +92,7 @@ fn ads_of(alloc: Global, pod: Place, list: &[Value]) -> Result<Vec<Ad>, Decision
     let mut before: usize = 0;
     let mut rest = list;
     while let Some((value, later)) = rest.split_first() {
-        let ad = ad_said(alloc, pod.in_ad(done.len()), before, value)?;
+        let ad = ad_said_by_decision_file(alloc, pod.in_ad(done.len()), before, value)?;
         before += ad.segments.len();
         done.push(ad)?;
         rest = later;
@@ -90,8 +102,12 @@ fn ads_of(alloc: Global, pod: Place, list: &[Value]) -> Result<Vec<Ad>, Decision
 
 /// The pod that `ads` state, which stand at `place`: in a break, or in none. `EmptyPod` if there are none; then the
 /// faults of each ad in turn; `OutOfMemory` only if an allocation fails.
-pub fn pod_said(alloc: Global, place: Place, ads: &[Value]) -> Result<Pod, DecisionFault>
-    ensures said { GivesOrDecisionFault (λ p. p) result (pod_said place (map view ads.now)) }
+pub fn pod_said_by_decision_file(
+    alloc: Global,
+    place: Place,
+    ads: &[Value],
+) -> Result<Pod, DecisionFault>
+    ensures said { GivesOrDecisionFault (λ p. p) result (pod_said_by_decision_file place (map view ads.now)) }
 
     // That there are none is answered whatever memory there is.
     ensures told { ads.now ≡ [] → result ≡ Err (fault_at place DecisionKind.EmptyPod) }
@@ -99,6 +115,6 @@ pub fn pod_said(alloc: Global, place: Place, ads: &[Value]) -> Result<Pod, Decis
     if ads.is_empty() {
         return Err(place.fault(DecisionKind::EmptyPod));
     }
-    let ads = ads_of(alloc, place, ads)?;
+    let ads = ads_of_decision_file(alloc, place, ads)?;
     Ok(Pod::new(Items::from_vec(ads)))
 }

@@ -1,33 +1,35 @@
 //! A decision file.
-ghost use Rattle.std.specs.Prelude.{◌≡◌, false, ◌∷◌, ◌++◌, [], map, codes, IfOk};
+ghost use Rattle.std.specs.Prelude.{◌≡◌, false, ◌∷◌, ◌++◌, [], map, IfOk};
 ghost use Rattle.serde_json.specs.View.{view};
 ghost use Rattle.std.specs.Str.{is_utf8};
 ghost use Rattle.spec_words.specs.Outcomes.{each_after, GivesExactly, Tells};
 ghost use Rattle.pod_store.specs.Outcome.{GivesOrDecisionFault, nowhere, fault_at};
-ghost use Rattle.decision_files.specs.Decided.{id_said, pod_said, decision_said, next_break, breaks_said, withdraw_said, fallback_pod, fallback_said, value_said, json_of, decisions_of};
+ghost use Rattle.decision_files.specs.Decided.{id_said_by_decision_file, pod_said_by_decision_file, decision_said, next_break, breaks_said_by_decision_file, withdrawal_said_by_decision_file, fallback_pod_of_decision_file, fallback_said_by_decision_file, decisions_said_by_json, json_of_decision_file, decisions_of};
 
-use crate::ads::pod_said;
-use crate::members::{list_at, text_at, values_of};
-use crate::texts::is_id;
-use playlist_model::{Items, Text, text_of};
+use crate::ads::pod_said_by_decision_file;
+use crate::members::{
+    json_list_in_decision_file, json_text_in_decision_file, json_values_in_decision_file,
+};
+use crate::texts::is_decision_file_id;
+use playlist_model::{Items, Text, playlist_text_of};
 use pod_store::{Decision, DecisionFault, DecisionKind, Decisions, IdSet, Place};
 use serde_json::Value;
 use std::alloc::Global;
 use std::hash::RandomState;
 
-fn id_said(pod: usize, value: &Value) -> Result<&str, DecisionFault>
-    ensures { GivesExactly (λ id. id.now) result (id_said pod (view value.now)) }
+fn id_said_by_decision_file(pod: usize, value: &Value) -> Result<&str, DecisionFault>
+    ensures { GivesExactly (λ id. id.now) result (id_said_by_decision_file pod (view value.now)) }
 {
     let place = Place::in_break(pod);
-    let id = text_at(value, "id").ok_or(place.fault(DecisionKind::Shape))?;
-    if !is_id(id) {
+    let id = json_text_in_decision_file(value, "id").ok_or(place.fault(DecisionKind::Shape))?;
+    if !is_decision_file_id(id) {
         return Err(place.fault(DecisionKind::Shape));
     }
     Ok(id)
 }
 
 // The break of this value, which stands after those whose IDs came before.
-fn break_said<'a>(
+fn break_said_by_decision_file<'a>(
     alloc: Global,
     pod: usize,
     before: &mut IdSet<'a>,
@@ -38,17 +40,17 @@ fn break_said<'a>(
     ensures ids { IfOk result (λ d. before.new ≡ before.old ++ d.0 ∷ []) }
 {
     let place = Place::in_break(pod);
-    let id = id_said(pod, value)?;
-    let ads = list_at(value, "ads").ok_or(place.fault(DecisionKind::Shape))?;
+    let id = id_said_by_decision_file(pod, value)?;
+    let ads = json_list_in_decision_file(value, "ads").ok_or(place.fault(DecisionKind::Shape))?;
     if !before.insert(id)? {
         return Err(place.fault(DecisionKind::Shape));
     }
-    let said = pod_said(alloc, place, ads)?;
+    let said = pod_said_by_decision_file(alloc, place, ads)?;
     let id = Text::copy_of(alloc, id)?;
     Ok((id, said))
 }
 
-fn breaks_of(
+fn breaks_of_decision_file(
     alloc: Global,
     hashing: RandomState,
     list: &[Value],
@@ -60,82 +62,87 @@ fn breaks_of(
     let mut ids = IdSet::new(alloc, hashing);
     let mut rest = list;
     while let Some((value, later)) = rest.split_first() {
-        let decision = break_said(alloc, done.len(), &mut ids, value)?;
+        let decision = break_said_by_decision_file(alloc, done.len(), &mut ids, value)?;
         done.push(decision)?;
         rest = later;
     }
     Ok(done)
 }
 
-fn breaks_said(
+fn breaks_said_by_decision_file(
     alloc: Global,
     hashing: RandomState,
     value: &Value,
 ) -> Result<Decisions, DecisionFault>
-    ensures { GivesOrDecisionFault (λ d. d) result (breaks_said (view value.now)) }
+    ensures { GivesOrDecisionFault (λ d. d) result (breaks_said_by_decision_file (view value.now)) }
 {
-    let list = values_of(value).ok_or(Place::nowhere().fault(DecisionKind::Shape))?;
-    let breaks = breaks_of(alloc, hashing, list)?;
+    let list = json_values_in_decision_file(value).ok_or(Place::nowhere().fault(
+        DecisionKind::Shape,
+    ))?;
+    let breaks = breaks_of_decision_file(alloc, hashing, list)?;
     Ok(Decisions::Breaks(Items::from_vec(breaks)))
 }
 
-fn withdraw_said(alloc: Global, value: &Value) -> Result<Decisions, DecisionFault>
-    ensures said { GivesOrDecisionFault (λ d. d) result (withdraw_said (view value.now)) }
-    ensures told { Tells result (withdraw_said (view value.now)) }
+fn withdrawal_said_by_decision_file(
+    alloc: Global,
+    value: &Value,
+) -> Result<Decisions, DecisionFault>
+    ensures said { GivesOrDecisionFault (λ d. d) result (withdrawal_said_by_decision_file (view value.now)) }
+    ensures told { Tells result (withdrawal_said_by_decision_file (view value.now)) }
 {
     let id = value
         .as_str()
         .ok_or(Place::nowhere().fault(DecisionKind::Shape))?;
-    if !is_id(id) {
+    if !is_decision_file_id(id) {
         return Err(Place::nowhere().fault(DecisionKind::Shape));
     }
     Ok(Decisions::Withdraw(Text::copy_of(alloc, id)?))
 }
 
-fn fallback_pod(alloc: Global, value: &Value) -> Result<Decisions, DecisionFault>
-    ensures { GivesOrDecisionFault (λ d. d) result (fallback_pod (view value.now)) }
+fn fallback_pod_of_decision_file(alloc: Global, value: &Value) -> Result<Decisions, DecisionFault>
+    ensures { GivesOrDecisionFault (λ d. d) result (fallback_pod_of_decision_file (view value.now)) }
 {
     let nowhere = Place::nowhere();
-    let ads = list_at(value, "ads").ok_or(nowhere.fault(DecisionKind::Shape))?;
-    let pod = pod_said(alloc, nowhere, ads)?;
+    let ads = json_list_in_decision_file(value, "ads").ok_or(nowhere.fault(DecisionKind::Shape))?;
+    let pod = pod_said_by_decision_file(alloc, nowhere, ads)?;
     Ok(Decisions::Fallback(pod))
 }
 
-fn fallback_said(alloc: Global, value: &Value) -> Result<Decisions, DecisionFault>
-    ensures { GivesOrDecisionFault (λ d. d) result (fallback_said (view value.now)) }
+fn fallback_said_by_decision_file(alloc: Global, value: &Value) -> Result<Decisions, DecisionFault>
+    ensures { GivesOrDecisionFault (λ d. d) result (fallback_said_by_decision_file (view value.now)) }
 {
     if value.is_null() {
         return Ok(Decisions::NoFallback);
     }
-    fallback_pod(alloc, value)
+    fallback_pod_of_decision_file(alloc, value)
 }
 
-fn value_said(
+fn decisions_said_by_json(
     alloc: Global,
     hashing: RandomState,
     value: &Value,
 ) -> Result<Decisions, DecisionFault>
-    ensures { GivesOrDecisionFault (λ d. d) result (value_said (view value.now)) }
+    ensures { GivesOrDecisionFault (λ d. d) result (decisions_said_by_json (view value.now)) }
 {
     let breaks = value.get("breaks");
     let withdraw = value.get("withdraw");
     let fallback = value.get("fallback");
     match (breaks, withdraw, fallback) {
-        (Some(breaks), None, None) => breaks_said(alloc, hashing, breaks),
-        (None, Some(id), None) => withdraw_said(alloc, id),
-        (None, None, Some(pod)) => fallback_said(alloc, pod),
+        (Some(breaks), None, None) => breaks_said_by_decision_file(alloc, hashing, breaks),
+        (None, Some(id), None) => withdrawal_said_by_decision_file(alloc, id),
+        (None, None, Some(pod)) => fallback_said_by_decision_file(alloc, pod),
         _ => Err(Place::nowhere().fault(DecisionKind::Shape)),
     }
 }
 
 // The JSON value of these bytes.
-fn json_of(alloc: Global, bytes: &[u8]) -> Result<Value, DecisionFault>
-    ensures said { GivesOrDecisionFault view result (json_of bytes.now) }
+fn json_of_decision_file(alloc: Global, bytes: &[u8]) -> Result<Value, DecisionFault>
+    ensures said { GivesOrDecisionFault view result (json_of_decision_file bytes.now) }
     ensures told { is_utf8 bytes.now ≡ false
         → result ≡ Err (fault_at nowhere DecisionKind.NotJson) }
 {
     let not_json = Place::nowhere().fault(DecisionKind::NotJson);
-    let Ok(text) = text_of(bytes) else {
+    let Ok(text) = playlist_text_of(bytes) else {
         return Err(not_json);
     };
     match Value::from_str(alloc, text) {
@@ -168,6 +175,6 @@ pub fn read_decisions(
     ensures told { is_utf8 bytes.now ≡ false
         → result ≡ Err (fault_at nowhere DecisionKind.NotJson) }
 {
-    let value = json_of(alloc, bytes)?;
-    value_said(alloc, hashing, &value)
+    let value = json_of_decision_file(alloc, bytes)?;
+    decisions_said_by_json(alloc, hashing, &value)
 }

@@ -1,16 +1,16 @@
 //! The members of the objects of a decision file.
-ghost use Rattle.std.specs.Prelude.{◌≡◌, codes, map, option_map, length, ◌≤◌};
+ghost use Rattle.std.specs.Prelude.{◌≡◌, map, option_map, length};
 ghost use Rattle.serde_json.specs.View.{view};
-ghost use Rattle.decision_files.specs.Json.{text_at, values_of, list_at, u64_of};
-ghost use Rattle.decision_files.specs.Decided.{stated_byte_range, byte_range_said};
+ghost use Rattle.decision_files.specs.Json.{json_text_in_decision_file, json_values_in_decision_file, json_list_in_decision_file, json_number_in_decision_file};
+ghost use Rattle.decision_files.specs.Decided.{byte_range_in_decision_file, byte_range_said_by_decision_file};
 
 use playlist_model::ByteRange;
 use pod_store::{DecisionFault, DecisionKind, Place};
 use serde_json::Value;
 
 /// The text under `name` in the object `value`, if there is one.
-pub fn text_at<'a>(value: &'a Value, name: &str) -> Option<&'a str>
-    ensures { option_map (λ text. text.now) result ≡ text_at name.now (view value.now) }
+pub fn json_text_in_decision_file<'a>(value: &'a Value, name: &str) -> Option<&'a str>
+    ensures { option_map (λ text. text.now) result ≡ json_text_in_decision_file name.now (view value.now) }
 {
     match value.get(name) {
         Some(found) => found.as_str(),
@@ -20,8 +20,8 @@ pub fn text_at<'a>(value: &'a Value, name: &str) -> Option<&'a str>
 
 #[tactic(auto, using(crate::proofs::Lists::list_of_items))]
 /// The values of the array `value`; `None` if it is none.
-pub fn values_of(value: &Value) -> Option<&[Value]>
-    ensures { option_map (λ list. map view list.now) result ≡ values_of (view value.now) }
+pub fn json_values_in_decision_file(value: &Value) -> Option<&[Value]>
+    ensures { option_map (λ list. map view list.now) result ≡ json_values_in_decision_file (view value.now) }
 {
     match value.as_array() {
         Some(list) => Some(list.as_slice()),
@@ -30,27 +30,27 @@ pub fn values_of(value: &Value) -> Option<&[Value]>
 }
 
 /// The values of the array under `name` in the object `value`, if there is one.
-pub fn list_at<'a>(value: &'a Value, name: &str) -> Option<&'a [Value]>
-    ensures { option_map (λ list. map view list.now) result ≡ list_at name.now (view value.now) }
+pub fn json_list_in_decision_file<'a>(value: &'a Value, name: &str) -> Option<&'a [Value]>
+    ensures { option_map (λ list. map view list.now) result ≡ json_list_in_decision_file name.now (view value.now) }
 {
     match value.get(name) {
-        Some(found) => values_of(found),
+        Some(found) => json_values_in_decision_file(found),
         None => None,
     }
 }
 
-fn u64_of(value: &Value) -> Option<u64>
-    ensures { result ≡ u64_of (view value.now) }
+fn json_number_in_decision_file(value: &Value) -> Option<u64>
+    ensures { result ≡ json_number_in_decision_file (view value.now) }
 {
     value.as_u64()
 }
 
-fn stated_byte_range(
+fn byte_range_in_decision_file(
     place: Place,
     offset: Option<u64>,
     length: Option<u64>,
 ) -> Result<ByteRange, DecisionFault>
-    ensures { result ≡ stated_byte_range place offset length }
+    ensures { result ≡ byte_range_in_decision_file place offset length }
 {
     let Some(offset) = offset else {
         return Err(place.fault(DecisionKind::Shape));
@@ -66,13 +66,20 @@ fn stated_byte_range(
 
 /// The byte range that `offset` and `length` of the object `value` state, in bytes (RFC 8216, section 4.3.2.2): both
 /// are there, or neither. The faults, at `place`: `Shape` if one alone is there, then those of the two numbers.
-pub fn byte_range_said(place: Place, value: &Value) -> Result<Option<ByteRange>, DecisionFault>
-    ensures { result ≡ byte_range_said place (view value.now) }
+pub fn byte_range_said_by_decision_file(
+    place: Place,
+    value: &Value,
+) -> Result<Option<ByteRange>, DecisionFault>
+    ensures { result ≡ byte_range_said_by_decision_file place (view value.now) }
 {
     match (value.get("offset"), value.get("length")) {
         (None, None) => Ok(None),
         (Some(offset), Some(length)) => {
-            let byte_range = stated_byte_range(place, u64_of(offset), u64_of(length))?;
+            let byte_range = byte_range_in_decision_file(
+                place,
+                json_number_in_decision_file(offset),
+                json_number_in_decision_file(length),
+            )?;
             Ok(Some(byte_range))
         }
         _ => Err(place.fault(DecisionKind::Shape)),

@@ -6,8 +6,8 @@ use Rattle.fixed_duration.specs.declared.DurationFault.TheVariants.{Empty, NotDi
 use Rattle.fixed_duration.specs.Text.{is_empty, is_decimal, whole_part, fraction_part, value_of_digits, nine_digits, fraction_digits}
 
 -- the whole seconds that a text says
-abbrev pub seconds_of : List ℕ → ℕ
-seconds_of text = value_of_digits (whole_part text)
+abbrev pub whole_seconds_of_duration : List ℕ → ℕ
+whole_seconds_of_duration text = value_of_digits (whole_part text)
 
 -- the nanoseconds that its fraction says: digits after the ninth are dropped
 abbrev pub fraction_of : List ℕ → ℕ
@@ -18,8 +18,8 @@ abbrev pub duration_of : List ℕ → Result ℕ DurationFault
 duration_of text =
     if is_empty text then Err Empty
     else (if not (is_decimal text) then Err NotDigits
-    else (if nat_le (10 ^ 6) (seconds_of text) then Err TooLarge
-    else Ok (seconds_of text * 10 ^ 9 + fraction_of text)))
+    else (if nat_le (10 ^ 6) (whole_seconds_of_duration text) then Err TooLarge
+    else Ok (whole_seconds_of_duration text * 10 ^ 9 + fraction_of text)))
 
 -- a point and the digits after it, up to the last that is not 0; nothing if all nine are 0
 abbrev pub fraction_text : ℕ → List ℕ

@@ -2,7 +2,7 @@
 //! (RFC 8216, section 4.3.2.1, EXTINF): digits with at most one point.
 #![tactic(auto)]
 
-ghost use Rattle.std.specs.Prelude.{◌≡◌, ℕ, ◌+◌, ◌*◌, ◌/◌, ◌^◌, ◌<◌, ◌≤◌, ◌++◌, Ok, OnOk, OnErr, IsTrue, decimal, length, take, string_bytes, string_len, string_capacity};
+ghost use Rattle.std.specs.Prelude.{◌≡◌, ℕ, ◌+◌, ◌*◌, ◌/◌, ◌^◌, ◌<◌, ◌≤◌, ◌++◌, Ok, OnErr, IsTrue, decimal, length, take, string_bytes, string_len, string_capacity};
 ghost use Rattle.std.specs.Option.{SomeIff};
 ghost use Rattle.fixed_duration.specs.Text.{whole_part, fraction_part, are_digits, value_of_digits, nine_digits, fraction_digits};
 ghost use Rattle.fixed_duration.specs.Duration.{duration_of, duration_text, rounded_seconds_of};
@@ -91,14 +91,14 @@ impl Nanos {
         if text.is_empty() {
             return Err(DurationFault::Empty);
         }
-        let (whole, fraction) = parts_of(text);
-        if !are_all_digits(whole.as_bytes()) || !are_all_digits(fraction.as_bytes()) {
+        let (whole, fraction) = duration_text_parts(text);
+        if !are_duration_digits(whole.as_bytes()) || !are_duration_digits(fraction.as_bytes()) {
             return Err(DurationFault::NotDigits);
         }
         if whole.is_empty() && fraction.is_empty() {
             return Err(DurationFault::NotDigits);
         }
-        let Some(seconds) = seconds_of(whole.as_bytes()) else {
+        let Some(seconds) = whole_seconds_of_duration(whole.as_bytes()) else {
             return Err(DurationFault::TooLarge);
         };
         let nanos = nanos_of_fraction(fraction.as_bytes());
@@ -120,7 +120,7 @@ impl Nanos {
         // Most segments last a few whole seconds.
         if seconds < 100 && rest == 0 {
             out.reserve(2)?;
-            push_short(out, seconds as u8);
+            push_short_duration_number(out, seconds as u8);
             return Ok(());
         }
         let mut buffer = Buffer::new();
@@ -129,7 +129,7 @@ impl Nanos {
         out.push_str(whole).unwrap();
         if rest != 0 {
             out.push('.').unwrap();
-            push_fraction(out, rest);
+            push_duration_fraction(out, rest);
         }
         Ok(())
     }
@@ -157,7 +157,7 @@ impl Nanos {
 }
 
 // What stands before the first point and after it. Without one the whole text stands before it.
-fn parts_of(text: &str) -> (&str, &str)
+fn duration_text_parts(text: &str) -> (&str, &str)
     ensures whole { result.0.now ≡ whole_part text.now }
     ensures fraction { result.1.now ≡ fraction_part text.now }
 {
@@ -165,14 +165,14 @@ fn parts_of(text: &str) -> (&str, &str)
 }
 
 /// Whether each of `bytes` is a decimal digit. Takes no memory.
-pub fn are_all_digits(bytes: &[u8]) -> bool
+pub fn are_duration_digits(bytes: &[u8]) -> bool
     ensures { result ≡ are_digits bytes.now }
 {
     bytes.iter().all(|b| b.is_ascii_digit())
 }
 
 // The number that digits write, if it is below the limit. It stops there, so any number of digits may come.
-fn seconds_of(digits: &[u8]) -> Option<u64>
+fn whole_seconds_of_duration(digits: &[u8]) -> Option<u64>
     requires { IsTrue (are_digits digits.now) }
     ensures { SomeIff result (value_of_digits digits.now < 10 ^ 6) (value_of_digits digits.now) }
 {
@@ -187,7 +187,7 @@ fn seconds_of(digits: &[u8]) -> Option<u64>
 }
 
 // Ten to the power of so many places.
-fn power_of_ten(places: usize) -> u32
+fn power_of_ten_nanos(places: usize) -> u32
     requires { places ≤ 9 }
     ensures { result ≡ 10 ^ places }
 {
@@ -195,7 +195,7 @@ fn power_of_ten(places: usize) -> u32
 }
 
 /// The number that `digits` write, which are nine at most. Takes no memory.
-pub fn number_of(digits: &[u8]) -> u32
+pub fn nanos_number_of_digits(digits: &[u8]) -> u32
     requires digits { IsTrue (are_digits digits.now) }
     requires few { length digits.now ≤ 9 }
     ensures value { result ≡ value_of_digits digits.now }
@@ -208,7 +208,7 @@ pub fn number_of(digits: &[u8]) -> u32
     value
 }
 
-fn first_nine(digits: &[u8]) -> &[u8]
+fn first_nine_fraction_digits(digits: &[u8]) -> &[u8]
     ensures { result.now ≡ take 9 digits.now }
 {
     digits.get(..9).unwrap_or(digits)
@@ -221,12 +221,12 @@ pub fn nanos_of_fraction(digits: &[u8]) -> u32
     ensures value { result ≡ value_of_digits (nine_digits digits.now) }
     ensures below { result < 10 ^ 9 }
 {
-    let digits = first_nine(digits);
-    number_of(digits) * power_of_ten(9 - digits.len())
+    let digits = first_nine_fraction_digits(digits);
+    nanos_number_of_digits(digits) * power_of_ten_nanos(9 - digits.len())
 }
 
 // Appends a digit.
-fn push_digit(out: &mut String, digit: u8)
+fn push_duration_digit(out: &mut String, digit: u8)
     requires digit { digit < 10 }
     requires room { string_len out.old < string_capacity out.old }
     ensures text { string_bytes out.new ≡ string_bytes out.old ++ decimal digit }
@@ -237,21 +237,21 @@ fn push_digit(out: &mut String, digit: u8)
 }
 
 // Appends a number of at most two digits.
-fn push_short(out: &mut String, number: u8)
+fn push_short_duration_number(out: &mut String, number: u8)
     requires short { number < 100 }
     requires room { string_len out.old + 2 ≤ string_capacity out.old }
     ensures { string_bytes out.new ≡ string_bytes out.old ++ decimal number }
 {
     if number < 10 {
-        push_digit(out, number);
+        push_duration_digit(out, number);
         return;
     }
-    push_digit(out, number / 10);
-    push_digit(out, number % 10);
+    push_duration_digit(out, number / 10);
+    push_duration_digit(out, number % 10);
 }
 
 // Appends the digits of a fraction of a second, up to the last that is not 0.
-fn push_fraction(out: &mut String, nanos: u64)
+fn push_duration_fraction(out: &mut String, nanos: u64)
     requires below { nanos < 10 ^ 9 }
     requires room { string_len out.old + 9 ≤ string_capacity out.old }
     ensures { string_bytes out.new ≡ string_bytes out.old ++ fraction_digits 9 nanos }

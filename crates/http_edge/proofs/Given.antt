@@ -57,7 +57,7 @@ left_out : (c : Channel) (bytes : List ℕ) (given : List channel.Given) (fault 
     → answer_read c.tolerance (told_by c.base c.tolerance given) (reading limited c.base bytes) ≡ Err fault → Represents c (refreshed bytes ∷ given) → Represents c given
 left_out c bytes given fault e s =
     let same = untold c.tolerance (events_of c.base given) (reading limited c.base bytes) fault e in
-    record { kept = s.kept ∙ ap kept_of same; text = s.text ∙ ap text_after same; typed = s.typed.1 }
+    record { kept = s.kept ∙ ap kept_of same; text = s.text ∙ ap text_after same }
 
 -- ---- a refresh
 

@@ -13,7 +13,7 @@ use Rattle.channel_api.specs.declared.channel_body.BodyFault.{BodyFault}
 use Rattle.channel_api.specs.declared.routes.Resource.{Resource}
 use Rattle.http_edge.specs.Channels.{GivenChannel, with_event}
 use Rattle.channel_api.specs.Replies.{exists}
-use Rattle.channel_api.specs.Routes.{path_of, route_of}
+use Rattle.channel_api.specs.Routes.{route_path_of, route_of}
 use Rattle.http_edge.specs.Table.{Table, TableEntry, Turn, unmoved, event_turn, given_at, put_given, without_channel, removed, read_turn, made, tried, added, fresh, turn_at, routed, turn, table_of, reply_to}
 use Rattle.http_edge.specs.Isolation.{is_route_of, is_on, replies_on, was_served, IsIsolated}
 
@@ -221,7 +221,7 @@ pub served_step : (x : List ℕ) (r : Request) (before left : List Request) (rep
     → Alike x before (table_of before) replies left
     → Alike x (r ∷ before) (turn (table_of before) r).table (reply_to before r ∷ replies) (r ∷ left)
 served_step x r before left replies on served h =
-    let same = turn_this x r (route_of (path_of r.target)) (table_of before) on served ∙ ap (λ t. turn t r) h.0 in (
+    let same = turn_this x r (route_of (route_path_of r.target)) (table_of before) on served ∙ ap (λ t. turn t r) h.0 in (
       ap (λ (t : Turn). t.table) same,
       ap (λ (t : Turn). t.reply ∷ replies) same ∙ ap (λ l. reply_to left r ∷ l) h.1
           ∙ sym (ap (λ c. cond c (reply_to left r ∷ replies_on x left) (replies_on x left)) on),

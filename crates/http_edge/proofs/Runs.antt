@@ -7,7 +7,7 @@ use Rattle.live_channel.specs.Channel as channel
 use Rattle.http_messages.specs.declared.message.Request.{Request}
 use Rattle.http_messages.specs.Replies.{bare}
 use Rattle.channel_api.specs.declared.routes.Resource.{Resource}
-use Rattle.channel_api.specs.Routes.{path_of, route_of}
+use Rattle.channel_api.specs.Routes.{route_path_of, route_of}
 use Rattle.http_edge.specs.Table.{Table, turn_at, routed, turn, table_of}
 use Rattle.http_edge.specs.Edges.{NamedChannel, RepresentsRequests, AreGiven, TakesTurn}
 use Rattle.http_edge.specs.Isolation.{is_on, was_served, Exchange, ExchangesLeadTo, is_served_on, asked_of, answered_of, RunsAreIsolated}
@@ -34,8 +34,8 @@ record Follows (x : List ℕ) (served : List Exchange) (last : List NamedChannel
 -- what is left out of a channel's exchanges leaves its entries
 entries_left : (b : Bool) (x : List ℕ) (r : Request) (table : Table) → is_on x r ≡ b → (b && was_served (turn table r).reply) ≡ false
     → picked x (turn table r).table ≡ picked x table
-entries_left true x r table on is = ap (picked x) (turn_left r (route_of (path_of r.target)) table is)
-entries_left false x r table on is = turn_other x r (route_of (path_of r.target)) table on
+entries_left true x r table on is = ap (picked x) (turn_left r (route_of (route_path_of r.target)) table is)
+entries_left false x r table on is = turn_other x r (route_of (route_path_of r.target)) table on
 
 module _ (x : List ℕ) (e : Exchange) (served : List Exchange) (old new : List NamedChannel) (h : Follows x served old) where
   abbrev table : Table

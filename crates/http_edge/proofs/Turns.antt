@@ -18,9 +18,9 @@ use Rattle.channel_api.specs.declared.named.Naming.TheVariants as naming
 use Rattle.channel_api.specs.Named.{has_this_key, PutsNamed}
 use Rattle.channel_api.proofs.Names.{none_is}
 use Rattle.http_edge.specs.Channels.{GivenChannel, IsGiven, with_event}
-use Rattle.channel_api.specs.Replies.{not_found, bad_tolerance, exists, live_reply, why_text, text_reply}
+use Rattle.channel_api.specs.Replies.{not_found, bad_tolerance, exists, live_reply, why_text, reply_of_text}
 use Rattle.http_edge.specs.Replies.{live_owed, why_owed}
-use Rattle.http_edge.specs.Inner.Replies.{channel_fault_reply}
+use Rattle.http_edge.specs.Inner.Replies.{edge_reply_of_channel_fault}
 use Rattle.channel_spec.specs.Limits.{max_tolerance}
 use Rattle.http_edge.specs.Table.{Table, TableEntry, Turn, turn, table_of, unmoved, event_turn, given_at, put_given, without_channel, removed, read_turn, made, tried, added, fresh}
 use Rattle.http_edge.specs.Inner.Events.{TakesOne, TakesEvent}
@@ -83,7 +83,7 @@ pub live_turn : {A E : Type 0} (es : Entries A) (table : Table) (name : List ℕ
 live_turn es table name k r kept s there q now = grind (arith, some_at)
 
 pub why_turn : {A E : Type 0} (es : Entries A) (table : Table) (name : List ℕ) (k : channel.Channel) (r : Result Reply E) (kept : List NamedChannel)
-    → AreGiven (map named_channel es) table → Some k ≡ lookup (has_this_key name) es → IfOk r (λ y. y ≡ text_reply (why_text (explained k.kept) k.kept.breaks)) → AreGiven kept table
+    → AreGiven (map named_channel es) table → Some k ≡ lookup (has_this_key name) es → IfOk r (λ y. y ≡ reply_of_text (why_text (explained k.kept) k.kept.breaks)) → AreGiven kept table
     → TakenTurn (read_turn table why_owed (given_at name table)) table r kept
 why_turn es table name k r kept s there q now = grind (arith, some_at, why_is)
 
@@ -129,7 +129,7 @@ module _ (table : Table) (name base : List ℕ) (tolerance : ℕ) (said : Result
 
   pub channel_refused : {E : Type 0} (other : List ℕ) (cause : ChannelFault) (r : Result Reply E) (kept : List NamedChannel) → other ≡ base
       → (cause ≡ fault.BadBase → base_of other ≡ None) → (cause ≡ fault.BadTolerance → IsSome (base_of other) × (10000000000 < tolerance))
-      → IfOk r (λ y. y ≡ channel_fault_reply cause) → (cause ≡ fault.OutOfMemory → IsErr r) → AreGiven kept table → TakenTurn (made table name said) table r kept
+      → IfOk r (λ y. y ≡ edge_reply_of_channel_fault cause) → (cause ≡ fault.OutOfMemory → IsErr r) → AreGiven kept table → TakenTurn (made table name said) table r kept
   channel_refused other cause r kept n b t q m s = grind arith
 
   pub made_is_added : (parts : Parts) → base_of base ≡ Some parts → tolerance ≤ 10000000000 → made table name said ≡ added table name parts tolerance

@@ -4,7 +4,7 @@ use Rattle.std.specs.List.{list_all}
 use Rattle.http_messages.specs.declared.message.Request.{Request}
 use Rattle.http_messages.specs.declared.message.Reply.{Reply}
 use Rattle.channel_api.specs.declared.routes.Resource.{Resource}
-use Rattle.channel_api.specs.Routes.{is_channel_name, path_of, path_to, route_of}
+use Rattle.channel_api.specs.Routes.{is_channel_name, route_path_of, path_to, route_of}
 use Rattle.http_edge.specs.Table.{Table, reply_to, turn, turn_at}
 use Rattle.http_edge.specs.Edges.{NamedChannel, RepresentsRequests, AnswersRequest}
 
@@ -14,7 +14,7 @@ is_route_of name (Some route) = bytes_eq name route.0
 
 -- a request on the channel of this name
 abbrev pub is_on : List ℕ → Request → Bool
-is_on name r = is_route_of name (route_of (path_of r.target))
+is_on name r = is_route_of name (route_of (route_path_of r.target))
 
 -- the replies to the requests on a channel, the newest first
 abbrev pub replies_on : List ℕ → List Request → List Reply
@@ -64,10 +64,10 @@ RunsAreIsolated = (name : List ℕ) (first last : List NamedChannel) (run : List
 
 -- a request whose path is one of a channel's name is on this channel
 abbrev pub PathsAreOnTheirChannels : Type 0
-PathsAreOnTheirChannels = (r : Request) (name : List ℕ) (resource : Resource) → is_channel_name name ≡ true → path_of r.target ≡ path_to name resource
+PathsAreOnTheirChannels = (r : Request) (name : List ℕ) (resource : Resource) → is_channel_name name ≡ true → route_path_of r.target ≡ path_to name resource
     → is_on name r ≡ true
 
 -- and does what a request does for what it names of this channel
 abbrev pub PathsLeadToTheirChannels : Type 0
 PathsLeadToTheirChannels = (table : Table) (r : Request) (name : List ℕ) (resource : Resource) → is_channel_name name ≡ true
-    → path_of r.target ≡ path_to name resource → turn table r ≡ turn_at table r name resource
+    → route_path_of r.target ≡ path_to name resource → turn table r ≡ turn_at table r name resource

@@ -7,7 +7,7 @@ use Rattle.live_channel.specs.declared.channel.Refreshed.{Refreshed}
 use Rattle.live_channel.specs.Channel.{answer_read, after_bytes, owed_why}
 use Rattle.http_messages.specs.declared.message.Reply.{Reply}
 use Rattle.http_messages.specs.Replies.{bare}
-use Rattle.channel_api.specs.Replies.{refused_refresh, decisions_reply, live_reply, why_text, text_reply}
+use Rattle.channel_api.specs.Replies.{refused_refresh, decisions_reply, live_reply, why_text, reply_of_text}
 use Rattle.http_edge.specs.Channels.{GivenChannel, told_of, owed_playlist_text}
 
 -- ---- refreshes
@@ -33,4 +33,4 @@ live_owed given = live_reply (owed_playlist_text given)
 
 -- the breaks that looking back over all refreshes finds known, each with the reason by all that was told
 abbrev pub why_owed : GivenChannel → Reply
-why_owed given = text_reply (why_text (owed_why (told_of given)) (known (told_of given).accepted))
+why_owed given = reply_of_text (why_text (owed_why (told_of given)) (known (told_of given).accepted))

@@ -16,7 +16,7 @@ use Rattle.http_edge.specs.Channels.{GivenChannel, with_event}
 use Rattle.channel_api.specs.ChannelBody.{body_said}
 use Rattle.channel_api.specs.Replies.{not_found, not_allowed, body_fault_reply, bad_base, bad_tolerance, exists}
 use Rattle.http_edge.specs.Replies.{refresh_owed, decisions_owed, live_owed, why_owed}
-use Rattle.channel_api.specs.Routes.{path_of, route_of}
+use Rattle.channel_api.specs.Routes.{route_path_of, route_of}
 
 -- ---- the table
 
@@ -113,24 +113,24 @@ routed table r (Some route) = turn_at table r route.0 route.1
 
 -- what a request is answered, and what the table is afterwards
 abbrev pub turn : Table → Request → Turn
-turn table r = routed table r (route_of (path_of r.target))
+turn table r = routed table r (route_of (route_path_of r.target))
 
 -- ---- what stands already
 
-abbrev pub is_live : Resource → Bool
-is_live Channel = false
-is_live Origin = false
-is_live Decisions = false
-is_live Live = true
-is_live Why = false
+abbrev pub is_live_resource_of_edge : Resource → Bool
+is_live_resource_of_edge Channel = false
+is_live_resource_of_edge Origin = false
+is_live_resource_of_edge Decisions = false
+is_live_resource_of_edge Live = true
+is_live_resource_of_edge Why = false
 
 abbrev pub is_to_live : Option (List ℕ × Resource) → Bool
 is_to_live None = false
-is_to_live (Some route) = is_live route.1
+is_to_live (Some route) = is_live_resource_of_edge route.1
 
 -- it reads the playlist that a channel wrote last, which stands there already
 abbrev pub reads_playlist : Request → Bool
-reads_playlist r = has_method (codes "GET") r && is_to_live (route_of (path_of r.target))
+reads_playlist r = has_method (codes "GET") r && is_to_live (route_of (route_path_of r.target))
 
 -- ---- lists of requests, the newest first
 

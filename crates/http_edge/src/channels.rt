@@ -7,11 +7,11 @@ ghost use Rattle.http_edge.specs.Table.{turn_at, made, added, removed, read_turn
 ghost use Rattle.http_edge.specs.Edges.{TakesTurnOf};
 ghost use Rattle.http_edge.specs.Inner.Events.{event_at};
 
-use crate::events::{decide, live, refresh};
-use crate::replies::{channel_fault_reply, why_reply};
+use crate::events::{decide_on_edge, live_playlist_of_edge, refresh_on_edge};
+use crate::replies::{edge_reply_of_channel_fault, edge_why_reply};
 use channel_api::{
-    Naming, Resource, body_fault_reply, line, not_allowed, not_found, put_named, read_wanted,
-    remove_named,
+    Naming, Resource, body_fault_reply, not_allowed, not_found, put_named, read_wanted,
+    remove_named, reply_line,
 };
 use http::StatusCode;
 use http_messages::{Allow, Reply, Request};
@@ -90,7 +90,7 @@ impl Channels {
         };
         match Channel::new(alloc, self.hashing, wanted.base.as_str(), wanted.tolerance) {
             Ok(channel) => self.add(name, channel),
-            Err(fault) => channel_fault_reply(alloc, fault),
+            Err(fault) => edge_reply_of_channel_fault(alloc, fault),
         }
     }
 
@@ -104,7 +104,7 @@ impl Channels {
         let alloc = self.alloc;
         match put_named(alloc, &mut self.by_name, MAX_CHANNELS, name, channel)? {
             Naming::Done => Ok(Reply::bare(StatusCode::CREATED)),
-            Naming::Taken => line(alloc, StatusCode::CONFLICT, "channel exists"),
+            Naming::Taken => reply_line(alloc, StatusCode::CONFLICT, "channel exists"),
             Naming::Full => Ok(Reply::bare(StatusCode::SERVICE_UNAVAILABLE)),
         }
     }
@@ -127,7 +127,7 @@ impl Channels {
         let Some(channel) = self.by_name.get_mut(name) else {
             return not_found(alloc);
         };
-        refresh(alloc, channel, body)
+        refresh_on_edge(alloc, channel, body)
     }
 
     fn decide(&mut self, name: &str, body: &[u8]) -> Result<Reply, AllocError>
@@ -138,7 +138,7 @@ impl Channels {
         let Some(channel) = self.by_name.get_mut(name) else {
             return not_found(alloc);
         };
-        decide(alloc, channel, body)
+        decide_on_edge(alloc, channel, body)
     }
 
     fn live(&self, name: &str) -> Result<Reply, AllocError>
@@ -148,7 +148,7 @@ impl Channels {
         let Some(channel) = self.by_name.get(name) else {
             return not_found(self.alloc);
         };
-        live(self.alloc, channel)
+        live_playlist_of_edge(self.alloc, channel)
     }
 
     fn why(&self, name: &str) -> Result<Reply, AllocError>
@@ -158,6 +158,6 @@ impl Channels {
         let Some(channel) = self.by_name.get(name) else {
             return not_found(self.alloc);
         };
-        why_reply(self.alloc, channel)
+        edge_why_reply(self.alloc, channel)
     }
 }

@@ -1,6 +1,6 @@
 //! The edge: requests on channels, each applied as a whole.
 ghost use Rattle.std.specs.Prelude.{◌≡◌, [], IfOk};
-ghost use Rattle.http_edge.specs.Table.{turn, is_live, reads_playlist};
+ghost use Rattle.http_edge.specs.Table.{turn, is_live_resource_of_edge, reads_playlist};
 ghost use Rattle.http_edge.specs.Edges.{RepresentsRequests, AnswersRequest, TakesTurnOf};
 
 use crate::channels::Channels;
@@ -30,8 +30,8 @@ impl Model for Edge {
     ghost invariant = { λ e. RepresentsSome e.channels };
 }
 
-fn is_live(resource: Resource) -> bool
-    ensures { result ≡ is_live resource }
+fn is_live_resource_of_edge(resource: Resource) -> bool
+    ensures { result ≡ is_live_resource_of_edge resource }
 {
     resource == Resource::Live
 }
@@ -79,7 +79,7 @@ impl Edge {
             return false;
         }
         match self.routes.find(request.target.as_str()) {
-            Some((_, resource)) => is_live(resource),
+            Some((_, resource)) => is_live_resource_of_edge(resource),
             None => false,
         }
     }

@@ -14,7 +14,7 @@ use pod_store::DecisionKind;
 use std::alloc::{AllocError, Global};
 
 // Whether an allocation failed.
-fn is_out_of_memory(fault: RefreshFault) -> bool
+fn is_edge_out_of_memory(fault: RefreshFault) -> bool
     ensures { result ≡ is_out_of_memory (Err fault) }
 {
     match fault {
@@ -25,14 +25,18 @@ fn is_out_of_memory(fault: RefreshFault) -> bool
 
 /// Gives `body`, the origin's playlist, to `channel`. The reply is 204, or 422 or 409 with the fault. Fails only if
 /// an allocation fails; `channel` is then as it was.
-pub fn refresh(alloc: Global, channel: &mut Channel, body: &[u8]) -> Result<Reply, AllocError>
+pub fn refresh_on_edge(
+    alloc: Global,
+    channel: &mut Channel,
+    body: &[u8],
+) -> Result<Reply, AllocError>
     ensures { TakesEvent channel.old (refreshed body.now) (refresh_owed body.now) result
         channel.new }
 {
     match channel.refresh(alloc, body) {
         Ok(_) => Ok(Reply::bare(StatusCode::NO_CONTENT)),
         Err(fault) => {
-            if is_out_of_memory(fault) {
+            if is_edge_out_of_memory(fault) {
                 return Err(AllocError);
             }
             refused_refresh(alloc, fault)
@@ -42,7 +46,11 @@ pub fn refresh(alloc: Global, channel: &mut Channel, body: &[u8]) -> Result<Repl
 
 /// Gives `body`, a decision file, to `channel`. The reply is 204, or 422 or 409 with the fault. Fails only if an
 /// allocation fails; `channel` is then as it was.
-pub fn decide(alloc: Global, channel: &mut Channel, body: &[u8]) -> Result<Reply, AllocError>
+pub fn decide_on_edge(
+    alloc: Global,
+    channel: &mut Channel,
+    body: &[u8],
+) -> Result<Reply, AllocError>
     ensures { TakesEvent channel.old (decided body.now) (decisions_owed body.now) result
         channel.new }
 {
@@ -58,7 +66,7 @@ pub fn decide(alloc: Global, channel: &mut Channel, body: &[u8]) -> Result<Reply
 }
 
 /// The reply with the playlist that `channel` wrote last, or 404 if it wrote none. Fails only if an allocation fails.
-pub fn live(alloc: Global, channel: &Channel) -> Result<Reply, AllocError>
+pub fn live_playlist_of_edge(alloc: Global, channel: &Channel) -> Result<Reply, AllocError>
     ensures { IfOk result (λ reply. reply ≡ live_reply channel.now.text) }
 {
     let Some(text) = channel.shared_playlist()? else {

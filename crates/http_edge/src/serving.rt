@@ -89,7 +89,11 @@ impl From<ReceiveFault> for EdgeFault {
 }
 
 // Writes a reply, or as much of it as the sink takes.
-fn put_reply<K: Sink>(reply: &Reply, with_body: bool, sink: &mut K) -> Result<Served, EdgeFault>
+fn put_edge_reply<K: Sink>(
+    reply: &Reply,
+    with_body: bool,
+    sink: &mut K,
+) -> Result<Served, EdgeFault>
     ensures ok { OnOk result (TookAll (K.stand sink.old) (K.stand sink.new)
         (text_sent with_body reply.now)) }
     ensures status { IfOk result (λ served. served.status ≡ reply.now.status) }
@@ -156,5 +160,5 @@ pub fn serve<S: Source, K: Sink>(
 {
     let asked = receive(alloc, source)?;
     let answer = reply_to(alloc, edge, asked)?;
-    put_reply(&answer.reply, answer.with_body, sink)
+    put_edge_reply(&answer.reply, answer.with_body, sink)
 }

@@ -7,7 +7,7 @@ use Rattle.byte_streams.specs.Stands.{SinkStand, TookAll, FailedAfterFront}
 use Rattle.std.proofs.Math.Seq.{take-append-add}
 use Rattle.byte_streams.specs.Handed.{TookFront}
 use Rattle.http_messages.specs.declared.message.Reply.{Reply}
-use Rattle.http_messages.specs.Replies.{head_text, body_sent, text_sent}
+use Rattle.http_messages.specs.Replies.{head_text, reply_body_sent, text_sent}
 
 take_same : (k n : ℕ) (xs : List ℕ) → k ≡ n → take k xs ≡ take n xs
 take_same k n xs e = ap (λ m. take m xs) e
@@ -33,6 +33,6 @@ pub front_of_both : {A E : Type 0} (r : Result A E) (a b c : SinkStand) (one two
 front_of_both r a b c one two h g = grind (arith, front_of_second)
 
 -- the text of a reply, from its head as it is handed out
-pub same_text : (bytes text head body : List ℕ) (with_body : Bool) (reply : Reply) → bytes ≡ text → text ≡ head → head ≡ head_text reply → body ≡ body_sent with_body reply
+pub same_text : (bytes text head body : List ℕ) (with_body : Bool) (reply : Reply) → bytes ≡ text → text ≡ head → head ≡ head_text reply → body ≡ reply_body_sent with_body reply
     → bytes ++ body ≡ text_sent with_body reply
 same_text bytes text head body with_body reply a b c d = ap (λ l. l ++ body) (a ∙ b ∙ c) ∙ ap (λ l. head_text reply ++ l) d

@@ -17,8 +17,8 @@ abbrev pub bare : ℕ → Reply
 bare status = record { status = status; allow = None; content = None }
 
 -- a reply that is a text
-abbrev pub plain_reply : ℕ → List ℕ → Reply
-plain_reply status text = record { status = status; allow = None; content = Some (record { media = Plain; text = text }) }
+abbrev pub plain_http_reply : ℕ → List ℕ → Reply
+plain_http_reply status text = record { status = status; allow = None; content = Some (record { media = Plain; text = text }) }
 
 abbrev pub content_text : Option Content → List ℕ
 content_text None = []
@@ -39,7 +39,7 @@ refusal_text TooLarge = codes "too large\n"
 
 -- the reply to a request that is refused
 abbrev pub refusal_reply : Refusal → Reply
-refusal_reply refusal = plain_reply (refusal_status refusal) (refusal_text refusal)
+refusal_reply refusal = plain_http_reply (refusal_status refusal) (refusal_text refusal)
 
 -- ---- their bytes
 
@@ -54,22 +54,22 @@ reason_of status = unwrap_or (reason_phrase status) []
 abbrev pub status_line : ℕ → List ℕ
 status_line status = codes "HTTP/1.1 " ++ code_digits status ++ codes " " ++ reason_of status ++ crlf
 
-abbrev pub media_text : ContentType → List ℕ
-media_text Playlist = codes "application/vnd.apple.mpegurl"
-media_text Plain = codes "text/plain; charset=utf-8"
+abbrev pub http_media_type_text : ContentType → List ℕ
+http_media_type_text Playlist = codes "application/vnd.apple.mpegurl"
+http_media_type_text Plain = codes "text/plain; charset=utf-8"
 
 abbrev pub content_type_line : Option Content → List ℕ
 content_type_line None = []
-content_type_line (Some content) = codes "Content-Type: " ++ media_text content.media ++ crlf
+content_type_line (Some content) = codes "Content-Type: " ++ http_media_type_text content.media ++ crlf
 
-abbrev pub allow_text : Allow → List ℕ
-allow_text PutDelete = codes "PUT, DELETE"
-allow_text Put = codes "PUT"
-allow_text Get = codes "GET"
+abbrev pub http_allow_text : Allow → List ℕ
+http_allow_text PutDelete = codes "PUT, DELETE"
+http_allow_text Put = codes "PUT"
+http_allow_text Get = codes "GET"
 
 abbrev pub allow_line : Option Allow → List ℕ
 allow_line None = []
-allow_line (Some allow) = codes "Allow: " ++ allow_text allow ++ crlf
+allow_line (Some allow) = codes "Allow: " ++ http_allow_text allow ++ crlf
 
 -- 204 has no content and states no length (RFC 9110, 8.6)
 abbrev pub length_line : ℕ → List ℕ → List ℕ
@@ -85,9 +85,9 @@ head_text r =
 abbrev pub sends_body : List ℕ → Bool
 sends_body method = not (bytes_eq method (codes "HEAD"))
 
-abbrev pub body_sent : Bool → Reply → List ℕ
-body_sent with_body r = if with_body then reply_body r else []
+abbrev pub reply_body_sent : Bool → Reply → List ℕ
+reply_body_sent with_body r = if with_body then reply_body r else []
 
 -- what is written of a reply
 abbrev pub text_sent : Bool → Reply → List ℕ
-text_sent with_body r = head_text r ++ body_sent with_body r
+text_sent with_body r = head_text r ++ reply_body_sent with_body r

@@ -19,32 +19,32 @@ abbrev pub HeaderField : Type 0
 HeaderField = List ℕ × List ℕ
 
 -- names of fields are the same in any case (RFC 9110, 5.1)
-abbrev pub is_named : List ℕ → HeaderField → Bool
-is_named name field = str_eq_ignore_ascii_case field.0 name
+abbrev pub is_header_field_named : List ℕ → HeaderField → Bool
+is_header_field_named name field = str_eq_ignore_ascii_case field.0 name
 
 -- a body of the stated length, if that is a number
-abbrev pub body_of_length : Option ℕ → Framing
-body_of_length None = Refused BadRequest
-body_of_length (Some n) = if nat_lt body_limit n then Refused TooLarge else Body n
+abbrev pub message_body_of_length : Option ℕ → Framing
+message_body_of_length None = Refused BadRequest
+message_body_of_length (Some n) = if nat_lt body_limit n then Refused TooLarge else Body n
 
 -- the length has to be stated, and once
-abbrev pub stated_by : List HeaderField → Framing
-stated_by [] = Refused LengthRequired
-stated_by (field ∷ []) = body_of_length (decimal_of field.1)
-stated_by (field ∷ other ∷ more) = Refused BadRequest
+abbrev pub body_length_stated_by_fields : List HeaderField → Framing
+body_length_stated_by_fields [] = Refused LengthRequired
+body_length_stated_by_fields (field ∷ []) = message_body_of_length (decimal_of field.1)
+body_length_stated_by_fields (field ∷ other ∷ more) = Refused BadRequest
 
 -- of the lengths that a body may have (RFC 9112, 6.3) the one that is stated is taken, and no transfer coding
 abbrev pub framing_of_put : List HeaderField → Framing
 framing_of_put fields =
-    if list_any (is_named (codes "transfer-encoding")) fields then Refused LengthRequired
-    else stated_by (filter (is_named (codes "content-length")) fields)
+    if list_any (is_header_field_named (codes "transfer-encoding")) fields then Refused LengthRequired
+    else body_length_stated_by_fields (filter (is_header_field_named (codes "content-length")) fields)
 
 -- no other method has a body that is read
-abbrev pub framing_of : List ℕ → List HeaderField → Framing
-framing_of method fields = if bytes_eq method (codes "PUT") then framing_of_put fields else Body 0
+abbrev pub request_framing_of : List ℕ → List HeaderField → Framing
+request_framing_of method fields = if bytes_eq method (codes "PUT") then framing_of_put fields else Body 0
 
 abbrev pub framing_said : RequestHead → Framing
-framing_said h = framing_of h.method (map name_and_value h.fields)
+framing_said h = request_framing_of h.method (map name_and_value h.fields)
 
 -- ---- a head at the front
 

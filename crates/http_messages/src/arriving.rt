@@ -3,7 +3,7 @@ ghost use Rattle.std.specs.Prelude.{◌≡◌, ◌++◌, [], length, IfOk};
 ghost use Rattle.http_messages.specs.Arriving.{IsArrived};
 
 use crate::head::Head;
-use crate::receiving::{Asked, Step, look, request_of};
+use crate::receiving::{Asked, Step, http_request_of, look_for_request};
 use std::alloc::{AllocError, Global};
 use std::marker::Model;
 
@@ -58,8 +58,8 @@ impl Arriving {
     {
         let Arriving { mut bytes, head } = self;
         bytes.extend_from_slice(piece)?;
-        match look(alloc, bytes.as_slice(), head)? {
-            Step::Whole(head, count) => Ok(Arrived::Whole(Asked::Request(request_of(
+        match look_for_request(alloc, bytes.as_slice(), head)? {
+            Step::Whole(head, count) => Ok(Arrived::Whole(Asked::Request(http_request_of(
                 bytes, head, count,
             )))),
             Step::Refused(refusal) => Ok(Arrived::Whole(Asked::Refused(refusal))),

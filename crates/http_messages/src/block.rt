@@ -11,7 +11,7 @@ pub type Block = ArrayVec<u8, BLOCK>;
 
 /// Puts `head` and then `body` into `block`, which is empty, and says whether they fit: both have at most 8,192 bytes
 /// together. If they don't, `block` may have a front of them.
-pub fn fill(block: &mut Block, head: &[u8], body: &[u8]) -> bool
+pub fn fill_message_block(block: &mut Block, head: &[u8], body: &[u8]) -> bool
     requires { block.old.items ≡ [] }
     ensures fits { IsTrue result ↔ (length head.now + length body.now ≤ BLOCK) }
     ensures filled { result ≡ true → block.new.items ≡ head.now ++ body.now }

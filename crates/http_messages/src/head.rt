@@ -1,12 +1,10 @@
 //! The head of a request.
-ghost use Rattle.std.specs.Prelude.{◌≡◌, ℕ, ◌≤◌, List, map, filter, length, drop, option_map, codes, true, IsTrue, Some, None, IfOk, IfSome, ◌<◌};
+ghost use Rattle.std.specs.Prelude.{◌≡◌, ◌≤◌, map, filter, length, codes, true, Some, None, IfOk, ◌<◌};
 ghost use Rattle.std.specs.List.{list_any};
-ghost use Rattle.std.specs.Str.{str_eq_ignore_ascii_case};
 ghost use Rattle.attr_list.specs.Numbers.{decimal_of};
 ghost use Rattle.httparse.specs.Borrowed.{header_parts};
-ghost use Rattle.http_messages.specs.Requests.{is_named, stated_by, body_of_length, framing_of_put, framing_of};
+ghost use Rattle.http_messages.specs.Requests.{is_header_field_named, body_length_stated_by_fields, message_body_of_length, request_framing_of};
 ghost use Rattle.http_messages.specs.Limits.{head_limit};
-ghost use Rattle.http_messages.specs.Received.{IsHeadAt};
 ghost use Rattle.http_messages.specs.Inner.Received.{IsReadAs};
 
 use crate::refusal::Refusal;
@@ -57,13 +55,13 @@ pub enum HeadRead {
 }
 
 // Whether `field` is called `name`: upper and lower case are the same (RFC 9110, section 5.1).
-fn is_named(field: &Header<'_>, name: &str) -> bool
-    ensures { result ≡ is_named name.now (header_parts field.now) }
+fn is_header_field_named(field: &Header<'_>, name: &str) -> bool
+    ensures { result ≡ is_header_field_named name.now (header_parts field.now) }
 {
     field.name.eq_ignore_ascii_case(name)
 }
 
-fn decimal_said(value: &[u8]) -> Option<u64>
+fn content_length_said(value: &[u8]) -> Option<u64>
     ensures { result ≡ decimal_of value.now }
 {
     match str::from_utf8(value) {
@@ -74,10 +72,10 @@ fn decimal_said(value: &[u8]) -> Option<u64>
 
 // How a body of this length is read; one of more than 4,194,304 bytes is refused with 413 (RFC 9110, section
 // 15.5.14).
-fn body_of_length(value: &[u8]) -> Framing
-    ensures { result ≡ body_of_length (decimal_of value.now) }
+fn message_body_of_length(value: &[u8]) -> Framing
+    ensures { result ≡ message_body_of_length (decimal_of value.now) }
 {
-    match decimal_said(value) {
+    match content_length_said(value) {
         None => Framing::Refused(Refusal::BadRequest),
         Some(length) => {
             if length > MAX_BODY_BYTES {
@@ -89,12 +87,12 @@ fn body_of_length(value: &[u8]) -> Framing
     }
 }
 
-fn has_coding(fields: &[Header<'_>]) -> bool
-    ensures { result ≡ list_any (is_named (codes "transfer-encoding"))
+fn has_transfer_coding(fields: &[Header<'_>]) -> bool
+    ensures { result ≡ list_any (is_header_field_named (codes "transfer-encoding"))
         (map header_parts fields.now) }
 {
     for field in fields {
-        if is_named(field, "transfer-encoding") {
+        if is_header_field_named(field, "transfer-encoding") {
             return true;
         }
     }
@@ -102,18 +100,18 @@ fn has_coding(fields: &[Header<'_>]) -> bool
 }
 
 // The length that `fields` state: that of the one Content-Length (RFC 9112, section 6.3).
-fn stated_by(fields: &[Header<'_>]) -> Framing
-    ensures { result ≡ stated_by
-        (filter (is_named (codes "content-length")) (map header_parts fields.now)) }
+fn body_length_stated_by_fields(fields: &[Header<'_>]) -> Framing
+    ensures { result ≡ body_length_stated_by_fields
+        (filter (is_header_field_named (codes "content-length")) (map header_parts fields.now)) }
 {
     let mut said = Framing::Refused(Refusal::LengthRequired);
     let mut any = false;
     for field in fields {
-        if is_named(field, "content-length") {
+        if is_header_field_named(field, "content-length") {
             if any {
                 return Framing::Refused(Refusal::BadRequest);
             }
-            said = body_of_length(field.value);
+            said = message_body_of_length(field.value);
             any = true;
         }
     }
@@ -122,21 +120,21 @@ fn stated_by(fields: &[Header<'_>]) -> Framing
 
 // How the body of a request of `method` with `fields` is read: a PUT has the length that it states, and a transfer
 // coding is refused with 411 (RFC 9112, section 6.1); others have none.
-fn framing_of(method: &str, fields: &[Header<'_>]) -> Framing
-    ensures { result ≡ framing_of method.now (map header_parts fields.now) }
+fn request_framing_of(method: &str, fields: &[Header<'_>]) -> Framing
+    ensures { result ≡ request_framing_of method.now (map header_parts fields.now) }
 {
     if method != "PUT" {
         return Framing::Body(0);
     }
-    if has_coding(fields) {
+    if has_transfer_coding(fields) {
         return Framing::Refused(Refusal::LengthRequired);
     }
-    stated_by(fields)
+    body_length_stated_by_fields(fields)
 }
 
 /// The head at the front of `bytes`, which are at most as many as a head may have: 16,384 bytes, and 64 fields (RFC
 /// 9112, section 2.1). It may be partial, or bad. Fails only if an allocation fails.
-pub fn read_head(alloc: Global, bytes: &[u8]) -> Result<HeadRead, AllocError>
+pub fn read_request_head(alloc: Global, bytes: &[u8]) -> Result<HeadRead, AllocError>
     requires { length bytes.now ≤ head_limit }
     ensures { IfOk result (IsReadAs bytes.now) }
 {
@@ -154,7 +152,7 @@ pub fn read_head(alloc: Global, bytes: &[u8]) -> Result<HeadRead, AllocError>
     if request.headers.len() > MAX_FIELDS {
         return Ok(HeadRead::Bad);
     }
-    let framing = framing_of(method, request.headers);
+    let framing = request_framing_of(method, request.headers);
     let method = match Method::from_bytes(alloc, method.as_bytes()) {
         Ok(method) => method,
         Err(MethodError::OutOfMemory) => return Err(AllocError),

@@ -3,8 +3,8 @@ ghost use Rattle.std.specs.Prelude.{◌≡◌, ◌≤◌, ◌+◌, ◌++◌, dro
 ghost use Rattle.http_messages.specs.Replies.{text_sent};
 
 use crate::message::Reply;
-use crate::reply_head::head_of;
-use crate::sending::body_sent;
+use crate::reply_head::reply_head_of;
+use crate::sending::reply_body_sent;
 use arrayvec::ArrayString;
 use std::marker::Model;
 
@@ -19,13 +19,13 @@ pub struct Leaving {
 
 impl Model for Leaving {
     ghost use Rattle.std.specs.Prelude.{ℕ, ◌≤◌, ◌++◌, List, drop, length};
-    ghost use Rattle.http_messages.specs.Replies.{body_sent};
+    ghost use Rattle.http_messages.specs.Replies.{reply_body_sent};
 
     ghost Value = { List ℕ };
 
-    ghost view = { λ l. drop l.taken (l.head.bytes ++ body_sent l.with_body l.reply) };
+    ghost view = { λ l. drop l.taken (l.head.bytes ++ reply_body_sent l.with_body l.reply) };
 
-    ghost invariant = { λ l. l.taken ≤ length (l.head.bytes ++ body_sent l.with_body l.reply) };
+    ghost invariant = { λ l. l.taken ≤ length (l.head.bytes ++ reply_body_sent l.with_body l.reply) };
 }
 
 impl Leaving {
@@ -33,7 +33,7 @@ impl Leaving {
     pub fn new(reply: Reply, with_body: bool) -> Leaving
         ensures { result ≡ text_sent with_body reply }
     {
-        let head = head_of(&reply);
+        let head = reply_head_of(&reply);
         Leaving {
             head,
             reply,
@@ -47,8 +47,8 @@ impl Leaving {
         ensures { result.0.now ++ result.1.now ≡ self.now }
     {
         let head = self.head.as_str().as_bytes();
-        let body = body_sent(&self.reply, self.with_body);
-        parts_from(head, body, self.taken)
+        let body = reply_body_sent(&self.reply, self.with_body);
+        reply_parts_from(head, body, self.taken)
     }
 
     /// How many bytes are left.
@@ -64,13 +64,13 @@ impl Leaving {
         requires { count ≤ length self.old }
         ensures { self.new ≡ drop count self.old }
     {
-        let len = self.head.len() + body_sent(&self.reply, self.with_body).len();
-        self.taken = place_after(self.taken, count, len);
+        let len = self.head.len() + reply_body_sent(&self.reply, self.with_body).len();
+        self.taken = place_after_reply_bytes(self.taken, count, len);
     }
 }
 
 // Two texts from a place of both on.
-fn parts_from<'a>(head: &'a [u8], body: &'a [u8], from: usize) -> (&'a [u8], &'a [u8])
+fn reply_parts_from<'a>(head: &'a [u8], body: &'a [u8], from: usize) -> (&'a [u8], &'a [u8])
     requires { from ≤ length (head.now ++ body.now) }
     ensures { result.0.now ++ result.1.now ≡ drop from (head.now ++ body.now) }
 {
@@ -81,7 +81,7 @@ fn parts_from<'a>(head: &'a [u8], body: &'a [u8], from: usize) -> (&'a [u8], &'a
 }
 
 // A place that is so much further on, up to the end.
-fn place_after(place: usize, count: usize, len: usize) -> usize
+fn place_after_reply_bytes(place: usize, count: usize, len: usize) -> usize
     requires { place + count ≤ len }
     ensures { result ≡ place + count }
 {

@@ -13,10 +13,10 @@ mod reply_head;
 mod sending;
 
 pub use arriving::{Arrived, Arriving};
-pub use block::{BLOCK, Block, fill};
+pub use block::{BLOCK, Block, fill_message_block};
 pub use head::{MAX_BODY_BYTES, MAX_FIELDS, MAX_HEAD_BYTES};
 pub use leaving::Leaving;
 pub use message::{Allow, Body, Content, ContentType, Reply, Request};
 pub use receiving::{Asked, ReceiveFault, receive};
-pub use refusal::{Refusal, plain_reply, refusal_reply};
+pub use refusal::{Refusal, plain_http_reply, refusal_reply};
 pub use sending::{send, sends_body};

@@ -1,13 +1,12 @@
 //! A request, read from a source.
-ghost use Rattle.std.specs.Prelude.{◌≡◌, ◌≤◌, ◌+◌, List, ℕ, length, take, drop, Some, Ok, Err, IfOk, IfErr, IfSome, IsErrOf};
+ghost use Rattle.std.specs.Prelude.{◌≡◌, ◌≤◌, ◌+◌, length, take, drop, Some, Ok, Err, IfOk, IfSome, IsErrOf};
 ghost use Rattle.http_messages.specs.declared.receiving.Asked.{Asked as Question};
-ghost use Rattle.http_messages.specs.Requests.{IsUnfinished};
 ghost use Rattle.http_messages.specs.Received.{IsHeadAt, SourceHolds, HoldsFront, HasAsked, SourceHasEnded, HasGivenPart, IsWholeAtLastRead};
 ghost use Rattle.http_messages.specs.Inner.Received.{IsJudgedAs, IsStep};
 ghost use Rattle.byte_streams.specs.Fair.{IsFairToSource, GaveAtEachButLast};
 
 use crate::arriving::{Arrived, Arriving};
-use crate::head::{Framing, Head, HeadRead, MAX_HEAD_BYTES, read_head};
+use crate::head::{Framing, Head, HeadRead, MAX_HEAD_BYTES, read_request_head};
 use crate::message::{Body, Request};
 use crate::refusal::Refusal;
 use byte_streams::{MAX_READS, READ_ROOM, Source};
@@ -55,13 +54,13 @@ impl<T: Drop> From<AllocFailed<T>> for ReceiveFault {
 }
 
 // What stands at the front of the bytes read so far, of which a head may have only the first.
-fn head_in_front(alloc: Global, bytes: &[u8]) -> Result<HeadRead, AllocError>
+fn request_head_in_front(alloc: Global, bytes: &[u8]) -> Result<HeadRead, AllocError>
     ensures { IfOk result (IsJudgedAs bytes.now) }
 {
     let Some(front) = bytes.get(..MAX_HEAD_BYTES) else {
-        return read_head(alloc, bytes);
+        return read_request_head(alloc, bytes);
     };
-    match read_head(alloc, front)? {
+    match read_request_head(alloc, front)? {
         HeadRead::Partial => Ok(HeadRead::Bad),
         read => Ok(read),
     }
@@ -78,7 +77,7 @@ pub(crate) enum Step {
 }
 
 // Looks whether the body is whole.
-fn with_head(bytes: &[u8], head: Head) -> Step
+fn request_step_with_head(bytes: &[u8], head: Head) -> Step
     requires { IsHeadAt bytes.now head }
     ensures { IsStep bytes.now result }
 {
@@ -95,22 +94,26 @@ fn with_head(bytes: &[u8], head: Head) -> Step
 
 /// What `bytes`, those read so far, are: a whole request, one that is refused, or the front of one. Their head is
 /// `head`, if it is known already. Fails only if an allocation fails.
-pub(crate) fn look(alloc: Global, bytes: &[u8], head: Option<Head>) -> Result<Step, AllocError>
+pub(crate) fn look_for_request(
+    alloc: Global,
+    bytes: &[u8],
+    head: Option<Head>,
+) -> Result<Step, AllocError>
     requires { IfSome head (IsHeadAt bytes.now) }
     ensures { IfOk result (IsStep bytes.now) }
 {
     if let Some(head) = head {
-        return Ok(with_head(bytes, head));
+        return Ok(request_step_with_head(bytes, head));
     }
-    match head_in_front(alloc, bytes)? {
-        HeadRead::Whole(head) => Ok(with_head(bytes, head)),
+    match request_head_in_front(alloc, bytes)? {
+        HeadRead::Whole(head) => Ok(request_step_with_head(bytes, head)),
         HeadRead::Partial => Ok(Step::More(None)),
         HeadRead::Bad => Ok(Step::Refused(Refusal::BadRequest)),
     }
 }
 
 /// The request of `head`, at the front of `bytes`, whose body is the next `count` bytes.
-pub(crate) fn request_of(bytes: Vec<u8>, head: Head, count: usize) -> Request
+pub(crate) fn http_request_of(bytes: Vec<u8>, head: Head, count: usize) -> Request
     requires { head.len + count ≤ length bytes.items }
     ensures { result ≡ record {
       method = head.method;

@@ -1,6 +1,6 @@
 //! Requests that are refused by their head, and replies that are short texts.
 ghost use Rattle.std.specs.Prelude.{◌≡◌, IfOk};
-ghost use Rattle.http_messages.specs.Replies.{plain_reply, refusal_reply, refusal_status, refusal_text};
+ghost use Rattle.http_messages.specs.Replies.{plain_http_reply, refusal_reply, refusal_status, refusal_text};
 
 use crate::message::{Content, ContentType, Reply};
 use http::StatusCode;
@@ -41,8 +41,8 @@ impl Refusal {
 }
 
 /// The reply of `status` whose body is `text`. Fails only if an allocation fails.
-pub fn plain_reply(alloc: Global, status: StatusCode, text: &str) -> Result<Reply, AllocError>
-    ensures { IfOk result (λ reply. reply ≡ plain_reply status text.now) }
+pub fn plain_http_reply(alloc: Global, status: StatusCode, text: &str) -> Result<Reply, AllocError>
+    ensures { IfOk result (λ reply. reply ≡ plain_http_reply status text.now) }
 {
     let content = Content {
         media: ContentType::Plain,
@@ -60,5 +60,5 @@ pub fn plain_reply(alloc: Global, status: StatusCode, text: &str) -> Result<Repl
 pub fn refusal_reply(alloc: Global, refusal: Refusal) -> Result<Reply, AllocError>
     ensures { IfOk result (λ reply. reply ≡ refusal_reply refusal) }
 {
-    plain_reply(alloc, refusal.status(), refusal.text())
+    plain_http_reply(alloc, refusal.status(), refusal.text())
 }

@@ -1,13 +1,13 @@
 //! The bytes of a reply's head.
-ghost use Rattle.std.specs.Prelude.{◌≡◌, ◌≤◌, ◌+◌, ◌++◌, codes, length};
+ghost use Rattle.std.specs.Prelude.{◌≡◌, ◌≤◌, ◌+◌, ◌++◌, length};
 ghost use Rattle.arrayvec.specs.ArrayString.{array_string_len};
-ghost use Rattle.http_messages.specs.Replies.{crlf, reason_of, media_text, allow_text, content_type_line, allow_line, length_line, status_line, head_text};
+ghost use Rattle.http_messages.specs.Replies.{crlf, reason_of, http_media_type_text, http_allow_text, content_type_line, allow_line, length_line, status_line, head_text};
 
 use crate::message::{Allow, Content, ContentType, Reply};
 use arrayvec::ArrayString;
 use http::StatusCode;
 
-fn reason(status: StatusCode) -> &'static str
+fn http_reason_phrase(status: StatusCode) -> &'static str
     ensures value { result.now ≡ reason_of status }
     ensures short { length result.now ≤ 40 }
 {
@@ -17,8 +17,8 @@ fn reason(status: StatusCode) -> &'static str
     }
 }
 
-fn media_text(media: ContentType) -> &'static str
-    ensures value { result.now ≡ media_text media }
+fn http_media_type_text(media: ContentType) -> &'static str
+    ensures value { result.now ≡ http_media_type_text media }
     ensures short { length result.now ≤ 40 }
 {
     match media {
@@ -27,8 +27,8 @@ fn media_text(media: ContentType) -> &'static str
     }
 }
 
-fn allow_text(allow: Allow) -> &'static str
-    ensures value { result.now ≡ allow_text allow }
+fn http_allow_text(allow: Allow) -> &'static str
+    ensures value { result.now ≡ http_allow_text allow }
     ensures short { length result.now ≤ 40 }
 {
     match allow {
@@ -39,7 +39,7 @@ fn allow_text(allow: Allow) -> &'static str
 }
 
 // Appends a field line: its name with the colon, and its value.
-fn push_field(head: &mut ArrayString<256>, name: &str, value: &str)
+fn push_header_field(head: &mut ArrayString<256>, name: &str, value: &str)
     requires { array_string_len head.old + length name.now + length value.now + 2 ≤ 256 }
     ensures { head.new.bytes ≡ head.old.bytes ++ (name.now ++ value.now ++ crlf) }
 {
@@ -49,7 +49,7 @@ fn push_field(head: &mut ArrayString<256>, name: &str, value: &str)
 }
 
 // Appends the status line (RFC 9112, section 4).
-fn push_status_line(head: &mut ArrayString<256>, status: StatusCode)
+fn push_http_status_line(head: &mut ArrayString<256>, status: StatusCode)
     requires { array_string_len head.old ≤ 0 }
     ensures bytes { head.new.bytes ≡ head.old.bytes ++ status_line status }
     ensures len { array_string_len head.new ≤ 60 }
@@ -57,51 +57,51 @@ fn push_status_line(head: &mut ArrayString<256>, status: StatusCode)
     head.push_str("HTTP/1.1 ");
     head.push_str(status.as_str());
     head.push_str(" ");
-    head.push_str(reason(status));
+    head.push_str(http_reason_phrase(status));
     head.push_str("\r\n");
 }
 
-fn push_content_type(head: &mut ArrayString<256>, content: &Option<Content>)
+fn push_content_type_field(head: &mut ArrayString<256>, content: &Option<Content>)
     requires { array_string_len head.old ≤ 60 }
     ensures bytes { head.new.bytes ≡ head.old.bytes ++ content_type_line content.now }
     ensures len { array_string_len head.new ≤ 120 }
 {
     if let Some(content) = content {
-        push_field(head, "Content-Type: ", media_text(content.media));
+        push_header_field(head, "Content-Type: ", http_media_type_text(content.media));
     }
 }
 
-fn push_allow(head: &mut ArrayString<256>, allow: Option<Allow>)
+fn push_allow_field(head: &mut ArrayString<256>, allow: Option<Allow>)
     requires { array_string_len head.old ≤ 120 }
     ensures bytes { head.new.bytes ≡ head.old.bytes ++ allow_line allow }
     ensures len { array_string_len head.new ≤ 180 }
 {
     if let Some(allow) = allow {
-        push_field(head, "Allow: ", allow_text(allow));
+        push_header_field(head, "Allow: ", http_allow_text(allow));
     }
 }
 
-fn push_length(head: &mut ArrayString<256>, status: StatusCode, body: &[u8])
+fn push_content_length_field(head: &mut ArrayString<256>, status: StatusCode, body: &[u8])
     requires { array_string_len head.old ≤ 180 }
     ensures bytes { head.new.bytes ≡ head.old.bytes ++ length_line status body.now }
     ensures len { array_string_len head.new ≤ 230 }
 {
     if status.as_u16() != 204 {
         let mut digits = itoa::Buffer::new();
-        push_field(head, "Content-Length: ", digits.format(body.len()));
+        push_header_field(head, "Content-Length: ", digits.format(body.len()));
     }
 }
 
 /// The head of `reply` with the empty line that ends it (RFC 9112, sections 4 and 9.3): it says that the connection
 /// is closed. It is held in the value itself, so that it takes no memory.
-pub fn head_of(reply: &Reply) -> ArrayString<256>
+pub fn reply_head_of(reply: &Reply) -> ArrayString<256>
     ensures { result.bytes ≡ head_text reply.now }
 {
     let mut head = ArrayString::<256>::new();
-    push_status_line(&mut head, reply.status);
-    push_content_type(&mut head, &reply.content);
-    push_allow(&mut head, reply.allow);
-    push_length(&mut head, reply.status, reply.body());
+    push_http_status_line(&mut head, reply.status);
+    push_content_type_field(&mut head, &reply.content);
+    push_allow_field(&mut head, reply.allow);
+    push_content_length_field(&mut head, reply.status, reply.body());
     head.push_str("Connection: close\r\n");
     head.push_str("\r\n");
     head

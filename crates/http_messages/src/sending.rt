@@ -1,16 +1,16 @@
 //! A reply, written to a sink.
 ghost use Rattle.std.specs.Prelude.{◌≡◌, ◌++◌, OnOk, OnErr};
 ghost use Rattle.byte_streams.specs.Stands.{TookAll, FailedAfterFront};
-ghost use Rattle.http_messages.specs.Replies.{text_sent, body_sent, sends_body};
+ghost use Rattle.http_messages.specs.Replies.{text_sent, reply_body_sent, sends_body};
 
-use crate::block::{Block, fill};
+use crate::block::{Block, fill_message_block};
 use crate::message::Reply;
-use crate::reply_head::head_of;
+use crate::reply_head::reply_head_of;
 use byte_streams::{Sink, SinkFailed, hand_out};
 use http::Method;
 
 // Hands out a head and then a body.
-fn hand_out_both<K: Sink>(head: &[u8], body: &[u8], sink: &mut K) -> Result<(), SinkFailed>
+fn hand_out_reply_parts<K: Sink>(head: &[u8], body: &[u8], sink: &mut K) -> Result<(), SinkFailed>
     ensures ok { OnOk result (TookAll (K.stand sink.old) (K.stand sink.new)
         (head.now ++ body.now)) }
     ensures err { OnErr result (FailedAfterFront (K.stand sink.old) (K.stand sink.new)
@@ -21,17 +21,17 @@ fn hand_out_both<K: Sink>(head: &[u8], body: &[u8], sink: &mut K) -> Result<(), 
 }
 
 // Hands out a head and a body, in one write if a block has room for both.
-fn hand_out_at_once<K: Sink>(head: &[u8], body: &[u8], sink: &mut K) -> Result<(), SinkFailed>
+fn hand_out_reply_at_once<K: Sink>(head: &[u8], body: &[u8], sink: &mut K) -> Result<(), SinkFailed>
     ensures ok { OnOk result (TookAll (K.stand sink.old) (K.stand sink.new)
         (head.now ++ body.now)) }
     ensures err { OnErr result (FailedAfterFront (K.stand sink.old) (K.stand sink.new)
         (head.now ++ body.now)) }
 {
     let mut block = Block::new();
-    if fill(&mut block, head, body) {
+    if fill_message_block(&mut block, head, body) {
         return hand_out(block.as_slice(), sink);
     }
-    hand_out_both(head, body, sink)
+    hand_out_reply_parts(head, body, sink)
 }
 
 /// Whether the reply to `method` has a body: not to HEAD (RFC 9110, section 9.3.2).
@@ -42,8 +42,8 @@ pub fn sends_body(method: &Method) -> bool
 }
 
 /// What is sent of the body of `reply`: all if `with_body`, else nothing.
-pub(crate) fn body_sent(reply: &Reply, with_body: bool) -> &[u8]
-    ensures { result.now ≡ body_sent with_body reply.now }
+pub(crate) fn reply_body_sent(reply: &Reply, with_body: bool) -> &[u8]
+    ensures { result.now ≡ reply_body_sent with_body reply.now }
 {
     if with_body { reply.body() } else { &[] }
 }
@@ -56,7 +56,7 @@ pub fn send<K: Sink>(reply: &Reply, with_body: bool, sink: &mut K) -> Result<(),
     ensures err { OnErr result (FailedAfterFront (K.stand sink.old) (K.stand sink.new)
         (text_sent with_body reply.now)) }
 {
-    let head = head_of(reply);
-    let body = body_sent(reply, with_body);
-    hand_out_at_once(head.as_str().as_bytes(), body, sink)
+    let head = reply_head_of(reply);
+    let body = reply_body_sent(reply, with_body);
+    hand_out_reply_at_once(head.as_str().as_bytes(), body, sink)
 }

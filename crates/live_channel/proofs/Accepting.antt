@@ -17,7 +17,7 @@ use Rattle.stitcher.specs.StitchedSegments.{AreDecided}
 use Rattle.stitcher.specs.Written.{written_item}
 use Rattle.channel_spec.specs.declared.fault.RefreshFault.{RefreshFault}
 use Rattle.channel_spec.specs.declared.heading.Heading.{Heading}
-use Rattle.channel_spec.specs.Successor.{heading_of}
+use Rattle.channel_spec.specs.Successor.{owed_heading_of}
 use Rattle.playlist_write.specs.declared.resumed.WrittenText.{WrittenText}
 use Rattle.channel_spec.specs.Live.{states_instant, date_ranges_left}
 use Rattle.channel_spec.specs.Kept.{Kept, head_numbers, window_on, items_on, kept_items, kept_list, kept_length}
@@ -118,7 +118,7 @@ ready tolerance state before p come list showing written e f shown stood kept en
 
 -- ---- a refresh is accepted
 
-pub accepts : (tolerance : ℕ) (old grown new : ChannelState) (p : Playlist) (last : Heading) (next : NextState) (written : Option WrittenText) (result : Result Refreshed RefreshFault) → HasGrown old grown → FollowsLastPlaylist tolerance (kept_in old) p grown.list next → last ≡ heading_of p
+pub accepts : (tolerance : ℕ) (old grown new : ChannelState) (p : Playlist) (last : Heading) (next : NextState) (written : Option WrittenText) (result : Result Refreshed RefreshFault) → HasGrown old grown → FollowsLastPlaylist tolerance (kept_in old) p grown.list next → last ≡ owed_heading_of p
     → OnOk result (new ≡ state_with grown last next) → IfOk result (λ done. done ≡ next.refreshed) → OnOk result (written ≡ Some next.written) → IfOk result (λ done. Accepts tolerance old p new written done)
 accepts tolerance old grown new p last next written (Ok done) (come, is) follows same state answer text = record {
   held = grown.list;

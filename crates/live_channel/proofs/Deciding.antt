@@ -16,7 +16,7 @@ use Rattle.stitcher.specs.StitchedSegments.{rest_in}
 use Rattle.channel_spec.specs.Live.{store_by_outcome}
 use Rattle.channel_spec.specs.LiveLaws.{HasPod}
 use Rattle.channel_spec.proofs.HeldPods.{decide_keeps}
-use Rattle.live_channel.specs.Channel.{Channel, Given, decided, withdrawn, IsAsTyped, Represents, WasGivenSomething, channel_with, with_store, ChangesStore, ChangesStoreExactly, StandsOn, AlwaysStandsOn, after_bytes}
+use Rattle.live_channel.specs.Channel.{Channel, Given, decided, withdrawn, Represents, WasGivenSomething, channel_with, with_store, ChangesStore, ChangesStoreExactly, StandsOn, AlwaysStandsOn, after_bytes}
 use Rattle.channel_window.specs.declared.state.ChannelState.{ChannelState}
 use Rattle.channel_window.specs.Showing.{AreKept}
 use Rattle.live_channel.proofs.Steps.{decide_follows, undecided_follows, withdraw_follows}
@@ -101,18 +101,18 @@ module _ (base : Parts) (tolerance : ℕ) (state : ChannelState) (text : Option 
       withdrew old new id result h
       (answered old new (withdrawn id) result (store.withdrawn old id) (changes_too old new result (store.withdrawn old id) h) stands d (decide_keeps (Withdraw id) old) (λ given s. withdraw_follows (at old) id given s))
 
-  pub decide_answered : (old new : Store) (bytes : List ℕ) (ds : Decisions) (result : Result (Unit {0}) DecisionFault) → IsAsTyped base (decided bytes) → decisions_of bytes ≡ Ok ds → Changes old new result (store.decided old ds)
+  pub decide_answered : (old new : Store) (bytes : List ℕ) (ds : Decisions) (result : Result (Unit {0}) DecisionFault) → decisions_of bytes ≡ Ok ds → Changes old new result (store.decided old ds)
       → WasGivenSomething (at old) → kept_by old → Answered old new (decided bytes) result (after_bytes old bytes)
-  decide_answered old new bytes ds result g e h stands d =
+  decide_answered old new bytes ds result e h stands d =
       subst (λ o. Answered old new (decided bytes) result (o >>= store.decided old)) (sym e)
-      (answered old new (decided bytes) result (store.decided old ds) h stands d (decide_keeps ds old) (λ given s. decide_follows (at old) ds bytes given g e s))
+      (answered old new (decided bytes) result (store.decided old ds) h stands d (decide_keeps ds old) (λ given s. decide_follows (at old) ds bytes given e s))
 
   -- the bytes say no decisions
-  pub unread_answered : (old : Store) (bytes : List ℕ) (e : DecisionFault) → IsAsTyped base (decided bytes) → RefusesByDecisionFault e (decisions_of bytes) → WasGivenSomething (at old) → kept_by old
+  pub unread_answered : (old : Store) (bytes : List ℕ) (e : DecisionFault) → RefusesByDecisionFault e (decisions_of bytes) → WasGivenSomething (at old) → kept_by old
       → Answered old old (decided bytes) (Err e) (after_bytes old bytes)
-  unread_answered old bytes e g h stands d = record {
+  unread_answered old bytes e h stands d = record {
     stands = stands;
     decided = d;
     changes = (refl, λ n. ap (λ o. o >>= store.decided old) (h n));
-    on = λ given s n. undecided_follows (at old) e bytes given g (h n) s;
+    on = λ given s n. undecided_follows (at old) e bytes given (h n) s;
   }

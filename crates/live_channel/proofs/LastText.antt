@@ -1,7 +1,7 @@
 -- The last text, from refresh to refresh.
 use Rattle.std.proofs.Common.{◌≡◌, ℕ, ◌-◌, ◌<◌, true, not, cond, List, [], ◌∷◌, ◌++◌, map, reverse, length, take, drop, refl, ap, sym, ◌∙◌, subst, arith}
 use Rattle.std.specs.Prelude.{Option, Some, None, Ok, is_none}
-use Rattle.std.specs.List.{AllByRecursion, list_all}
+use Rattle.std.specs.List.{list_all}
 use Rattle.std.proofs.lemmas.List.{append-nil, map-append, reverse-append, take_at, length-map, length-reverse}
 use Rattle.url.specs.Parts.{Parts}
 use Rattle.playlist_model.specs.declared.Playlist.{Playlist}
@@ -28,7 +28,7 @@ use Rattle.channel_window.specs.declared.state.ChannelState.{ChannelState}
 use Rattle.channel_window.specs.declared.state.Ending.{Ending}
 use Rattle.channel_spec.specs.LastWindow.{last_pieces, last_items}
 use Rattle.channel_spec.proofs.KeptWhole.{kept_follows, items_go_on}
-use Rattle.live_channel.specs.Channel.{Given, refreshed, readable, events_of, told_by, IsAsTyped}
+use Rattle.live_channel.specs.Channel.{Given, refreshed, readable, events_of, told_by}
 use Rattle.live_channel.specs.LastText.{IsLaidOut, IsLast}
 use Rattle.live_channel.specs.Inner.LastText.{StoodIn, StoodBefore}
 use Rattle.live_channel.proofs.Steps.{all_given}
@@ -50,64 +50,64 @@ stood_by k items w e h = grind (arith, reverse, length-map, length-reverse, leng
 nothing_before : (k : Kept) (items : List Item) → k.last ≡ None → GoesOn (last_items k) items
 nothing_before k items e = (items, sym (append-nil items) ∙ sym (ap (λ o. items ++ numbered k.numbers (last_pieces o k)) e))
 
-pub stood_before : (base : Parts) (tolerance : ℕ) (given : List Given) (bytes : List ℕ) (p : Playlist) (k : Kept) (written : Option WrittenText) → k ≡ kept_of (told_by base tolerance given) → AllByRecursion (IsAsTyped base) given
+pub stood_before : (base : Parts) (tolerance : ℕ) (given : List Given) (bytes : List ℕ) (p : Playlist) (k : Kept) (written : Option WrittenText) → k ≡ kept_of (told_by base tolerance given)
     → reading limited base bytes ≡ Ok p → IsLaidOut k written → StoodBefore tolerance k p written
-stood_before base tolerance given bytes p k None e typed read h = λ f. record {
+stood_before base tolerance given bytes p k None e read h = λ f. record {
   count = sym (ap (λ o. length (last_pieces o k)) h);
   stood = tt;
   on = nothing_before k (kept_items tolerance k p) h;
 }
-stood_before base tolerance given bytes p k (Some w) e typed read h =
+stood_before base tolerance given bytes p k (Some w) e read h =
     let there = kept_of (told_by base tolerance given) in
     let sound = is_read p (can_be_written limited base bytes p read) in
-    let law = items_go_on tolerance p (events_of base given) (sound, all_given base given typed) in
-    let follows = kept_follows tolerance p (events_of base given) (sound, all_given base given typed) in
+    let law = items_go_on tolerance p (events_of base given) (sound, all_given base given) in
+    let follows = kept_follows tolerance p (events_of base given) (sound, all_given base given) in
     subst (λ x. StoodBefore tolerance x p (Some w)) (sym e)
     (λ f. stood_by there (kept_items tolerance there p) w (law.on (sym follows.succeeds ∙ f)) (subst (λ x. IsLaidOut x (Some w)) e h))
 
 -- ---- what is written is the last window then
 
 -- what it was told then
-pub told_next : (base : Parts) (tolerance : ℕ) (given : List Given) (bytes : List ℕ) (p : Playlist) → AllByRecursion (IsAsTyped base) (refreshed bytes ∷ given) → reading limited base bytes ≡ Ok p
+pub told_next : (base : Parts) (tolerance : ℕ) (given : List Given) (bytes : List ℕ) (p : Playlist) → reading limited base bytes ≡ Ok p
     → kept_refusal tolerance (kept_of (told_by base tolerance given)) p ≡ None → told_by base tolerance (refreshed bytes ∷ given) ≡ after_refresh tolerance (told_by base tolerance given) p
-told_next base tolerance given bytes p typed read unrefused =
+told_next base tolerance given bytes p read unrefused =
     let t = told_by base tolerance given in
-    let f = kept_follows tolerance p (events_of base given) (is_read p (can_be_written limited base bytes p read), all_given base given typed.1) in
+    let f = kept_follows tolerance p (events_of base given) (is_read p (can_be_written limited base bytes p read), all_given base given) in
     let none : refusal tolerance t p ≡ None = sym f.refused ∙ unrefused in
     ap (λ r. told tolerance (readable r ++ events_of base given)) read ∙ ap (λ o. cond (is_none o) (after_refresh tolerance t p) t) none
 
-window_written : (base : Parts) (tolerance : ℕ) (given : List Given) (bytes : List ℕ) (p : Playlist) → AllByRecursion (IsAsTyped base) (refreshed bytes ∷ given) → reading limited base bytes ≡ Ok p
+window_written : (base : Parts) (tolerance : ℕ) (given : List Given) (bytes : List ℕ) (p : Playlist) → reading limited base bytes ≡ Ok p
     → kept_refusal tolerance (kept_of (told_by base tolerance given)) p ≡ None
     → reverse (last_items (kept_of (told_by base tolerance (refreshed bytes ∷ given)))) ≡ kept_window tolerance (kept_of (told_by base tolerance given)) p
-window_written base tolerance given bytes p typed read unrefused =
+window_written base tolerance given bytes p read unrefused =
     let t = told_by base tolerance given in
     let sound = is_read p (can_be_written limited base bytes p read) in
-    let f = kept_follows tolerance p (events_of base given) (sound, all_given base given typed.1) in
+    let f = kept_follows tolerance p (events_of base given) (sound, all_given base given) in
     let none : refusal tolerance t p ≡ None = sym f.refused ∙ unrefused in
     let now : told tolerance (live.refreshed p ∷ events_of base given) ≡ after_refresh tolerance t p = ap (λ o. cond (is_none o) (after_refresh tolerance t p) t) none in
     let new : told_by base tolerance (refreshed bytes ∷ given) ≡ after_refresh tolerance t p = ap (λ r. told tolerance (readable r ++ events_of base given)) read ∙ now in
-    let law = items_go_on tolerance p (events_of base (refreshed bytes ∷ given)) (sound, all_given base (refreshed bytes ∷ given) typed) in
+    let law = items_go_on tolerance p (events_of base (refreshed bytes ∷ given)) (sound, all_given base (refreshed bytes ∷ given)) in
     law.last
     ∙ (ap (λ (u : Told). window_by (last_playlist u.accepted) u.start u.history) new
     ∙ (ap (λ u. window_after u p) (sym now) ∙ sym (f.window none)))
 
 pub laid_next : (base : Parts) (tolerance : ℕ) (given : List Given) (bytes : List ℕ) (p : Playlist) (k k' : Kept) (w : WrittenText) → k ≡ kept_of (told_by base tolerance given) → k' ≡ kept_of (told_by base tolerance (refreshed bytes ∷ given))
-    → AllByRecursion (IsAsTyped base) (refreshed bytes ∷ given) → reading limited base bytes ≡ Ok p → kept_succession k p ≡ None → list_all can_be_numbered (kept_items tolerance k p) ≡ true
+    → reading limited base bytes ≡ Ok p → kept_succession k p ≡ None → list_all can_be_numbered (kept_items tolerance k p) ≡ true
     → IsLaid (map written_item (kept_window tolerance k p)) w → IsLaidOut k' (Some w)
-laid_next base tolerance given bytes p k k' w e e' typed read follows fit laid = grind (arith, window_written, reverse)
+laid_next base tolerance given bytes p k k' w e e' read follows fit laid = grind (arith, window_written, reverse)
 
 -- and the end is known from which the list goes on then
 pub ending_next : (base : Parts) (tolerance : ℕ) (given : List Given) (bytes : List ℕ) (p : Playlist) (k k' : Kept) (e : Option Ending) → k ≡ kept_of (told_by base tolerance given) → k' ≡ kept_of (told_by base tolerance (refreshed bytes ∷ given))
-    → AllByRecursion (IsAsTyped base) (refreshed bytes ∷ given) → reading limited base bytes ≡ Ok p → kept_succession k p ≡ None → list_all can_be_numbered (kept_items tolerance k p) ≡ true
+    → reading limited base bytes ≡ Ok p → kept_succession k p ≡ None → list_all can_be_numbered (kept_items tolerance k p) ≡ true
     → IsEndingOf (shown_from (first_number p.segments) (kept_list tolerance k p)) p.end_list (kept_length tolerance k p) (map written_item (kept_window tolerance k p)) e → IsLastEnding k' e
-ending_next base tolerance given bytes p k k' ending e e' typed read follows fit end =
+ending_next base tolerance given bytes p k k' ending e e' read follows fit end =
     let t = told_by base tolerance given in
     let unrefused : kept_refusal tolerance k p ≡ None = ap (λ o. or_earlier o (fault_if (not (list_all can_be_numbered (kept_items tolerance k p))) NumberRange)) follows ∙ ap (λ b. fault_if (not b) NumberRange) fit in
     let there : kept_refusal tolerance (kept_of t) p ≡ None = ap (λ x. kept_refusal tolerance x p) (sym e) ∙ unrefused in
     let sound = is_read p (can_be_written limited base bytes p read) in
-    let f = kept_follows tolerance p (events_of base given) (sound, all_given base given typed.1) in
+    let f = kept_follows tolerance p (events_of base given) (sound, all_given base given) in
     let none : refusal tolerance t p ≡ None = sym f.refused ∙ there in
-    let is = window_written base tolerance given bytes p typed read there in
+    let is = window_written base tolerance given bytes p read there in
     let now : told_by base tolerance (refreshed bytes ∷ given) ≡ told tolerance (live.refreshed p ∷ events_of base given) = ap (λ r. told tolerance (readable r ++ events_of base given)) read in
     let after : k' ≡ kept_after tolerance k p = e' ∙ (ap kept_of now ∙ (sym (f.kept none) ∙ ap (λ x. kept_after tolerance x p) (sym e))) in
     let window : map written_item (kept_window tolerance k p) ≡ last_window k' =

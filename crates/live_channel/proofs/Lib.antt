@@ -1,7 +1,7 @@
 pub mod Steps
 pub mod Stores
 pub mod Deciding
-pub mod Typed
+pub mod PodRules
 pub mod Accepting
 pub mod Marks
 pub mod Refreshing

@@ -1,7 +1,6 @@
 -- The segments that are held, and those of the playlist that was read last.
 use Rattle.std.proofs.Common.{◌≡◌, ℕ, ◌+◌, zero, suc, List, [], ◌∷◌, map, take, drop, refl, ap, sym, ◌∙◌, arith}
 use Rattle.std.specs.Prelude.{Option, Some, None, Ok, option_map}
-use Rattle.std.specs.List.{AllByRecursion}
 use Rattle.url.specs.Parts.{Parts}
 use Rattle.playlist_model.specs.declared.Playlist.{Playlist}
 use Rattle.playlist_model.specs.Segments.{Segment}
@@ -15,12 +14,12 @@ use Rattle.channel_spec.proofs.SameFault.{same_first}
 use Rattle.channel_window.specs.declared.state.ChannelState.{ChannelState}
 use Rattle.channel_window.specs.Checked.{AreContiguous, AreTaken}
 use Rattle.channel_window.specs.Showing.{kept_in}
-use Rattle.channel_window.specs.Listed.{segments_in}
+use Rattle.channel_window.specs.Listed.{window_segments_in}
 use Rattle.channel_window.proofs.Found.{held_listed}
 use Rattle.playlist_kept.specs.Kept.{IsTakenFrom, kept_segments}
 use Rattle.playlist_kept.specs.declared.read_playlist.Read.{Read}
 use Rattle.playlist_kept.specs.declared.source.LastPlaylist.{LastPlaylist}
-use Rattle.live_channel.specs.Channel.{Given, refreshed, events_of, told_by, IsAsTyped, IsListed}
+use Rattle.live_channel.specs.Channel.{Given, refreshed, events_of, told_by, IsListed}
 use Rattle.live_channel.proofs.Steps.{all_given}
 use Rattle.live_channel.proofs.LastText.{told_next}
 
@@ -49,10 +48,10 @@ drop_none : (n : ℕ) → ◌≡◌ {A = List Segment} (drop n []) []
 drop_none zero = refl
 drop_none (suc n) = refl
 
-pub taken_over : (source : Option LastPlaylist) (state : ChannelState) (read : Read) → IsListed source state.list → IsTakenFrom (kept_segments source) read → AreTaken (segments_in state.list) read.taken.now
+pub taken_over : (source : Option LastPlaylist) (state : ChannelState) (read : Read) → IsListed source state.list → IsTakenFrom (kept_segments source) read → AreTaken (window_segments_in state.list) read.taken.now
 taken_over None state read h t = record { from = 0; till = 0; same = ap (map kept_parts) (t ∙ (ap (drop read.from) (take_none read.till) ∙ drop_none read.from)) }
 taken_over (Some source) state read h t =
-    let held = segments_in state.list in
+    let held = window_segments_in state.list in
     record {
       from = read.from;
       till = read.till;
@@ -64,15 +63,15 @@ nothing_taken old taken none = record { from = 0; till = 0; same = ap (map kept_
 
 -- ---- after an accepted refresh they are those of its playlist
 
-pub listed_next : (base : Parts) (tolerance : ℕ) (given : List Given) (bytes : List ℕ) (p : Playlist) (state : ChannelState) → AllByRecursion (IsAsTyped base) (refreshed bytes ∷ given) → reading limited base bytes ≡ Ok p
-    → kept_refusal tolerance (kept_of (told_by base tolerance given)) p ≡ None → kept_in state ≡ kept_of (told_by base tolerance (refreshed bytes ∷ given)) → map kept_parts (segments_in state.list) ≡ map kept_parts p.segments
-listed_next base tolerance given bytes p state typed read unrefused stands =
+pub listed_next : (base : Parts) (tolerance : ℕ) (given : List Given) (bytes : List ℕ) (p : Playlist) (state : ChannelState) → reading limited base bytes ≡ Ok p
+    → kept_refusal tolerance (kept_of (told_by base tolerance given)) p ≡ None → kept_in state ≡ kept_of (told_by base tolerance (refreshed bytes ∷ given)) → map kept_parts (window_segments_in state.list) ≡ map kept_parts p.segments
+listed_next base tolerance given bytes p state read unrefused stands =
     let t = told_by base tolerance (refreshed bytes ∷ given) in
-    let next : t ≡ after_refresh tolerance (told_by base tolerance given) p = told_next base tolerance given bytes p typed read unrefused in
+    let next : t ≡ after_refresh tolerance (told_by base tolerance given) p = told_next base tolerance given bytes p read unrefused in
     let last : last_playlist t.accepted ≡ Some p = ap (λ (u : Told). last_playlist u.accepted) next in
     let shown : listed (kept_in state).shown ≡ listed (shown_by (Some p) t.history) = ap (λ (k : Kept). listed k.shown) stands ∙ ap (λ o. listed (shown_by o t.history)) last in
     let law = shown_are_listed tolerance (events_of base (refreshed bytes ∷ given)) p (owed_for t p)
-    (record { sound = all_given base (refreshed bytes ∷ given) typed; accepted = last; owed = ap (option_map (owed_for t)) last }) in
+    (record { sound = all_given base (refreshed bytes ∷ given); accepted = last; owed = ap (option_map (owed_for t)) last }) in
     ap (map kept_parts) (sym (held_listed state.store state.list) ∙ shown) ∙ law
 
 -- ---- so their numbers rise by one

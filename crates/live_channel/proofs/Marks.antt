@@ -21,8 +21,8 @@ use Rattle.stitcher.specs.declared.ends.Rest.{Rest}
 use Rattle.channel_window.specs.Listed.{IsRestDecided}
 use Rattle.channel_window.specs.declared.state.ChannelState.{ChannelState}
 use Rattle.channel_window.specs.Marking.{history_in}
-use Rattle.stitcher.specs.Making.{is_same_run}
-use Rattle.live_channel.specs.Inner.Marks.{IsAmongMarks, mark_held, marks_held, marks_and_last, rest_held, breaks_held}
+use Rattle.stitcher.specs.Making.{is_same_stitched_run}
+use Rattle.live_channel.specs.Inner.Marks.{IsAmongMarks, mark_held, marks_held, live_marks_and_last, rest_held, breaks_held}
 
 id_with : (id : List ℕ) (pod : Option Pod) → IsSome pod → option_map mark_id (mark_with id pod) ≡ Some id
 id_with id None d = absurd (cc)
@@ -38,7 +38,7 @@ marks_onto store number [] before d = sym (append-nil (marks_from number before)
 marks_onto store number (m ∷ later) before d = grind (arith, id_seen, append_assoc, marks_onto store number later (meant store m ∷ before) d.1)
 
 marks_seen : (store : Store) (number : ℕ) (held : List Held) (last other : Option (List ℕ)) → AreDecided store held → last ≡ other
-    → marks_and_last number held last ≡ marks_from number (history_in store held) ++ ids_of_option other
+    → live_marks_and_last number held last ≡ marks_from number (history_in store held) ++ ids_of_option other
 marks_seen store number held last other d e = grind (arith, marks_onto)
 
 rest_seen : (store : Store) (rest : Option Rest) → IsRestDecided store rest → rest_held rest ≡ ids_of_option (rest_id (rest_in store rest))
@@ -81,11 +81,11 @@ pub put_once : (marks : List (List ℕ)) (id : List ℕ) → is_one_of marks id 
 put_once marks id h = once marks id h
 
 -- a segment that goes on the run of one whose break is named adds none
-pub named_before : (marks : List (List ℕ)) (mark previous : Option (List ℕ)) → is_same_run mark previous ≡ true → IsAmongMarks marks previous → NameTheSame marks (marks ++ ids_of_option mark)
+pub named_before : (marks : List (List ℕ)) (mark previous : Option (List ℕ)) → is_same_stitched_run mark previous ≡ true → IsAmongMarks marks previous → NameTheSame marks (marks ++ ids_of_option mark)
 named_before marks mark previous e h = grind (arith, put_once, bytes_eq-Decides)
 
 -- and its own is named
-pub named_here : (marks : List (List ℕ)) (mark previous : Option (List ℕ)) → is_same_run mark previous ≡ true → IsAmongMarks marks previous → IsAmongMarks marks mark
+pub named_here : (marks : List (List ℕ)) (mark previous : Option (List ℕ)) → is_same_stitched_run mark previous ≡ true → IsAmongMarks marks previous → IsAmongMarks marks mark
 named_here marks mark previous e h = grind (arith, bytes_eq-Decides)
 
 -- so is one that was put

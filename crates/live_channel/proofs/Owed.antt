@@ -20,7 +20,7 @@ use Rattle.break_finder.specs.declared.why.Why.{Why}
 use Rattle.channel_spec.specs.declared.fault.RefreshFault.{RefreshFault}
 use Rattle.channel_spec.specs.declared.fault.RefreshFault.TheVariants.{NumberRange}
 use Rattle.channel_spec.specs.Sound.{IsSoundPlaylist, IsSoundEvent}
-use Rattle.channel_spec.specs.Successor.{MayFollow, heading_of, first_number, has_init_sections, fault_if}
+use Rattle.channel_spec.specs.Successor.{MayFollow, owed_heading_of, first_number, has_init_sections, fault_if}
 use Rattle.channel_spec.specs.Live.{Event, Told, told, refusal, number_range_fault, succession_fault, last_playlist, whole_stitched_list, in_use, after_refresh, window_after, owed, owed_for}
 use Rattle.channel_spec.specs.Live as live
 use Rattle.channel_spec.specs.LiveLaws.{GoesOn, first_shown}
@@ -29,7 +29,7 @@ use Rattle.channel_spec.proofs.Listed.{shown_are_listed}
 use Rattle.channel_spec.proofs.SameFault.{same_init}
 use Rattle.stitcher.specs.declared.marked.MarkedSegment.{MarkedSegment as Held}
 use Rattle.channel_window.specs.Marking.{history_in}
-use Rattle.channel_window.specs.Listed.{segments_in}
+use Rattle.channel_window.specs.Listed.{window_segments_in}
 use Rattle.channel_window.proofs.Found.{held_listed}
 use Rattle.channel_spec.proofs.InUse.{used_are_in_use}
 use Rattle.channel_spec.proofs.EachWindow.{only_grows, each_succeeds, plain_standing, holds}
@@ -62,7 +62,7 @@ first_is : (accepted : List Accepted) (last : Playlist) → last_playlist accept
 first_is accepted last e = grind arith
 
 explain_step : (tolerance : ℕ) (events : List Event) (id : List ℕ) → AllByRecursion IsSoundEvent events → (o : Option Playlist) → last_playlist (told tolerance events).accepted ≡ o
-    → why_by (option_map heading_of o) (kept_of (told tolerance events)) id ≡ owed_why_by (told tolerance events) o id
+    → why_by (option_map owed_heading_of o) (kept_of (told tolerance events)) id ≡ owed_why_by (told tolerance events) o id
 explain_step tolerance events id sound None e = refl
 explain_step tolerance events id sound (Some last) e =
     let t = told tolerance events in
@@ -74,7 +74,7 @@ explain_step tolerance events id sound (Some last) e =
     (used_are_in_use tolerance events id sound ∙ ap (λ n. in_use t.start n t.history id) (first_is t.accepted last e))
 
 -- as it is held
-pub explained_so : (store : Store) (held : List Held) → has_init_sections (segments_in held) ≡ has_init_sections (listed (history_in store held))
+pub explained_so : (store : Store) (held : List Held) → has_init_sections (window_segments_in held) ≡ has_init_sections (listed (history_in store held))
 explained_so store held = ap has_init_sections (sym (held_listed store held))
 
 pub explains : (c : Channel) (id : List ℕ) (result : Why) → result ≡ explained c.kept id → Explains c id result
@@ -115,7 +115,7 @@ module _ (c : Channel) (given : List Given) (bytes : List ℕ) (s : Represents c
 
   follows : (p : Playlist) → reading limited c.base bytes ≡ Ok p → (succession_fault (last_playlist t.accepted) p ≡ None) ↔ MayFollowLast (last_playlist t.accepted) p
   follows p e =
-      succeeds_last t.accepted t.history p (plain_standing t.accepted t.history t.start (holds c.tolerance (events_of c.base given) (all_given c.base given s.typed)).standing) (sound p e) (last_playlist t.accepted) refl
+      succeeds_last t.accepted t.history p (plain_standing t.accepted t.history t.start (holds c.tolerance (events_of c.base given) (all_given c.base given)).standing) (sound p e) (last_playlist t.accepted) refl
 
   accepted_step : (r : Reading) → reading limited c.base bytes ≡ r → IsOk (answer_read c.tolerance t r) → IsAcceptable c given bytes
   accepted_step (Err fault) e h = absurd (cc)
@@ -146,9 +146,9 @@ events_after base [] before = refl
 events_after base (g ∷ later) before = grind (arith, events_after base later before)
 
 pub stitched_list_grows : StitchedListGrows
-stitched_list_grows base tolerance later before typed =
+stitched_list_grows base tolerance later before =
     subst (λ (es : List Event). GoesOn (whole_stitched_list (told tolerance (events_of base before))) (whole_stitched_list (told tolerance es))) (sym (events_after base later before))
-    (only_grows tolerance (events_of base later) (events_of base before) (subst (λ (es : List Event). AllByRecursion IsSoundEvent es) (events_after base later before) (all_given base (later ++ before) typed)))
+    (only_grows tolerance (events_of base later) (events_of base before) (subst (λ (es : List Event). AllByRecursion IsSoundEvent es) (events_after base later before) (all_given base (later ++ before))))
 
 same_owed : (old new : Playlist) (o p : Option Playlist) → o ≡ Some old → p ≡ Some new → p ≡ o → (new ≡ old) ⊎ MayFollow new old
 same_owed old new o p e f same = inl (cc)
@@ -174,6 +174,6 @@ decided_step tolerance events old new (Ok ds) e f = grind arith
 decided_step tolerance events old new (Err fault) e f = grind arith
 
 pub owed_playlists_succeed : OwedPlaylistsSucceed
-owed_playlists_succeed base tolerance (decided bytes) before old new g e f = grind (arith, decided_step)
-owed_playlists_succeed base tolerance (withdrawn id) before old new g e f = grind (arith, decided_step)
-owed_playlists_succeed base tolerance (refreshed bytes) before old new g e f = grind (arith, read_step, all_given)
+owed_playlists_succeed base tolerance (decided bytes) before old new e f = grind (arith, decided_step)
+owed_playlists_succeed base tolerance (withdrawn id) before old new e f = grind (arith, decided_step)
+owed_playlists_succeed base tolerance (refreshed bytes) before old new e f = grind (arith, read_step, all_given)

@@ -10,14 +10,13 @@ use Rattle.pod_store.specs.Marks.{Marked, mark_in}
 use Rattle.playlist_model.specs.LookBack.{or_earlier}
 use Rattle.playlist_model.specs.Reading.{reading, limited}
 use Rattle.stitcher.specs.Stitched.{can_be_numbered}
-use Rattle.read_is_writable.specs.Read.{uris_are_text}
 use Rattle.read_is_writable.proofs.Whole.{can_be_written}
 use Rattle.pod_store.specs.Store.{Entry, Store, has_id, pod_of, pod_for, is_one_of, with_copies, kept_in_use}
 use Rattle.pod_store.proofs.Copies.{pod_stays, fallback_stands}
 use Rattle.stitcher.specs.declared.marked.MarkedSegment.{MarkedSegment as Held}
 use Rattle.stitcher.specs.declared.ends.Rest.{Rest}
 use Rattle.stitcher.specs.StitchedSegments.{meant, rest_in, IsDecided, AreDecided}
-use Rattle.break_finder.specs.Known.{is_this}
+use Rattle.break_finder.specs.Known.{is_this_break}
 use Rattle.channel_spec.specs.declared.fault.RefreshFault.{RefreshFault}
 use Rattle.playlist_model.specs.declared.FaultKind.TheVariants.{OutOfMemory as NoMemory}
 use Rattle.channel_spec.specs.Unread.{is_out_of_memory_kind, fault_of_reading}
@@ -37,7 +36,7 @@ use Rattle.channel_window.specs.Checked.{AreContiguous}
 use Rattle.channel_window.specs.Marking.{history_in}
 use Rattle.channel_window.specs.Showing.{AreKept, kept_in}
 use Rattle.channel_window.specs.Listed.{IsRestDecided}
-use Rattle.live_channel.specs.Channel.{Channel, Reading, refreshed, IsAsTyped, WasGivenSomething, channel_with, judged, refreshed_with, fresh_after, step_judged, step_read, says_read, is_out_of_memory, Steps, StepsUnless, Refreshes}
+use Rattle.live_channel.specs.Channel.{Channel, refreshed, WasGivenSomething, channel_with, judged, refreshed_with, fresh_after, step_judged, step_read, says_read, is_out_of_memory, Steps, StepsUnless, Refreshes}
 use Rattle.live_channel.specs.Inner.Accepting.{breaks_after, IsAccepted, BytesAreReadAs, FollowsLastPlaylist, RefusesNext, Refused, accepted_state}
 use Rattle.channel_window.proofs.ShownWith.{marked_too}
 use Rattle.live_channel.proofs.Stores.{MarksStay, RestStays, Stay, unturned}
@@ -82,7 +81,7 @@ marks_stay ids store (m ∷ later) d h =
     }
 
 -- the pod of the rest in use stays
-rest_stays : (ids : List (List ℕ)) (store : Store) (rest : Option Rest) → IsRestDecided store rest → ((id : List ℕ) → is_this id (rest_id (rest_in store rest)) ≡ true → is_one_of ids id ≡ true)
+rest_stays : (ids : List (List ℕ)) (store : Store) (rest : Option Rest) → IsRestDecided store rest → ((id : List ℕ) → is_this_break id (rest_id (rest_in store rest)) ≡ true → is_one_of ids id ≡ true)
     → RestStays store (kept_in_use ids store) rest
 rest_stays ids store None d h = record { same = refl; decided = tt }
 rest_stays ids store (Some rest) d h = grind (arith, pod_stays_on, same_id)
@@ -116,21 +115,9 @@ no_fault : (succession number_range : Option RefreshFault) → succession ≡ No
 no_fault None number_range e f = f
 no_fault (Some fault) number_range e f = absurd (cc)
 
-abbrev Says : Reading → Reading → Type 0
-Says a b = a ≡ b
-
-same_read : (p q : Playlist) → Says (Ok p) (Ok q) → p ≡ q
-same_read p q h = cc
-
-apart : {A : Type 0} (p : Playlist) (fault : PlaylistFault) → Says (Ok p) (Err fault) → A
-apart p fault h = absurd (cc)
-
 module _ (base : Parts) (tolerance : ℕ) (state : ChannelState) (text : Option (List ℕ)) (bytes : List ℕ) where
   abbrev before : Channel
   before = channel_with base tolerance state text
-
-  typed : (p : Playlist) → reading limited base bytes ≡ Ok p → list_all uris_are_text p.segments ≡ true → IsAsTyped base (refreshed bytes)
-  typed p e t q f = subst (λ (x : Playlist). list_all uris_are_text x.segments ≡ true) (same_read p q (sym e ∙ f)) t
 
   module _ (p : Playlist) (held : List Held) (a : NextState) (h : BytesAreReadAs base bytes p) (f : FollowsLastPlaylist tolerance (kept_in state) p held a) where
     abbrev kept : Kept
@@ -149,7 +136,7 @@ module _ (base : Parts) (tolerance : ℕ) (state : ChannelState) (text : Option 
     pub unrefused : kept_refusal tolerance kept p ≡ None
     unrefused = no_fault (kept_succession kept p) (fault_if (not (list_all can_be_numbered (kept_items tolerance kept p))) NumberRange) f.succeeds (ap (λ b. fault_if (not b) NumberRange) accepted.fit)
 
-    listed : (id : List ℕ) → (is_shown_with (first_number p.segments) (kept_list tolerance kept p) (or_earlier (last_entered (kept_list tolerance kept p)) kept.entered) id || is_this id (rest_id (rest_after kept p (kept_list tolerance kept p)))) ≡ true
+    listed : (id : List ℕ) → (is_shown_with (first_number p.segments) (kept_list tolerance kept p) (or_earlier (last_entered (kept_list tolerance kept p)) kept.entered) id || is_this_break id (rest_id (rest_after kept p (kept_list tolerance kept p)))) ≡ true
         → is_one_of a.in_use.items id ≡ true
     listed id k = accepted.in_use.ids id ∙ (in_use_with_is (first_number p.segments) (kept_list tolerance kept p) (or_earlier (last_entered (kept_list tolerance kept p)) kept.entered) (rest_after kept p (kept_list tolerance kept p)) id ∙ k)
 
@@ -158,8 +145,8 @@ module _ (base : Parts) (tolerance : ℕ) (state : ChannelState) (text : Option 
         subst (λ (xs : List Marked). AllByRecursion (λ (x : Marked). (id : List ℕ) → is_mark_of id x.mark ≡ true → is_one_of a.in_use.items id ≡ true) xs) (sym accepted.shown)
         (used_from (first_number p.segments) (is_one_of a.in_use.items) (kept_list tolerance kept p) (λ id k. listed id (or_first _ _ (or_first _ _ k))))
 
-    rest_used : (id : List ℕ) → is_this id (rest_id (rest_in state.store a.shown.rest)) ≡ true → is_one_of a.in_use.items id ≡ true
-    rest_used id k = listed id (or_second _ _ (ap (λ o. is_this id (rest_id o)) (sym accepted.rest) ∙ k))
+    rest_used : (id : List ℕ) → is_this_break id (rest_id (rest_in state.store a.shown.rest)) ≡ true → is_one_of a.in_use.items id ≡ true
+    rest_used id k = listed id (or_second _ _ (ap (λ o. is_this_break id (rest_id o)) (sym accepted.rest) ∙ k))
 
     stay : Stay state.store (kept_in_use a.in_use.items state.store) (drop a.gone held) a.shown.rest
     stay = record {
@@ -184,7 +171,6 @@ module _ (base : Parts) (tolerance : ℕ) (state : ChannelState) (text : Option 
           ap (λ k. record { base = base; tolerance = tolerance; kept = k; text = Some a.written.text }) kept_is
           ∙ (ap (λ t. record { base = base; tolerance = tolerance; kept = kept_after tolerance kept p; text = Some t }) accepted.text
           ∙ (ap (step_judged before p) (sym unrefused) ∙ ap (step_read before) (sym h.read)));
-      typed = typed p h.read h.texts;
     }
 
     pub record Goes (new : ChannelState) (done : Refreshed) : Type 0 where
@@ -214,7 +200,6 @@ module _ (base : Parts) (tolerance : ℕ) (state : ChannelState) (text : Option 
       record {
         says = ap (λ o. judged o (refreshed_with (kept_window tolerance (kept_in state) p) (fresh_after (kept_in state).shown p))) (sym told) ∙ ap (says_read before) (sym r.read);
         comes = ap (step_judged before p) (sym told) ∙ ap (step_read before) (sym r.read);
-        typed = typed p r.read r.texts;
       }
 
   -- one that was read, and may not follow, or passes the range of numbers
@@ -228,7 +213,7 @@ module _ (base : Parts) (tolerance : ℕ) (state : ChannelState) (text : Option 
   unread_as fault h true same = refl
   unread_as fault h false same =
       let told : reading limited base bytes ≡ Err fault = h (λ is. let no : is_out_of_memory_kind fault.kind ≡ true = ap is_out_of_memory_kind is in absurd (cc)) in
-      record { says = ap (says_read before) (sym told); comes = ap (step_read before) (sym told); typed = λ q f. let bad : Says (Ok q) (Err fault) = sym f ∙ told in apart q fault bad }
+      record { says = ap (says_read before) (sym told); comes = ap (step_read before) (sym told) }
 
   -- one that can't be read
   pub stays_unread : (fault : PlaylistFault) → (fault.kind ≢ NoMemory → reading limited base bytes ≡ Err fault) → Steps before bytes (Err (fault_of_reading fault)) before

@@ -1,7 +1,6 @@
 -- The numbers of the shown segments rise by one, and a playlist that may follow leaves none out.
 use Rattle.std.proofs.Common.{◌≡◌, ℕ, ◌+◌, ◌≤◌, List, [], ◌∷◌, map, length, refl, ap, sym, ◌∙◌, subst, arith}
 use Rattle.std.specs.Prelude.{None, Ok}
-use Rattle.std.specs.List.{AllByRecursion}
 use Rattle.std.proofs.lemmas.List.{length-map, length-reverse}
 use mathlib.Core.List.{reverse_aux}
 use Rattle.url.specs.Parts.{Parts}
@@ -27,7 +26,7 @@ use Rattle.channel_window.specs.declared.state.ChannelState.{ChannelState}
 use Rattle.channel_window.specs.Marking.{history_in}
 use Rattle.channel_window.specs.Showing.{kept_in}
 use Rattle.channel_window.specs.Listed.{RiseByOne, RisesOn}
-use Rattle.live_channel.specs.Channel.{Given, events_of, told_by, IsAsTyped}
+use Rattle.live_channel.specs.Channel.{Given, events_of, told_by}
 use Rattle.live_channel.specs.Inner.Accepting.{RisesNext}
 use Rattle.live_channel.proofs.Steps.{all_given}
 
@@ -72,10 +71,10 @@ seen_long store list = length-reverse (map (meant store) list) ∙ length-map li
 held_rises : (store : Store) (list : List Held) (segments : List Segment) → FallsBefore (history_in store list) segments → RisesOn list segments
 held_rises store list segments b = grind (arith, held_rise, seen_long)
 
-pub rises_next : (base : Parts) (tolerance : ℕ) (given : List Given) (bytes : List ℕ) (state : ChannelState) (p : Playlist) → reading limited base bytes ≡ Ok p → kept_in state ≡ kept_of (told_by base tolerance given) → AllByRecursion (IsAsTyped base) given → RisesNext state p
-rises_next base tolerance given bytes state p read e typed f =
+pub rises_next : (base : Parts) (tolerance : ℕ) (given : List Given) (bytes : List ℕ) (state : ChannelState) (p : Playlist) → reading limited base bytes ≡ Ok p → kept_in state ≡ kept_of (told_by base tolerance given) → RisesNext state p
+rises_next base tolerance given bytes state p read e f =
     let t = told_by base tolerance given in
-    let standing = plain_standing t.accepted t.history t.start (holds tolerance (events_of base given) (all_given base given typed)).standing in
-    let follows = kept_follows tolerance p (events_of base given) (is_read p (can_be_written limited base bytes p read), all_given base given typed) in
+    let standing = plain_standing t.accepted t.history t.start (holds tolerance (events_of base given) (all_given base given)).standing in
+    let follows = kept_follows tolerance p (events_of base given) (is_read p (can_be_written limited base bytes p read), all_given base given) in
     let b = shown_falls t.accepted t.history p standing (sym follows.succeeds ∙ (ap (λ k. kept_succession k p) (sym e) ∙ f)) in
     held_rises state.store state.list p.segments (subst (λ seen. FallsBefore seen p.segments) (sym (ap (λ (k : Kept). k.shown) e)) b)

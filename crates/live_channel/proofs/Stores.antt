@@ -55,7 +55,7 @@ abbrev KeptPods : Kept → Type 0
 KeptPods k = AllByRecursion (λ (x : Marked). HasPod k.store x.mark) k.shown × HasPod k.store (rest_mark k.rest)
 
 kept_pods : (c : Channel) (given : List Given) → Represents c given → KeptPods c.kept
-kept_pods c given s = subst KeptPods (sym s.kept) (kept_have_pods c.tolerance (events_of c.base given) (all_given c.base given s.typed))
+kept_pods c given s = subst KeptPods (sym s.kept) (kept_have_pods c.tolerance (events_of c.base given) (all_given c.base given))
 
 -- whatever keeps the used pods, keeps the marks
 pub all_stay : (c : Channel) (given : List Given) (new : Store) (held : List Held) (rest : Option Rest) → Represents c given → c.kept.shown ≡ reverse (map (meant c.kept.store) held) → c.kept.rest ≡ rest_in c.kept.store rest

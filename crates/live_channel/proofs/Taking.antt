@@ -1,22 +1,18 @@
 -- A channel that takes a playlist that was read.
-use Rattle.std.proofs.Common.{◌≡◌, ◌≤◌, ◌++◌, ℕ, Bool, true, List, [], map, length, Ok, ap, sym, ◌∙◌, subst, take, drop, arith}
-use Rattle.std.specs.Prelude.{◌&&◌, Option, None, Some, MatchOption}
-use Rattle.std.specs.List.{list_all}
-use Rattle.std.proofs.lemmas.Bool.{and_parts}
-use Rattle.std.proofs.lemmas.List.{take-append-drop}
+use Rattle.std.proofs.Common.{◌≡◌, ◌≤◌, ℕ, List, [], map, length, Ok, ap, sym, ◌∙◌, subst, drop, arith}
+use Rattle.std.specs.Prelude.{Option, None, Some, MatchOption}
 use Rattle.std.proofs.Math.Seq.{take-nil, drop-nil}
-use Rattle.std.proofs.lemmas.List.Folds.{list_all-append}
 use Rattle.url.specs.Parts.{Parts}
 use Rattle.playlist_model.specs.Segments.{Segment}
 use Rattle.playlist_model.specs.declared.DateRange.{DateRange}
+use Rattle.playlist_model.specs.declared.Playlist.{Playlist}
 use Rattle.playlist_model.specs.Same.{kept_parts}
 use Rattle.playlist_model.specs.Reading.{reading, limited}
-use Rattle.read_is_writable.specs.Read.{uris_are_text}
 use Rattle.channel_spec.specs.Kept.{kept_refusal}
 use Rattle.channel_window.specs.Showing.{AreKept, IsLastEntered, kept_in}
 use Rattle.channel_window.specs.declared.state.ChannelState.{ChannelState}
 use Rattle.channel_window.specs.Checked.{AreContiguous, AreTaken}
-use Rattle.channel_window.specs.Listed.{segments_in}
+use Rattle.channel_window.specs.Listed.{window_segments_in}
 use Rattle.playlist_kept.specs.KeptLines.{LinesWereRead}
 use Rattle.playlist_kept.specs.declared.source.KeptLines.{KeptLines}
 use Rattle.playlist_kept.specs.Kept.{AreKeptLines, IsAfter, IsKeptUnderBase, IsTakenFrom, kept_segments, playlist_in, with_taken}
@@ -39,21 +35,21 @@ use Rattle.live_channel.proofs.LastText.{ending_next, laid_next, stood_before}
 pub record IsSound (base : Parts) (tolerance : ℕ) (state : ChannelState) (written : Option WrittenText) : Type 0 where
   pub stands : WasGivenSomething (channel_with base tolerance state (text_in written))
   pub kept : AreKept state.store state
-  pub contiguous : AreContiguous (segments_in state.list)
+  pub contiguous : AreContiguous (window_segments_in state.list)
   pub laid : IsLast state written
 
 module _ (base : Parts) (tolerance : ℕ) (state : ChannelState) (written : Option WrittenText) (bytes : List ℕ) (read : Read) (sound : IsSound base tolerance state written)
     (here : BytesAreReadAs base bytes (playlist_in read)) where
-  pub judged : AreTaken (segments_in state.list) read.taken.now → read.front ≤ length read.playlist.segments → IsJudged tolerance state written read
+  pub judged : AreTaken (window_segments_in state.list) read.taken.now → read.front ≤ length read.playlist.segments → IsJudged tolerance state written read
   judged taken front =
       let s = sound.stands in
       let p = playlist_in read in
       record {
-        stood = stood_before base tolerance s.0 bytes p (kept_in state) written s.1.kept s.1.typed here.read sound.laid.text;
+        stood = stood_before base tolerance s.0 bytes p (kept_in state) written s.1.kept here.read sound.laid.text;
         contiguous = here.numbers;
         decided = sound.kept;
         entered = subst IsLastEntered (sym s.1.kept) (is_last_entered (told_by base tolerance s.0));
-        rising = rises_next base tolerance s.0 bytes state p here.read s.1.kept s.1.typed;
+        rising = rises_next base tolerance s.0 bytes state p here.read s.1.kept;
         last = sound.contiguous;
         taken = taken;
         front = front;
@@ -61,14 +57,14 @@ module _ (base : Parts) (tolerance : ℕ) (state : ChannelState) (written : Opti
       }
 
   module _ (new : ChannelState) (text : Option WrittenText) (done : Refreshed) (taken : Accepts tolerance state (playlist_in read) new text done) where
-    pub is_listed : map kept_parts (segments_in new.list) ≡ map kept_parts (playlist_in read).segments
+    pub is_listed : map kept_parts (window_segments_in new.list) ≡ map kept_parts (playlist_in read).segments
     is_listed =
         let s = sound.stands in
         let p = playlist_in read in
         let g = goes base tolerance state (text_in written) bytes p taken.held taken.next here taken.follows new done taken.state_is taken.done_is s in
         let r = (g.refreshes s.0 s.1).stands in
         let refused = unrefused base tolerance state (text_in written) bytes p taken.held taken.next here taken.follows in
-        listed_next base tolerance s.0 bytes p new r.typed here.read (ap (λ k. kept_refusal tolerance k p) (sym s.1.kept) ∙ refused) r.kept
+        listed_next base tolerance s.0 bytes p new here.read (ap (λ k. kept_refusal tolerance k p) (sym s.1.kept) ∙ refused) r.kept
 
     pub is_sound : IsSound base tolerance new text
     is_sound =
@@ -77,43 +73,25 @@ module _ (base : Parts) (tolerance : ℕ) (state : ChannelState) (written : Opti
         let f = taken.follows in
         let g = goes base tolerance state (text_in written) bytes p taken.held taken.next here f new done taken.state_is taken.done_is s in
         let r = (g.refreshes s.0 s.1).stands in
-        let laid = laid_next base tolerance s.0 bytes p (kept_in state) (kept_in new) taken.next.written s.1.kept r.kept r.typed here.read f.succeeds f.accepted.fit f.accepted.laid in
-        let end = ending_next base tolerance s.0 bytes p (kept_in state) (kept_in new) taken.next.shown.ending s.1.kept r.kept r.typed here.read f.succeeds f.accepted.fit f.accepted.ending in
+        let laid = laid_next base tolerance s.0 bytes p (kept_in state) (kept_in new) taken.next.written s.1.kept r.kept here.read f.succeeds f.accepted.fit f.accepted.laid in
+        let end = ending_next base tolerance s.0 bytes p (kept_in state) (kept_in new) taken.next.shown.ending s.1.kept r.kept here.read f.succeeds f.accepted.fit f.accepted.ending in
         let ending = subst (λ (x : ChannelState). IsLastEnding (kept_in new) x.shown.ending) (sym taken.state_is) end in
         subst (IsSound base tolerance new) (sym taken.written_is)
-        (record { stands = g.stands; kept = g.decided; contiguous = contiguous_too (segments_in new.list) p.segments is_listed here.numbers; laid = record { text = laid; ending = ending } })
+        (record { stands = g.stands; kept = g.decided; contiguous = contiguous_too (window_segments_in new.list) p.segments is_listed here.numbers; laid = record { text = laid; ending = ending } })
 
     pub refreshes : Refreshes (channel_with base tolerance state (text_in written)) bytes (Ok done) (channel_with base tolerance new (text_in text))
     refreshes =
         let g = goes base tolerance state (text_in written) bytes (playlist_in read) taken.held taken.next here taken.follows new done taken.state_is taken.done_is sound.stands in
         subst (λ w. Refreshes (channel_with base tolerance state (text_in written)) bytes (Ok done) (channel_with base tolerance new (text_in w))) (sym taken.written_is) g.refreshes
 
--- ---- the texts of what was read and of what was taken over
+-- ---- what was read
 
-both : {a b : Bool} → a ≡ true → b ≡ true → (a && b) ≡ true
-both e f = grind (arith, e, f)
-
-texts_of : (front : ℕ) (read taken : List Segment) → list_all uris_are_text read ≡ true → list_all uris_are_text taken ≡ true → list_all uris_are_text (with_taken front read taken) ≡ true
-texts_of front read taken here there =
-    let parts = and_parts _ _ (sym (list_all-append uris_are_text (take front read) (drop front read)) ∙ ap (list_all uris_are_text) (take-append-drop front read) ∙ here) in
-    list_all-append uris_are_text (take front read) (taken ++ drop front read)
-    ∙ both parts.0 (list_all-append uris_are_text taken (drop front read) ∙ both there parts.1)
-
-pub read_as : (base : Parts) (bytes : List ℕ) (read : Read) → reading limited base bytes ≡ Ok (playlist_in read) → list_all uris_are_text read.playlist.segments ≡ true → list_all uris_are_text read.taken.now ≡ true
-    → BytesAreReadAs base bytes (playlist_in read)
-read_as base bytes read is here there = record {
-  read = is;
-  texts = texts_of read.front read.playlist.segments read.taken.now here there;
-  numbers = read_rises base bytes (playlist_in read) is;
-}
+pub read_as : (base : Parts) (bytes : List ℕ) (p : Playlist) → reading limited base bytes ≡ Ok p → BytesAreReadAs base bytes p
+read_as base bytes p is = record { read = is; numbers = read_rises base bytes p is }
 
 -- nothing is taken over where nothing is kept
 pub alone : (read : Read) → IsTakenFrom [] read → read.taken.now ≡ []
 alone read taken = taken ∙ ap (drop read.from) (take-nil read.till) ∙ drop-nil read.from
-
-pub read_alone : (base : Parts) (bytes : List ℕ) (read : Read) → reading limited base bytes ≡ Ok (playlist_in read) → list_all uris_are_text read.playlist.segments ≡ true → read.taken.now ≡ []
-    → BytesAreReadAs base bytes (playlist_in read)
-read_alone base bytes read is here none = grind (arith, read_as)
 
 -- ---- what is kept of the text
 
@@ -140,7 +118,7 @@ module _ (base : Parts) (read : Read) (last : Option LastPlaylist) (taken : IsTa
       subst (λ xs. LinesWereRead base source.lines xs source.date_ranges) (sym (segments_are source a))
       (subst (LinesWereRead base source.lines (playlist_in read).segments) (sym a.date_ranges) was)
 
-  pub listed_after : (next : Option LastPlaylist) (new : ChannelState) → MatchOption next (Unit {0}) (IsAfter (step_of read) last) → map kept_parts (segments_in new.list) ≡ map kept_parts (playlist_in read).segments
+  pub listed_after : (next : Option LastPlaylist) (new : ChannelState) → MatchOption next (Unit {0}) (IsAfter (step_of read) last) → map kept_parts (window_segments_in new.list) ≡ map kept_parts (playlist_in read).segments
       → IsListed next new.list
   listed_after None new a h = tt
   listed_after (Some source) new a h = h ∙ ap (map kept_parts) (sym (segments_are source a))

@@ -8,7 +8,7 @@ use Rattle.stitcher.specs.declared.OutSegment.{OutSegment}
 use Rattle.playlist_write.specs.declared.OutPlaylist.{OutPlaylist}
 use Rattle.playlist_write.specs.declared.resumed.WrittenText.{WrittenText}
 use Rattle.playlist_write.specs.Owed.{Current, none_yet, said_text, segments_owed}
-use Rattle.playlist_write.specs.Laid.{after_segments, states_all, IsFrontLength, IsLaid, HasEnds}
+use Rattle.playlist_write.specs.Laid.{after_segments, first_written_segment_states_all, IsFrontLength, IsLaid, HasEnds}
 use Rattle.channel_spec.specs.Live.{date_ranges_left}
 use Rattle.channel_window.specs.Listed.{head_of, writes_time}
 use Rattle.live_channel.specs.Inner.LastText.{Stood}
@@ -22,7 +22,7 @@ take_one : (xs ys : List OutSegment) → 0 < length xs → take 1 (xs ++ ys) ≡
 take_one [] ys h = absurd (omega (arith, h))
 take_one (x ∷ xs) ys h = refl
 
-states_one : (s : Current) (xs ys : List OutSegment) → 0 < length xs → states_all s (xs ++ ys) ≡ states_all s xs
+states_one : (s : Current) (xs ys : List OutSegment) → 0 < length xs → first_written_segment_states_all s (xs ++ ys) ≡ first_written_segment_states_all s xs
 states_one s [] ys h = absurd (omega (arith, h))
 states_one s (x ∷ xs) ys h = refl
 
@@ -58,7 +58,7 @@ module _ (whole front tail window : List OutSegment) (start : ℕ) (is : whole �
       let rest : drop start whole ≡ first ++ tail = here ∙ left_is in
       let after = after_segments none_yet (take start front) in
       record {
-        states = ap (λ xs. states_all (after_segments none_yet xs) (drop start whole)) gone ∙ (ap (states_all after) rest ∙ (states_one after first tail some ∙ h.states));
+        states = ap (λ xs. first_written_segment_states_all (after_segments none_yet xs) (drop start whole)) gone ∙ (ap (first_written_segment_states_all after) rest ∙ (states_one after first tail some ∙ h.states));
         is = h.is ∙ sym (ap (λ xs. length (said_text (segments_owed none_yet xs) ++ said_text (segments_owed (after_segments none_yet xs) (take 1 (drop start whole))))) gone
             ∙ ap (λ xs. length (said_text (segments_owed none_yet (take start front)) ++ said_text (segments_owed after xs))) (ap (take 1) rest ∙ take_one first tail some));
       }

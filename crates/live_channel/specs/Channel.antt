@@ -1,6 +1,5 @@
 -- What a channel stands for, after the list of all that it was given, the newest first.
 use Rattle.std.specs.Prelude.{◌≡◌, ◌≢◌, ℕ, Bool, true, false, List, [], ◌∷◌, ◌++◌, map, filter, length, Option, Some, None, option_map, Result, Ok, Err, IsOk, MatchResult, slice_get}
-use Rattle.std.specs.List.{AllByRecursion, list_all}
 use Rattle.url.specs.Parts.{Parts}
 use Rattle.playlist_model.specs.declared.Playlist.{Playlist}
 use Rattle.playlist_kept.specs.declared.source.LastPlaylist.{LastPlaylist}
@@ -11,7 +10,6 @@ use Rattle.stitcher.specs.Stitched.{Item}
 use Rattle.playlist_write.specs.declared.OutPlaylist.{OutPlaylist}
 use Rattle.playlist_write.specs.Owed.{playlist_text}
 use Rattle.playlist_write.specs.declared.resumed.WrittenText.{WrittenText}
-use Rattle.read_is_writable.specs.Read.{uris_are_text}
 use Rattle.pod_store.specs.Store.{Store, is_used}
 use Rattle.pod_store.specs.Store.{decided as after_decisions}
 use Rattle.pod_store.specs.Store.{withdrawn as without_break}
@@ -21,7 +19,6 @@ use Rattle.pod_store.specs.Outcome.{DecisionOutcome, no_memory, RefusesByDecisio
 use Rattle.pod_store.specs.declared.Decisions.{Decisions}
 use Rattle.pod_store.specs.declared.Decisions.TheVariants.{Withdraw}
 use Rattle.pod_store.specs.declared.fault.DecisionFault.{DecisionFault}
-use Rattle.channel_spec.specs.Sound.{AllPods}
 use Rattle.stitcher.specs.Written.{written_item}
 use Rattle.channel_spec.specs.declared.fault.RefreshFault.{RefreshFault}
 use Rattle.channel_spec.specs.declared.fault.RefreshFault.TheVariants.{Playlist as Unreadable, OutOfMemory}
@@ -35,10 +32,9 @@ use Rattle.channel_spec.specs.Live.{Event, Told, told, refusal, last_playlist, i
 use Rattle.channel_spec.specs.Live as live
 use Rattle.channel_spec.specs.Kept.{Kept, listed, head_numbers, kept_of, kept_refusal, kept_after, kept_window, date_ranges_after}
 use Rattle.owed_is_denoted.specs.Owed.{out_playlist, owed_text}
-use Rattle.owed_is_denoted.specs.Laws.{KeepsRules}
 use Rattle.playlist_model.specs.Same.{kept_parts}
 use Rattle.channel_spec.specs.declared.heading.Heading.{Heading}
-use Rattle.channel_window.specs.Listed.{segments_in}
+use Rattle.channel_window.specs.Listed.{window_segments_in}
 use Rattle.stitcher.specs.declared.marked.MarkedSegment.{MarkedSegment as Held}
 use Rattle.live_channel.specs.declared.channel.Refreshed.{Refreshed}
 use Rattle.channel_window.specs.declared.state.ChannelState.{ChannelState}
@@ -90,18 +86,10 @@ pub record Channel : Type 0 where
   pub kept : Kept
   pub text : Option (List ℕ)
 
--- decided pods keep the rules of pods, and the URIs of what is read are texts: the types that hold them say so, so that
--- each call finds it of its bytes
-abbrev pub IsAsTyped : Parts → Given → Type 0
-IsAsTyped base (decided bytes) = (ds : Decisions) → decisions_of bytes ≡ Ok ds → AllPods KeepsRules ds
-IsAsTyped base (withdrawn id) = Unit {0}
-IsAsTyped base (refreshed bytes) = (p : Playlist) → reading limited base bytes ≡ Ok p → list_all uris_are_text p.segments ≡ true
-
 -- the channel stands for all that it was given
 pub record Represents (c : Channel) (given : List Given) : Type 0 where
   pub kept : c.kept ≡ kept_of (told_by c.base c.tolerance given)
   pub text : c.text ≡ text_after (told_by c.base c.tolerance given)
-  pub typed : AllByRecursion (IsAsTyped c.base) given
 
 -- ---- what a refresh answers
 
@@ -150,11 +138,11 @@ Refreshes old bytes result new = (given : List Given) → Represents old given �
 
 -- ---- the same from what is kept
 
-abbrev pub playlist_after : ℕ → Kept → Playlist → OutPlaylist
-playlist_after tolerance kept p = out_playlist p (map date_range_text (date_ranges_after tolerance kept p)) (map written_item (kept_window tolerance kept p))
+abbrev pub live_playlist_after : ℕ → Kept → Playlist → OutPlaylist
+live_playlist_after tolerance kept p = out_playlist p (map date_range_text (date_ranges_after tolerance kept p)) (map written_item (kept_window tolerance kept p))
 
 abbrev pub step_judged : Channel → Playlist → Option RefreshFault → Channel
-step_judged c p None = record c { kept = kept_after c.tolerance c.kept p; text = Some (playlist_text (playlist_after c.tolerance c.kept p)) }
+step_judged c p None = record c { kept = kept_after c.tolerance c.kept p; text = Some (playlist_text (live_playlist_after c.tolerance c.kept p)) }
 step_judged c p (Some fault) = c
 
 abbrev pub step_read : Channel → Reading → Channel
@@ -176,7 +164,6 @@ says c bytes = says_read c (reading limited c.base bytes)
 pub record StepsAs (old : Channel) (bytes : List ℕ) (result : Result Refreshed RefreshFault) (new : Channel) : Type 0 where
   pub says : result ≡ says old bytes
   pub comes : new ≡ step old bytes
-  pub typed : IsAsTyped old.base (refreshed bytes)
 
 -- a refresh of what is kept, a failed allocation aside, after which the channel is as it was
 abbrev pub StepsUnless : Bool → Channel → List ℕ → Result Refreshed RefreshFault → Channel → Type 0
@@ -275,7 +262,7 @@ WasGivenSomething c = (given : List Given) × Represents c given
 -- the segments that are held are those of the playlist that was read last, number for number, in all but title, time and steps
 abbrev pub IsListed : Option LastPlaylist → List Held → Type 0
 IsListed None held = Unit {0}
-IsListed (Some source) held = map kept_parts (segments_in held) ≡ map kept_parts source.segments.items
+IsListed (Some source) held = map kept_parts (window_segments_in held) ≡ map kept_parts source.segments.items
 
 -- the text of what was written last
 abbrev pub text_in : Option WrittenText → Option (List ℕ)

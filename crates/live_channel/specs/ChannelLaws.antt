@@ -1,6 +1,6 @@
 -- A channel that keeps no history follows all that it was given, and what holds of it then.
 use Rattle.std.specs.Prelude.{◌≡◌, ◌↔◌, ◌⊎◌, ℕ, true, List, ◌∷◌, ◌++◌, Option, Some, None, Result, Ok, Err, IsOk}
-use Rattle.std.specs.List.{AllByRecursion, list_all}
+use Rattle.std.specs.List.{list_all}
 use Rattle.url.specs.Parts.{Parts}
 use Rattle.playlist_model.specs.declared.Playlist.{Playlist}
 use Rattle.playlist_model.specs.Reading.{reading, limited}
@@ -15,11 +15,11 @@ use Rattle.pod_store.specs.declared.Decisions.{Decisions}
 use Rattle.pod_store.specs.declared.Decisions.TheVariants.{Withdraw}
 use Rattle.pod_store.specs.declared.fault.DecisionFault.{DecisionFault}
 use Rattle.live_channel.specs.declared.channel.Refreshed.{Refreshed}
-use Rattle.live_channel.specs.Channel.{Given, decided, withdrawn, refreshed, Channel, told_by, Represents, owed_answer, AnswersAs, IsAsTyped, with_store, step, says, Steps, Refreshes, WritesWhatIsOwed}
+use Rattle.live_channel.specs.Channel.{Given, decided, withdrawn, Channel, told_by, Represents, owed_answer, AnswersAs, with_store, step, says, Steps, Refreshes, WritesWhatIsOwed}
 
 -- a refresh from what is kept answers what is owed, and the channel then stands for it too
 abbrev pub StepFollows : Type 0
-StepFollows = (c : Channel) (bytes : List ℕ) (given : List Given) → IsAsTyped c.base (refreshed bytes) → Represents c given → AnswersAs c bytes given (says c bytes) (step c bytes)
+StepFollows = (c : Channel) (bytes : List ℕ) (given : List Given) → Represents c given → AnswersAs c bytes given (says c bytes) (step c bytes)
 
 -- so a call that does that, or answers a failed allocation, is a refresh whatever the channel stood for
 abbrev pub StepsRefresh : Type 0
@@ -27,11 +27,11 @@ StepsRefresh = (old : Channel) (bytes : List ℕ) (result : Result Refreshed Ref
 
 -- decisions change the store alone
 abbrev pub DecideFollows : Type 0
-DecideFollows = (c : Channel) (decisions : Decisions) (bytes : List ℕ) (given : List Given) → IsAsTyped c.base (decided bytes) → decisions_of bytes ≡ Ok decisions → Represents c given →
+DecideFollows = (c : Channel) (decisions : Decisions) (bytes : List ℕ) (given : List Given) → decisions_of bytes ≡ Ok decisions → Represents c given →
     Represents (with_store c (live.decide decisions c.kept.store)) (decided bytes ∷ given)
 
 abbrev pub UndecidedFollows : Type 0
-UndecidedFollows = (c : Channel) (fault : DecisionFault) (bytes : List ℕ) (given : List Given) → IsAsTyped c.base (decided bytes) → decisions_of bytes ≡ Err fault → Represents c given →
+UndecidedFollows = (c : Channel) (fault : DecisionFault) (bytes : List ℕ) (given : List Given) → decisions_of bytes ≡ Err fault → Represents c given →
     Represents c (decided bytes ∷ given)
 
 abbrev pub WithdrawFollows : Type 0
@@ -64,10 +64,10 @@ AcceptanceIsExact = (c : Channel) (given : List Given) (bytes : List ℕ) → Re
 
 -- the stitched list, numbers included, only grows, whatever is given
 abbrev pub StitchedListGrows : Type 0
-StitchedListGrows = (base : Parts) (tolerance : ℕ) (later before : List Given) → AllByRecursion (IsAsTyped base) (later ++ before) →
+StitchedListGrows = (base : Parts) (tolerance : ℕ) (later before : List Given) →
     GoesOn (whole_stitched_list (told_by base tolerance before)) (whole_stitched_list (told_by base tolerance (later ++ before)))
 
 -- each owed playlist is the one before it, or may follow it
 abbrev pub OwedPlaylistsSucceed : Type 0
-OwedPlaylistsSucceed = (base : Parts) (tolerance : ℕ) (event : Given) (before : List Given) (old new : Playlist) → AllByRecursion (IsAsTyped base) (event ∷ before) →
+OwedPlaylistsSucceed = (base : Parts) (tolerance : ℕ) (event : Given) (before : List Given) (old new : Playlist) →
     owed (told_by base tolerance before) ≡ Some old → owed (told_by base tolerance (event ∷ before)) ≡ Some new → (new ≡ old) ⊎ MayFollow new old

@@ -1,4 +1,3 @@
-pub mod Typed
 pub mod Accepting
 pub mod Marks
 pub mod LastText

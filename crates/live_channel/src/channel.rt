@@ -1,20 +1,19 @@
 //! A live channel: what it keeps, and what holds of it whatever it was given.
-ghost use Rattle.std.specs.Prelude.{◌≡◌, ◌<◌, ◌≤◌, ℕ, List, [], Some, None, IfOk, IsErrOf, IsSome, length, option_map, slice_get};
+ghost use Rattle.std.specs.Prelude.{◌≡◌, ◌<◌, ◌≤◌, [], Some, None, IfOk, IsErrOf, IsSome, length, option_map, slice_get};
 ghost use Rattle.std.specs.Option.{option_copied};
 ghost use Rattle.playlist_model.specs.Uri.{base_of};
 ghost use Rattle.live_channel.specs.Channel.{decided, withdrawn, ChangesStore, ChangesStoreExactly, after_bytes, StandsOn, AlwaysStandsOn, Represents, Decides, Withdraws, WritesWhatIsOwed, Refreshes, Knows, Explains, explained};
-ghost use Rattle.channel_window.specs.Listed.{segments_in};
+ghost use Rattle.channel_window.specs.Listed.{window_segments_in};
 ghost use Rattle.pod_store.specs.Store.{withdrawn as without_break};
 ghost use Rattle.pod_store.specs.Store.{is_used};
 ghost use Rattle.break_finder.specs.Entering.{id_of_break, why};
 ghost use Rattle.channel_spec.specs.Successor.{has_init_sections};
 ghost use Rattle.channel_spec.specs.Limits.{max_tolerance};
 
-use crate::refresh::{accept, playlist_after, playlist_of};
-use crate::type_facts::know_pods;
+use crate::refresh::{accept_live_refresh, live_playlist_after, live_playlist_of};
 use break_finder::Why;
 use channel_spec::{MAX_TOLERANCE, RefreshFault};
-use channel_window::{ChannelState, Row, Shown, have_init_sections};
+use channel_window::{ChannelState, Shown, WindowRow, shown_have_init_sections};
 use decision_files::read_decisions;
 use fixed_duration::Nanos;
 use playlist_kept::LastPlaylist;
@@ -62,11 +61,10 @@ impl Model for Channel {
 
     ghost use Rattle.channel_window.specs.Showing.{AreKept};
     ghost use Rattle.channel_window.specs.Checked.{AreContiguous};
-    ghost use Rattle.channel_window.specs.Listed.{segments_in};
-    ghost use Rattle.channel_window.specs.Showing.{kept_in};
+    ghost use Rattle.channel_window.specs.Listed.{window_segments_in};
     ghost use Rattle.live_channel.specs.LastText.{IsLast};
 
-    ghost invariant = { λ a. WasGivenSomething (channel_with a.base a.tolerance a.state (text_in a.written)) × AreKept a.state.store a.state × (IsListed a.source a.state.list × AreContiguous (segments_in a.state.list)) × IsLast a.state a.written × IsKeptUnderBase a.base a.source };
+    ghost invariant = { λ a. WasGivenSomething (channel_with a.base a.tolerance a.state (text_in a.written)) × AreKept a.state.store a.state × (IsListed a.source a.state.list × AreContiguous (window_segments_in a.state.list)) × IsLast a.state a.written × IsKeptUnderBase a.base a.source };
 }
 
 /// Why a channel can't be made.
@@ -110,11 +108,11 @@ impl fmt::Display for ChannelFault {
 impl Error for ChannelFault {}
 
 // Why a break is filled or not, if a playlist of this target duration was accepted last.
-fn why_after(state: &ChannelState, target_duration: u64, id: &str) -> Why
+fn why_after_live_refresh(state: &ChannelState, target_duration: u64, id: &str) -> Why
     ensures { result ≡ why state.now.shown.knowledge id.now target_duration
-        (has_init_sections (segments_in state.now.list)) state.now.store (is_used state.now.store id.now) }
+        (has_init_sections (window_segments_in state.now.list)) state.now.store (is_used state.now.store id.now) }
 {
-    let with_init_sections = have_init_sections(state.list.as_slice());
+    let with_init_sections = shown_have_init_sections(state.list.as_slice());
     let store = &state.store;
     let is_used = store.is_used(id);
     let known = &state.shown.knowledge;
@@ -156,7 +154,7 @@ impl Channel {
             state: ChannelState {
                 store: PodStore::new(alloc, hashing),
                 last: None,
-                list: Row::new(alloc),
+                list: WindowRow::new(alloc),
                 shown,
             },
             written: None,
@@ -179,9 +177,9 @@ impl Channel {
     pub fn refresh(&mut self, alloc: Global, bytes: &[u8]) -> Result<Refreshed, RefreshFault>
         ensures { Refreshes self.old bytes.now result self.new }
     {
-        let read = playlist_after(alloc, bytes, &self.base, &self.source)?;
+        let read = live_playlist_after(alloc, bytes, &self.base, &self.source)?;
         let (state, written) = (&mut self.state, &mut self.written);
-        let refreshed = accept(alloc, self.tolerance, state, written, &read)?;
+        let refreshed = accept_live_refresh(alloc, self.tolerance, state, written, &read)?;
         let step = read.step();
         self.source = step.after(alloc, self.source.take());
         Ok(refreshed)
@@ -197,10 +195,10 @@ impl Channel {
     ) -> Result<Refreshed, RefreshFault>
         ensures { Refreshes self.old bytes.items result self.new }
     {
-        let read = playlist_of(alloc, bytes.as_slice(), &self.base)?;
+        let read = live_playlist_of(alloc, bytes.as_slice(), &self.base)?;
         drop(bytes);
         let (state, written) = (&mut self.state, &mut self.written);
-        let refreshed = accept(alloc, self.tolerance, state, written, &read)?;
+        let refreshed = accept_live_refresh(alloc, self.tolerance, state, written, &read)?;
         self.source = None;
         Ok(refreshed)
     }
@@ -214,7 +212,6 @@ impl Channel {
         ensures stands { StandsOn self.old (decided bytes.now) result self.new }
     {
         let decisions = read_decisions(alloc, self.state.store.hashing(), bytes)?;
-        know_pods(&decisions);
         self.state.store.decide(decisions)
     }
 
@@ -229,7 +226,7 @@ impl Channel {
         self.state.store.withdraw(id)
     }
 
-    #[tactic(auto, using(crate::proofs::Steps::channel_writes))]
+    #[tactic(auto, using(crate::proofs::Steps::live_writes))]
     /// The text that is written: none before the first accepted refresh.
     pub fn playlist(&self) -> Option<&[u8]>
         ensures text { option_copied result ≡ self.now.text }
@@ -271,7 +268,7 @@ impl Channel {
         ensures owed { Explains self.now id.now result }
     {
         match &self.state.last {
-            Some(last) => why_after(&self.state, last.target_duration, id),
+            Some(last) => why_after_live_refresh(&self.state, last.target_duration, id),
             None => Why::NotKnown,
         }
     }

@@ -6,7 +6,6 @@ mod in_use;
 pub mod laws;
 mod next;
 mod refresh;
-mod type_facts;
 
 pub use channel::{Channel, ChannelFault, Refreshed};
 pub use channel_spec::RefreshFault;

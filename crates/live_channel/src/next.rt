@@ -4,32 +4,30 @@ ghost use Rattle.std.specs.List.{list_all, list_any};
 ghost use Rattle.stitcher.specs.Stitched.{can_be_numbered};
 ghost use Rattle.playlist_kept.specs.Kept.{playlist_in};
 ghost use Rattle.playlist_write.specs.Owed.{playlist_text};
-ghost use Rattle.stitcher.specs.StitchedSegments.{AreDecided, KnowRuns};
-ghost use Rattle.playlist_model.specs.LookBack.{or_earlier};
-ghost use Rattle.channel_spec.specs.Marking.{last_entered};
 ghost use Rattle.channel_spec.specs.Kept.{items_on};
 ghost use Rattle.channel_spec.specs.Live.{date_range_text, date_ranges_left};
 ghost use Rattle.channel_window.specs.Marking.{history_in};
 ghost use Rattle.channel_window.specs.Showing.{kept_before, kept_in};
-ghost use Rattle.channel_window.specs.Listed.{AreRising, IsRestDecided, RefusesList, writes_time};
+ghost use Rattle.channel_window.specs.Listed.{RefusesList, writes_time};
 ghost use Rattle.owed_is_denoted.specs.Owed.{out_playlist};
 ghost use Rattle.playlist_write.specs.Laid.{IsLaid};
 ghost use Rattle.channel_window.specs.ListEnd.{IsEndOf};
 ghost use Rattle.live_channel.specs.Inner.Accepting.{IsNext, IsReady, IsRefreshReady, IsRefreshWindow, refresh_items};
-ghost use Rattle.live_channel.specs.Inner.LastText.{Stood, StoodIn, StandIn, count_in};
+ghost use Rattle.live_channel.specs.Inner.LastText.{Stood, StandIn, count_in_live_text};
 
 use crate::channel::Refreshed;
-use crate::in_use::breaks_in_use;
+use crate::in_use::live_breaks_in_use;
 use channel_spec::RefreshFault;
 use channel_window::{
-    Before, Ending, PlacedList, Showing, Shown, SteppedList, date_ranges_left, end_within,
-    first_number, head_numbers, is_any_timed, place_of_number, placed_of, run_end, stepped_of,
+    Before, Ending, PlacedList, Showing, Shown, date_ranges_left, first_successor_number,
+    is_any_window_item_timed, place_of_number, placed_of, stepped_window_of, window_end_within,
+    window_head_numbers, window_run_end,
 };
 use fixed_duration::Nanos;
 use playlist_kept::Read;
 use playlist_model::{Items, Playlist, Shared, Text};
 use playlist_write::OutPlaylist;
-use playlist_write::resumed::{WrittenText, front_length, laid_after, laid_on, laid_out};
+use playlist_write::resumed::{WrittenText, front_length, laid_after, laid_out, text_laid_out_on};
 use std::alloc::{AllocError, Global};
 use std::hash::RandomState;
 use stitcher::{MarkedSegment, Numbers, Rest, StitchedList, TextRef};
@@ -61,8 +59,8 @@ pub struct Again<'a> {
 }
 
 // How many segments the text that was written last has the lines of.
-fn count_in(written: &Option<WrittenText>) -> usize
-    ensures { result ≡ count_in written.now }
+fn count_in_live_text(written: &Option<WrittenText>) -> usize
+    ensures { result ≡ count_in_live_text written.now }
 {
     match written {
         Some(last) => last.count,
@@ -72,7 +70,7 @@ fn count_in(written: &Option<WrittenText>) -> usize
 
 // The first of these segments stood in the last text. Which lines of it stand again, if the window starts at this place in
 // them.
-fn lines_again<'a>(
+fn live_lines_again<'a>(
     alloc: Global,
     written: &'a Option<WrittenText>,
     whole: &StitchedList<'_>,
@@ -103,7 +101,7 @@ fn lines_again<'a>(
 }
 
 // The text of a playlist, of which these lines stand in the last text.
-fn lay_text(
+fn lay_live_text(
     alloc: Global,
     out: &OutPlaylist<'_>,
     again: &Option<Again<'_>>,
@@ -120,7 +118,7 @@ fn lay_text(
 
 // The playlist that is written of `playlist`, with these date ranges and items in place of its own, and of the version 6 or more
 // (RFC 8216, section 7).
-fn out_of<'a>(
+fn live_playlist_out_of<'a>(
     playlist: &Playlist,
     date_ranges: Vec<TextRef<'a>>,
     items: StitchedList<'a>,
@@ -139,7 +137,7 @@ fn out_of<'a>(
 }
 
 // What is written of `playlist` with these items in place of its segments, without the date ranges of the breaks in use.
-fn written_of<'a>(
+fn live_playlist_written_of<'a>(
     alloc: Global,
     hashing: RandomState,
     playlist: &'a Playlist,
@@ -158,7 +156,7 @@ fn written_of<'a>(
         in_use,
         playlist.date_ranges.as_slice(),
     )?;
-    Ok(out_of(playlist, date_ranges, items))
+    Ok(live_playlist_out_of(playlist, date_ranges, items))
 }
 
 /// A refresh whose segments are shown, and whose window is to be written.
@@ -196,15 +194,15 @@ pub struct NextWindow {
 }
 
 // Whether the date ranges that are written can be told from these items, the first of a window.
-fn tells_times(playlist: &Playlist, first: &StitchedList<'_>) -> bool
+fn live_playlist_tells_times(playlist: &Playlist, first: &StitchedList<'_>) -> bool
     ensures { result ≡ true → (playlist.now.date_ranges ≡ [])
         ⊎ (list_any writes_time first.now ≡ true) }
 {
-    playlist.date_ranges.as_slice().is_empty() || is_any_timed(first)
+    playlist.date_ranges.as_slice().is_empty() || is_any_window_item_timed(first)
 }
 
 // The window, if most of its text stands in the last one: its first segment, and what is new of the stitched list, are written.
-fn stepped_window(
+fn stepped_live_window(
     alloc: Global,
     refresh: &ShownRefresh<'_, '_>,
 ) -> Result<Option<NextWindow>, AllocError>
@@ -219,7 +217,7 @@ fn stepped_window(
         return Ok(None);
     };
     let (lasted, stood) = (refresh.lasted, last.count);
-    let Some(stepped) = stepped_of(alloc, before, read, list, lasted, stood, ending)? else {
+    let Some(stepped) = stepped_window_of(alloc, before, read, list, lasted, stood, ending)? else {
         return Ok(None);
     };
     let Some(length) = front_length(alloc, &stepped.front, stepped.start)? else {
@@ -227,17 +225,18 @@ fn stepped_window(
     };
     let mut first = stepped.front;
     first.leave_out(stepped.start);
-    if !tells_times(&read.playlist, &first) {
+    if !live_playlist_tells_times(&read.playlist, &first) {
         return Ok(None);
     }
-    let numbers = head_numbers(&first);
-    let (number, entered) = (first_number(read), refresh.entered);
-    let in_use = breaks_in_use(alloc, number, list, entered, &stepped.rest)?;
+    let numbers = window_head_numbers(&first);
+    let (number, entered) = (first_successor_number(read), refresh.entered);
+    let in_use = live_breaks_in_use(alloc, number, list, entered, &stepped.rest)?;
     let hashing = before.state.store.hashing();
-    let out = written_of(alloc, hashing, &read.playlist, in_use.as_slice(), first)?;
+    let out = live_playlist_written_of(alloc, hashing, &read.playlist, in_use.as_slice(), first)?;
     let again = stood - stepped.start;
     let fresh = &stepped.fresh;
-    let Some(written) = laid_on(alloc, &out, last, length, again, fresh, stepped.count)? else {
+    let Some(written) = text_laid_out_on(alloc, &out, last, length, again, fresh, stepped.count)?
+    else {
         return Ok(None);
     };
     Ok(Some(NextWindow {
@@ -252,7 +251,7 @@ fn stepped_window(
 
 // The end from which a list goes on that was made whole. It is sought from the second refresh on: the first one's list would have to
 // be walked through.
-fn whole_end(
+fn whole_live_end(
     alloc: Global,
     refresh: &ShownRefresh<'_, '_>,
     items: &StitchedList<'_>,
@@ -267,56 +266,62 @@ fn whole_end(
     }
     let store = &refresh.before.state.store;
     let ended = refresh.read.playlist.end_list;
-    run_end(alloc, store, refresh.list, ended, refresh.lasted, items)
+    window_run_end(alloc, store, refresh.list, ended, refresh.lasted, items)
 }
 
 // The window, of a stitched list that is made whole.
-fn whole_window(alloc: Global, refresh: &ShownRefresh<'_, '_>) -> Result<NextWindow, RefreshFault>
+fn whole_live_window(
+    alloc: Global,
+    refresh: &ShownRefresh<'_, '_>,
+) -> Result<NextWindow, RefreshFault>
     requires { IsRefreshReady refresh.now }
     ensures ok { IfOk result (IsRefreshWindow refresh.now) }
     ensures err { IfErr result
         (λ e. RefusesList e (list_all can_be_numbered (refresh_items refresh.now) ≡ false)) }
 {
     let (before, read, list) = (refresh.before, refresh.read, refresh.list);
-    let (lasted, stood) = (refresh.lasted, count_in(refresh.written));
+    let (lasted, stood) = (refresh.lasted, count_in_live_text(refresh.written));
     let PlacedList { whole, start, rest } = placed_of(alloc, before, read, list, lasted, stood)?;
-    let again = lines_again(alloc, refresh.written, &whole, start)?;
-    let end = whole_end(alloc, refresh, &whole)?;
+    let again = live_lines_again(alloc, refresh.written, &whole, start)?;
+    let end = whole_live_end(alloc, refresh, &whole)?;
     let mut items = whole;
     items.leave_out(start);
-    let number = first_number(read);
-    let in_use = breaks_in_use(alloc, number, list, refresh.entered, &rest)?;
-    let (numbers, count) = (head_numbers(&items), items.count());
+    let number = first_successor_number(read);
+    let in_use = live_breaks_in_use(alloc, number, list, refresh.entered, &rest)?;
+    let (numbers, count) = (window_head_numbers(&items), items.count());
     let gone = place_of_number(number, list);
     let hashing = before.state.store.hashing();
-    let out = written_of(alloc, hashing, &read.playlist, in_use.as_slice(), items)?;
+    let out = live_playlist_written_of(alloc, hashing, &read.playlist, in_use.as_slice(), items)?;
     Ok(NextWindow {
         numbers,
         count,
         rest,
-        ending: end_within(end, list.len() - gone, count),
+        ending: window_end_within(end, list.len() - gone, count),
         in_use,
-        written: lay_text(alloc, &out, &again)?,
+        written: lay_live_text(alloc, &out, &again)?,
     })
 }
 
 // The window, whichever way it is made.
-fn next_window(alloc: Global, refresh: &ShownRefresh<'_, '_>) -> Result<NextWindow, RefreshFault>
+fn next_live_window(
+    alloc: Global,
+    refresh: &ShownRefresh<'_, '_>,
+) -> Result<NextWindow, RefreshFault>
     requires { IsRefreshReady refresh.now }
     ensures ok { IfOk result (IsRefreshWindow refresh.now) }
     ensures err { IfErr result
         (λ e. RefusesList e (list_all can_be_numbered (refresh_items refresh.now) ≡ false)) }
 {
-    match stepped_window(alloc, refresh)? {
+    match stepped_live_window(alloc, refresh)? {
         Some(window) => Ok(window),
-        None => whole_window(alloc, refresh),
+        None => whole_live_window(alloc, refresh),
     }
 }
 
 /// What a channel that kept `before` comes to by the playlist that was `read`, if it shows the segments `list` then, of which
 /// those of `showing` came last. `written` is the text that it wrote last, of which lines are copied. `NumberRange` if a
 /// number would pass 2^64 - 1 (RFC 8216, sections 4.3.3.2 and 4.3.3.3); `OutOfMemory` only if an allocation fails.
-pub fn next_of<'a>(
+pub fn next_live_state_of<'a>(
     alloc: Global,
     before: &'a Before<'a>,
     written: &'a Option<WrittenText>,
@@ -348,7 +353,7 @@ pub fn next_of<'a>(
         entered: &entered,
         lasted: so_far,
     };
-    let window = next_window(alloc, &refresh)?;
+    let window = next_live_window(alloc, &refresh)?;
     let refreshed = Refreshed {
         media_sequence: window.numbers.media_sequence,
         segments: window.count,
@@ -363,7 +368,7 @@ pub fn next_of<'a>(
         ending: window.ending,
     };
     Ok(NextState {
-        gone: place_of_number(first_number(read), list),
+        gone: place_of_number(first_successor_number(read), list),
         shown,
         in_use: window.in_use,
         refreshed,

@@ -10,14 +10,13 @@ ghost use Rattle.playlist_kept.specs.Kept.{AreKeptLines, IsKeptUnderBase, IsTake
 ghost use Rattle.channel_window.specs.ListEnd.{IsLastEnding};
 ghost use Rattle.channel_window.specs.Showing.{AreKept, IsLastEntered, kept_in};
 ghost use Rattle.live_channel.specs.Inner.Accepting.{Accepts, FollowsLastPlaylist, HasGrown, IsAccepted, IsJudged, BytesAreReadAs, Refused, RefusesNext, state_with};
-ghost use Rattle.channel_window.specs.Listed.{RefusesList, RisesOn, segments_in};
+ghost use Rattle.channel_window.specs.Listed.{RefusesList, RisesOn, window_segments_in};
 ghost use Rattle.live_channel.specs.Inner.LastText.{StoodIn};
 ghost use Rattle.channel_window.specs.declared.state.ChannelState.{ChannelState as LiveState};
 
 use crate::channel::Refreshed;
-use crate::next::{NextState, next_of};
-use crate::type_facts::{utf8_of_members, utf8_of_uris};
-use channel_spec::{Heading, RefreshFault, heading_of};
+use crate::next::{NextState, next_live_state_of};
+use channel_spec::{Heading, RefreshFault, owed_heading_of};
 use channel_window::{ChannelState, check_successor, shown_with};
 use fixed_duration::Nanos;
 use playlist_kept::{LastPlaylist, Read};
@@ -27,9 +26,9 @@ use std::alloc::Global;
 use uri_resolver::Base;
 
 // Whether the playlist that was read may follow what is shown.
-fn may_follow(state: &ChannelState, read: &Read<'_>) -> Result<(), RefreshFault>
-    requires contiguous { AreContiguous (segments_in state.now.list) }
-    requires taken { AreTaken (segments_in state.now.list) read.now.taken.now }
+fn live_refresh_may_follow(state: &ChannelState, read: &Read<'_>) -> Result<(), RefreshFault>
+    requires contiguous { AreContiguous (window_segments_in state.now.list) }
+    requires taken { AreTaken (window_segments_in state.now.list) read.now.taken.now }
     ensures { result ≡ answer_of (kept_succession (kept_in state.now) (playlist_in read.now)) }
 {
     let shown = state.list.as_slice();
@@ -41,7 +40,7 @@ fn may_follow(state: &ChannelState, read: &Read<'_>) -> Result<(), RefreshFault>
 
 // What a channel comes to by a playlist that may follow the last one. The segments that are new come behind those that it
 // shows, and stay there if the text can't be made. `NumberRange` if a number would pass 2^64 - 1.
-fn next_kept(
+fn next_kept_live_state(
     alloc: Global,
     tolerance: Nanos,
     state: &mut ChannelState,
@@ -54,7 +53,7 @@ fn next_kept(
     requires decided { AreKept state.old.store state.old }
     requires entered { IsLastEntered (kept_in state.old) }
     requires rising { RisesOn state.old.list (playlist_in read.now).segments }
-    requires taken { AreTaken (segments_in state.old.list) read.now.taken.now }
+    requires taken { AreTaken (window_segments_in state.old.list) read.now.taken.now }
     requires front { read.now.front ≤ length read.now.playlist.segments }
     requires ending { IsLastEnding (kept_in state.old) state.old.shown.ending }
     ensures ok { IfOk result
@@ -69,11 +68,11 @@ fn next_kept(
     let mut showing = shown_with(alloc, tolerance, state, read)?;
     state.list.append(&mut showing.come)?;
     let (before, list) = (state.before(stood), state.list.as_slice());
-    next_of(alloc, &before, written, read, list, showing)
+    next_live_state_of(alloc, &before, written, read, list, showing)
 }
 
 // What the channel of `state` comes to by the playlist that was read, if that is accepted.
-fn next_after(
+fn next_live_state_after(
     alloc: Global,
     tolerance: Nanos,
     state: &mut ChannelState,
@@ -88,14 +87,13 @@ fn next_after(
         (λ e. RefusesNext e (kept_refusal tolerance (kept_in state.old) (playlist_in read.now))) }
     ensures grown { HasGrown state.old state.new }
 {
-    may_follow(state, read)?;
-    next_kept(alloc, tolerance, state, written, read)
+    live_refresh_may_follow(state, read)?;
+    next_kept_live_state(alloc, tolerance, state, written, read)
 }
 
-#[tactic(auto, using(crate::proofs::Taking::read_as))]
 /// The playlist that `bytes` are read as under `base`. What they have in common with the last text is taken over from
 /// `source`, what is kept of it. The faults are those of reading (P1 to P24); `OutOfMemory` only if an allocation fails.
-pub fn playlist_after<'a>(
+pub fn live_playlist_after<'a>(
     alloc: Global,
     bytes: &'a [u8],
     base: &'a Base,
@@ -109,16 +107,17 @@ pub fn playlist_after<'a>(
     ensures err { IfErr result
         (λ e. (tolerance : ℕ) (state : LiveState) → Refused base.now tolerance state bytes.now e) }
 {
-    let read = read(alloc, bytes, base, source, true)?;
-    utf8_of_uris(&read.playlist.segments.as_slice());
-    utf8_of_members(read.taken);
-    Ok(read)
+    Ok(read(alloc, bytes, base, source, true)?)
 }
 
-#[tactic(auto, using(crate::proofs::Taking::alone, crate::proofs::Taking::read_alone))]
+#[tactic(auto, using(crate::proofs::Taking::alone))]
 /// The playlist that `bytes` are read as under `base`, of whose text nothing is kept. The faults are those of
-/// `playlist_after`.
-pub fn playlist_of<'a>(alloc: Global, bytes: &[u8], base: &Base) -> Result<Read<'a>, RefreshFault>
+/// `live_playlist_after`.
+pub fn live_playlist_of<'a>(
+    alloc: Global,
+    bytes: &[u8],
+    base: &Base,
+) -> Result<Read<'a>, RefreshFault>
     ensures ok { IfOk result (λ read. BytesAreReadAs base.now bytes.now (playlist_in read)) }
     ensures taken { IfOk result (λ read. read.taken.now ≡ []) }
     ensures front { IfOk result (λ read. read.front ≤ length read.playlist.segments) }
@@ -126,15 +125,13 @@ pub fn playlist_of<'a>(alloc: Global, bytes: &[u8], base: &Base) -> Result<Read<
         (λ e. (tolerance : ℕ) (state : LiveState) → Refused base.now tolerance state bytes.now e) }
 {
     let nothing = None;
-    let read = read(alloc, bytes, base, &nothing, false)?.alone();
-    utf8_of_uris(&read.playlist.segments.as_slice());
-    Ok(read)
+    Ok(read(alloc, bytes, base, &nothing, false)?.alone())
 }
 
 // Keeps in `state` what an accepted refresh by a playlist of the heading `last` comes to, which is `next`, and in `written`
 // the text that is written then. The breaks that were entered with the fallback keep copies of it. `OutOfMemory` only if an
 // allocation for these fails; `state` and `written` are then as they were.
-fn keep(
+fn keep_live_refresh(
     state: &mut ChannelState,
     written: &mut Option<WrittenText>,
     last: Heading,
@@ -156,7 +153,7 @@ fn keep(
 }
 
 // Accepts or refuses a playlist that was read. If it is refused, other segments may stand behind those that are shown.
-fn accept_or_grow(
+fn accept_live_refresh_or_grow(
     alloc: Global,
     tolerance: Nanos,
     state: &mut ChannelState,
@@ -171,14 +168,14 @@ fn accept_or_grow(
     ensures grown { OnErr result (HasGrown state.old state.new) }
     ensures stays { OnErr result (written.new ≡ written.old) }
 {
-    let next = next_after(alloc, tolerance, state, written, read)?;
-    keep(state, written, heading_of(&read.playlist), next)
+    let next = next_live_state_after(alloc, tolerance, state, written, read)?;
+    keep_live_refresh(state, written, owed_heading_of(&read.playlist), next)
 }
 
 /// Accepts or refuses the playlist that was `read`, for the channel of `state`, which enters breaks by `tolerance` and wrote `written`
 /// last. The faults, in this order: those of `check_successor` (N1 to N9), then `NumberRange`; `OutOfMemory` only if an
 /// allocation fails. After a fault `state` and `written` are as they were.
-pub fn accept(
+pub fn accept_live_refresh(
     alloc: Global,
     tolerance: Nanos,
     state: &mut ChannelState,
@@ -194,7 +191,7 @@ pub fn accept(
     ensures written { OnErr result (written.new ≡ written.old) }
 {
     let stood = state.list.len();
-    match accept_or_grow(alloc, tolerance, state, written, read) {
+    match accept_live_refresh_or_grow(alloc, tolerance, state, written, read) {
         Ok(refreshed) => Ok(refreshed),
         Err(fault) => {
             state.list.take_back(stood);

@@ -17,7 +17,7 @@ use Rattle.stitcher.specs.declared.OutSegment.{OutSegment}
 use Rattle.stitcher.specs.Written.{written_item}
 use Rattle.writable.specs.Fitting.{if_some, is_clean, effective_keys_fit, init_section_fits}
 use Rattle.playlist_model.specs.Numbering.{follows, all_follow}
-use Rattle.playlist_write.specs.WellFormed.{resource_fits, duration_fits, segment_fits, out_numbers, out_numbers_rise, out_has_init_section, init_sections_agree}
+use Rattle.playlist_write.specs.WellFormed.{well_formed_resource_fits, duration_fits, well_formed_segment_fits, out_numbers, out_numbers_rise, written_segment_has_init_section, written_init_sections_agree}
 use Rattle.pod_store.specs.Laws.{segment_can_be_written, ad_can_be_written}
 use Rattle.channel_spec.proofs.Reversed.{list_all-reverse}
 use Rattle.owed_is_denoted.proofs.Writable.{stitched_ad, stitched_ads, pod_can_be_written}
@@ -27,7 +27,7 @@ use Rattle.owed_is_denoted.proofs.AllPods.{OfMark}
 
 abbrev fits_with : Bool → Segment → Option ℤ → Bool
 fits_with words s time =
-    words && resource_fits s && effective_keys_fit s.keys && if_some init_section_fits s.init_section && duration_fits s.duration && is_clean s.title
+    words && well_formed_resource_fits s && effective_keys_fit s.keys && if_some init_section_fits s.init_section && duration_fits s.duration && is_clean s.title
     && if_some in_range time
 
 abbrev pub can_stand : Segment → Option ℤ → Bool
@@ -96,7 +96,7 @@ kept_or_not true words s n time h t = ap (λ w. fits_with w s time) h ∙ t
 kept_or_not false words s n time h t = ap (λ w. fits_with w s time) h ∙ t
 
 abbrev pub item_fits : Item → Bool
-item_fits item = segment_fits (written_item item)
+item_fits item = well_formed_segment_fits (written_item item)
 
 pub items_fit : (first : Numbers) (pieces : List Piece) → list_all piece_stands pieces ≡ true → list_all can_be_numbered (numbered first pieces) ≡ true → list_all item_fits (numbered first pieces) ≡ true
 items_fit first [] h t = refl
@@ -105,9 +105,9 @@ items_fit first (p ∷ before) h t =
     let n = numbers_at first p before in
     and_from _ _ (kept_or_not (is_kept p) (nat_lt n.media_sequence (2 ^ 64) && nat_lt n.discontinuity_sequence (2 ^ 64)) p.segment n p.instant b.0 a.0) (items_fit first before a.1 b.1)
 
-pub all_written : (items : List Item) → list_all segment_fits (map written_item items) ≡ list_all item_fits items
+pub all_written : (items : List Item) → list_all well_formed_segment_fits (map written_item items) ≡ list_all item_fits items
 all_written [] = refl
-all_written (item ∷ items) = ap (λ b. segment_fits (written_item item) && b) (all_written items)
+all_written (item ∷ items) = ap (λ b. well_formed_segment_fits (written_item item) && b) (all_written items)
 
 -- ---- the numbers follow
 
@@ -148,16 +148,16 @@ window_numbers first h (suc n) (p ∷ before) k l = grind (arith, map_aux, turne
 
 -- ---- sections
 
-pub has_init_section_item : (item : Item) → out_has_init_section (written_item item) ≡ is_some item.piece.segment.init_section
+pub has_init_section_item : (item : Item) → written_segment_has_init_section (written_item item) ≡ is_some item.piece.segment.init_section
 has_init_section_item item = grind arith
 
-all_with_init_section : (outs : List OutSegment) → AllByRecursion (λ (o : OutSegment). out_has_init_section o ≡ true) outs → list_all out_has_init_section outs ≡ true
+all_with_init_section : (outs : List OutSegment) → AllByRecursion (λ (o : OutSegment). written_segment_has_init_section o ≡ true) outs → list_all written_segment_has_init_section outs ≡ true
 all_with_init_section [] h = refl
 all_with_init_section (o ∷ outs) h = and_from _ _ h.0 (all_with_init_section outs h.1)
 
-none_with_init_section : (outs : List OutSegment) → AllByRecursion (λ (o : OutSegment). out_has_init_section o ≡ false) outs → list_any out_has_init_section outs ≡ false
+none_with_init_section : (outs : List OutSegment) → AllByRecursion (λ (o : OutSegment). written_segment_has_init_section o ≡ false) outs → list_any written_segment_has_init_section outs ≡ false
 none_with_init_section [] h = refl
-none_with_init_section (o ∷ outs) h = ap (λ b. b || list_any out_has_init_section outs) h.0 ∙ none_with_init_section outs h.1
+none_with_init_section (o ∷ outs) h = ap (λ b. b || list_any written_segment_has_init_section outs) h.0 ∙ none_with_init_section outs h.1
 
 front : (a b : Bool) → a ≡ true → (a || b) ≡ true
 front true b h = refl
@@ -168,6 +168,6 @@ back true b h = refl
 back false true h = absurd (cc)
 back false false h = refl
 
-pub agree : (m : Bool) (outs : List OutSegment) → AllByRecursion (λ (o : OutSegment). out_has_init_section o ≡ m) outs → init_sections_agree outs ≡ true
+pub agree : (m : Bool) (outs : List OutSegment) → AllByRecursion (λ (o : OutSegment). written_segment_has_init_section o ≡ m) outs → written_init_sections_agree outs ≡ true
 agree true outs h = front _ _ (all_with_init_section outs h)
 agree false outs h = grind (arith, back, none_with_init_section)

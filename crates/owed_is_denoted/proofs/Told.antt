@@ -12,9 +12,8 @@ use Rattle.pod_store.specs.Pods.{Pod}
 use Rattle.pod_store.specs.Marks.{Mark, Marked, newest_mark}
 use Rattle.stitcher.specs.Stitched.{Numbers, numbers_from, first_numbers}
 use Rattle.writable.specs.Fitting.{if_some, is_clean, effective_keys_fit, init_section_fits}
-use Rattle.playlist_write.specs.WellFormed.{resource_fits, duration_fits}
-use Rattle.read_is_writable.specs.Read.{segment_reads, uris_are_text, segment_can_be_written, numbers_are_words, numbers_read}
-use Rattle.read_is_writable.proofs.Texts.{segment_is_written}
+use Rattle.playlist_write.specs.WellFormed.{well_formed_resource_fits, duration_fits}
+use Rattle.read_is_writable.specs.Read.{segment_can_be_written, numbers_are_words, numbers_read}
 use Rattle.channel_spec.specs.Marking.{Moment, segment_instant, newest_end, next_shown, show_all, is_new, history_after}
 use Rattle.channel_spec.specs.Successor.{first_number}
 use Rattle.channel_spec.specs.Live.{Event, decided, refreshed, Told, told, happens, refusal, after_refresh, moment, breaks_in_use, start_after, last_playlist}
@@ -32,7 +31,7 @@ IsWritten pod = pod_can_be_written pod ≡ true
 
 abbrev stands_with : Bool → Segment → Option ℤ → Bool
 stands_with words s time =
-    words && resource_fits s && effective_keys_fit s.keys && if_some init_section_fits s.init_section && duration_fits s.duration && is_clean s.title
+    words && well_formed_resource_fits s && effective_keys_fit s.keys && if_some init_section_fits s.init_section && duration_fits s.duration && is_clean s.title
     && if_some in_range time
 
 other_time : (words : Bool) (s : Segment) (before time : Option ℤ) → stands_with words s before ≡ true → if_some in_range time ≡ true → can_stand s time ≡ true
@@ -90,9 +89,9 @@ pub record Good (t : Told) : Type 0 where
   pub stands : AllByRecursion Stands t.history
   pub first : HasFirst t.history
 
-fine_segments : (segments : List Segment) → list_all segment_reads segments ≡ true → list_all uris_are_text segments ≡ true → AllByRecursion IsFine segments
-fine_segments [] h t = tt
-fine_segments (s ∷ later) h t = let a = and_parts _ _ h in let b = and_parts _ _ t in (segment_is_written s a.0 b.0, fine_segments later a.1 b.1)
+fine_segments : (segments : List Segment) → list_all segment_can_be_written segments ≡ true → AllByRecursion IsFine segments
+fine_segments [] h = tt
+fine_segments (s ∷ later) h = let a = and_parts _ _ h in (a.0, fine_segments later a.1)
 
 pub refresh_good : (tolerance : ℕ) (t : Told) (p : Playlist) → Good t → CanBeRead p → Good (after_refresh tolerance t p)
 refresh_good tolerance t p g r =
@@ -101,7 +100,7 @@ refresh_good tolerance t p g r =
     let start = start_after (last_playlist t.accepted) t.start t.history p history in
     record {
       pods = kept_pods IsWritten (breaks_in_use start (first_number p.segments) history) t.store g.pods;
-      stands = show_stands m t.history (filter (is_new t.history) p.segments) g.pods g.stands (all_filter IsFine (is_new t.history) p.segments (fine_segments p.segments r.limits.segments r.text));
+      stands = show_stands m t.history (filter (is_new t.history) p.segments) g.pods g.stands (all_filter IsFine (is_new t.history) p.segments (fine_segments p.segments r.limits.segments));
       first = first_after m t.history p g.first r.limits.numbers;
     }
 

@@ -17,7 +17,7 @@ use Rattle.std.proofs.lemmas.List.Folds.{list_all-append}
 use Rattle.stitcher.specs.declared.OutSegment.{OutSegment}
 use Rattle.stitcher.specs.Written.{written_item}
 use Rattle.writable.specs.Fitting.{date_range_fits, says_date_range}
-use Rattle.playlist_write.specs.WellFormed.{version_fits, segment_fits, out_has_init_section, well_formed}
+use Rattle.playlist_write.specs.WellFormed.{written_version_fits, well_formed_segment_fits, written_segment_has_init_section, well_formed}
 use Rattle.playlist_write.specs.Denoted.{denoted, denoted_segment, denoted_date_range}
 use Rattle.playlist_write.proofs.Whole.{text_denotes}
 use Rattle.read_is_writable.specs.Read.{version_reads, IsSaidBy, text_is_clean}
@@ -69,13 +69,13 @@ unfolding HaveInitSections In
 items_have_init_sections m first [] h = tt
 items_have_init_sections m first (p ∷ before) h = (h p (inl refl), items_have_init_sections m first before (λ q k. h q (inr k)))
 
-outs_have_init_sections : (m : Bool) (items : List Item) → AllByRecursion (λ (item : Item). is_some item.piece.segment.init_section ≡ m) items → AllByRecursion (λ (o : OutSegment). out_has_init_section o ≡ m) (map written_item items)
+outs_have_init_sections : (m : Bool) (items : List Item) → AllByRecursion (λ (item : Item). is_some item.piece.segment.init_section ≡ m) items → AllByRecursion (λ (o : OutSegment). written_segment_has_init_section o ≡ m) (map written_item items)
 outs_have_init_sections m [] h = tt
 outs_have_init_sections m (item ∷ items) h = (has_init_section_item item ∙ h.0, outs_have_init_sections m items h.1)
 
 -- ---- date ranges
 
-version_owed : (v : ℕ) → version_reads v ≡ true → version_fits (max v 6) ≡ true
+version_owed : (v : ℕ) → version_reads v ≡ true → written_version_fits (max v 6) ≡ true
 version_owed v h = grind (arith, nat_tests)
 
 date_ranges_fit : (date_ranges : List DateRange) → AllByRecursion (IsSaidBy limited) date_ranges → list_all text_is_clean date_ranges ≡ true → list_all date_range_fits (map date_range_text date_ranges) ≡ true
@@ -126,7 +126,7 @@ well t p g s r f =
     let size = length-numbered first pieces in
     let m = successor.has_init_sections p.segments in
     let items = items_fit first pieces (due_stands p.end_list t.history (pieces_stand t.history g.stands)) f in
-    let segments : list_all segment_fits (map written_item (window_after t p)) ≡ true =
+    let segments : list_all well_formed_segment_fits (map written_item (window_after t p)) ≡ true =
     all_written (window_after t p) ∙ (list_all-reverse item_fits (take n list) ∙ all_taken item_fits n list items) in
     let numbers = window_numbers first g.first n pieces (omega (arith, inside, size)) (omega (arith, inside)) in
     let with_init_sections = outs_have_init_sections m (window_after t p)

@@ -1,13 +1,13 @@
 -- What holds of what is written for a live playlist, or for one that stands alone.
 use Rattle.std.specs.Prelude.{◌≡◌, ℕ, true, List, ◌∷◌, Some, None}
-use Rattle.std.specs.List.{list_all, AllByRecursion}
+use Rattle.std.specs.List.{AllByRecursion}
 use Rattle.url.specs.Parts.{Parts}
 use Rattle.playlist_model.specs.declared.Playlist.{Playlist}
 use Rattle.pod_store.specs.Pods.{Pod}
 use Rattle.playlist_model.specs.Reading.{limited, unlimited, Denotes}
 use Rattle.playlist_write.specs.WellFormed.{well_formed}
 use Rattle.playlist_write.specs.Denoted.{denoted}
-use Rattle.read_is_writable.specs.Read.{uris_are_text, AreRead}
+use Rattle.read_is_writable.specs.Read.{AreRead}
 use Rattle.channel_spec.specs.Sound.{AllPods}
 use Rattle.channel_spec.specs.Live.{Event, decided, refreshed, told, last_playlist, refusal, owed_for}
 use Rattle.pod_store.specs.Rules.{ads_keep}
@@ -17,7 +17,6 @@ use Rattle.owed_is_denoted.specs.Owed.{owed_playlist, owed_text}
 pub record CanBeRead (p : Playlist) : Type 0 where
   pub limits : AreRead limited p
   pub denotes : AreRead unlimited p
-  pub text : list_all uris_are_text p.segments ≡ true
 
 -- a pod as decision files say them
 abbrev pub KeepsRules : Pod → Type 0

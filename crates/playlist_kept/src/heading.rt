@@ -26,7 +26,7 @@ pub struct ReadHeading {
     pub has_media: bool,
 }
 
-fn is_same_number(a: Option<u64>, b: Option<u64>) -> bool
+fn is_same_kept_number(a: Option<u64>, b: Option<u64>) -> bool
     ensures { result ≡ true → a ≡ b }
 {
     match (a, b) {
@@ -49,7 +49,7 @@ pub fn is_same_kind(a: Option<PlaylistKind>, b: Option<PlaylistKind>) -> bool
     }
 }
 
-fn is_same_flag(a: bool, b: bool) -> bool
+fn is_same_kept_flag(a: bool, b: bool) -> bool
     ensures { result ≡ true → a ≡ b }
 {
     a == b
@@ -60,30 +60,30 @@ impl ReadHeading {
     pub fn is(&self, other: &ReadHeading) -> bool
         ensures { result ≡ true → self.now ≡ other.now }
     {
-        if !is_same_number(self.version, other.version) {
+        if !is_same_kept_number(self.version, other.version) {
             return false;
         }
-        if !is_same_number(self.target_duration, other.target_duration) {
+        if !is_same_kept_number(self.target_duration, other.target_duration) {
             return false;
         }
         if !is_same_kind(self.playlist_type, other.playlist_type) {
             return false;
         }
-        if !is_same_flag(self.independent_segments, other.independent_segments) {
+        if !is_same_kept_flag(self.independent_segments, other.independent_segments) {
             return false;
         }
-        if !is_same_flag(self.end_list, other.end_list) {
+        if !is_same_kept_flag(self.end_list, other.end_list) {
             return false;
         }
-        if !is_same_flag(self.has_sequence, other.has_sequence) {
+        if !is_same_kept_flag(self.has_sequence, other.has_sequence) {
             return false;
         }
-        if !is_same_flag(
+        if !is_same_kept_flag(
             self.has_discontinuity_sequence,
             other.has_discontinuity_sequence,
         ) {
             return false;
         }
-        is_same_flag(self.has_media, other.has_media)
+        is_same_kept_flag(self.has_media, other.has_media)
     }
 }

@@ -5,9 +5,7 @@ ghost use Rattle.playlist_kept.specs.Kept.{IsTakenFrom, first_of, playlist_in};
 ghost use Rattle.playlist_model.specs.Segments.{Segment as SegmentRead};
 
 use crate::source::KeptLines;
-use playlist_model::{
-    GrowingSegments, Member, Playlist, SegmentRef, SegmentSlice, Segments, Shared,
-};
+use playlist_model::{GrowingSegments, Member, Playlist, SegmentRef, Segments, Shared};
 use std::alloc::{AllocError, Global};
 
 /// A playlist that was read. Some of its segments may be those of the last playlist.
@@ -108,19 +106,7 @@ impl Places {
 }
 
 // Puts copies of these after others.
-fn push_segments(list: &mut GrowingSegments, more: SegmentSlice<'_>) -> Result<(), AllocError>
-    ensures { OnOk result (list.new.segments ≡ list.old.segments ++ more.entry) }
-{
-    let mut rest = more;
-    while let Some((segment, later)) = rest.split_first() {
-        list.push_copy(&segment)?;
-        rest = later;
-    }
-    Ok(())
-}
-
-// The same of segments of shared lists.
-fn push_members(list: &mut GrowingSegments, more: &[Member]) -> Result<(), AllocError>
+fn push_kept_members(list: &mut GrowingSegments, more: &[Member]) -> Result<(), AllocError>
     ensures { OnOk result (list.new.segments ≡ list.old.segments ++ more.now) }
 {
     let mut rest = more;
@@ -132,27 +118,27 @@ fn push_members(list: &mut GrowingSegments, more: &[Member]) -> Result<(), Alloc
 }
 
 // The segments of the playlist that was read, all of them copies.
-fn copied_segments(alloc: Global, read: &Read<'_>) -> Result<Segments, AllocError>
+fn copied_read_segments(alloc: Global, read: &Read<'_>) -> Result<Segments, AllocError>
     ensures { IfOk result (λ all. all ≡ (playlist_in read.now).segments) }
 {
     let (front, back) = read.playlist.segments.as_slice().split_at(read.front);
     let mut all = GrowingSegments::new(alloc);
-    push_segments(&mut all, front)?;
-    push_members(&mut all, read.taken)?;
-    push_segments(&mut all, back)?;
+    all.push_copies(front)?;
+    push_kept_members(&mut all, read.taken)?;
+    all.push_copies(back)?;
     Ok(all.into_segments())
 }
 
 #[tactic(auto, using(crate::proofs::Parts::none_between))]
 /// The whole playlist that was `read`. It has copies of its segments if some were taken over. Fails only if an allocation
 /// fails.
-pub fn whole_of(alloc: Global, read: Read<'_>) -> Result<Playlist, AllocError>
+pub fn whole_playlist_of_read(alloc: Global, read: Read<'_>) -> Result<Playlist, AllocError>
     ensures { IfOk result (λ playlist. playlist ≡ playlist_in read.entry) }
 {
     if read.taken.is_empty() {
         return Ok(read.playlist);
     }
-    let segments = copied_segments(alloc, &read)?;
+    let segments = copied_read_segments(alloc, &read)?;
     Ok(Playlist {
         segments: Shared::new(alloc, segments)?,
         ..read.playlist
@@ -184,7 +170,7 @@ pub fn read_with_places<'a>(
         });
     }
     Ok(Read {
-        playlist: whole_of(alloc, read)?,
+        playlist: whole_playlist_of_read(alloc, read)?,
         front: 0,
         taken: &[],
         from: 0,

@@ -1,5 +1,5 @@
 //! What a playlist that was read leaves for the reading of the next one.
-ghost use Rattle.std.specs.Prelude.{◌≡◌, ◌++◌, IfOk, MatchOption, OnOk, drop, length, take};
+ghost use Rattle.std.specs.Prelude.{◌≡◌, ◌++◌, IfOk, MatchOption, OnOk, drop, take};
 ghost use Rattle.playlist_kept.specs.Kept.{IsAfter, kept_segments, with_taken};
 
 use crate::read_playlist::Read;
@@ -23,7 +23,12 @@ pub struct Step {
 }
 
 // The segments of a source from one place up to another; none if there is no source.
-fn stretch_of(alloc: Global, source: Option<LastPlaylist>, from: usize, till: usize) -> Vec<Member>
+fn stretch_of_kept_segments(
+    alloc: Global,
+    source: Option<LastPlaylist>,
+    from: usize,
+    till: usize,
+) -> Vec<Member>
     ensures { result.items ≡ drop from (take till (kept_segments source)) }
 {
     let Some(source) = source else {
@@ -37,7 +42,7 @@ fn stretch_of(alloc: Global, source: Option<LastPlaylist>, from: usize, till: us
 }
 
 // Puts the next `most` members after a list.
-fn push_some(
+fn push_some_kept_members(
     list: &mut Vec<Member>,
     members: &mut Members<'_>,
     most: usize,
@@ -57,7 +62,7 @@ fn push_some(
 }
 
 // The members of a list, with others after the first `front` of them.
-fn members_with(
+fn kept_members_with(
     alloc: Global,
     list: &Shared<Segments>,
     front: usize,
@@ -68,9 +73,9 @@ fn members_with(
     let mut taken = taken;
     let mut members = Members::from_place(list, 0);
     let mut all = Vec::new(alloc);
-    push_some(&mut all, &mut members, front)?;
+    push_some_kept_members(&mut all, &mut members, front)?;
     all.append(&mut taken)?;
-    push_some(&mut all, &mut members, list.len())?;
+    push_some_kept_members(&mut all, &mut members, list.len())?;
     Ok(all)
 }
 
@@ -105,8 +110,8 @@ impl Step {
         let Some(lines) = lines else {
             return None;
         };
-        let taken = stretch_of(alloc, last, from, till);
-        match members_with(alloc, &playlist.segments, front, taken) {
+        let taken = stretch_of_kept_segments(alloc, last, from, till);
+        match kept_members_with(alloc, &playlist.segments, front, taken) {
             Ok(segments) => Some(LastPlaylist {
                 lines,
                 segments,

@@ -16,7 +16,7 @@ use Rattle.playlist_model.specs.declared.ByteRange.{ByteRange}
 use Rattle.playlist_model.specs.declared.InitSection.{InitSection}
 use Rattle.playlist_model.specs.declared.segments.SegmentParts.{SegmentParts}
 use Rattle.playlist_model.specs.Segments.{Segment, segment_under}
-use Rattle.playlist_model.specs.Rows.{HasRange, no_range, range_at, Fits, HasText, no_standing, row_segment, row_segment_over, row_segments, row_standing, listed_text}
+use Rattle.playlist_model.specs.Rows.{HasRange, no_range, range_at, Fits, HasText, no_standing, row_segment, row_segment_over, row_segments, row_standing, segment_text_at}
 use Rattle.playlist_model.specs.Inner.Rows.{Extends, Grows}
 
 pub long_rows : (tables : Tables) (rows : List Row) → length rows ≡ length (row_segments tables rows)
@@ -43,13 +43,13 @@ has_text_grown xs ys place g h =
 
 -- the text that was put after these
 pub text_put : (old new front rest : List ℕ) (place : Place) → new ≡ (old ++ front) ++ rest → place.from ≡ length old → place.to ≡ length new → IsUtf8 front → IsUtf8 rest
-    → HasText new place × (listed_text new place ≡ front ++ rest)
+    → HasText new place × (segment_text_at new place ≡ front ++ rest)
 text_put old new front rest place e from to f r =
     let grown : new ≡ old ++ (front ++ rest) = e ∙ append_assoc old front rest in
     let l : length (old ++ (front ++ rest)) ≡ length old + length (front ++ rest) = length-append old (front ++ rest) in
     let here : length new ≡ length old + length (front ++ rest) = ap length grown ∙ l in
     let count : place.to - place.from ≡ length (front ++ rest) = omega (arith, from, to, here) in
-    let is : listed_text new place ≡ front ++ rest =
+    let is : segment_text_at new place ≡ front ++ rest =
     ap (λ k. take (place.to - place.from) (drop k new)) from ∙ ap (λ t. take (place.to - place.from) (drop (length old) t)) grown
     ∙ ap (take (place.to - place.from)) (drop-append_seam old (front ++ rest)) ∙ ap (λ k. take k (front ++ rest)) count ∙ take-length (front ++ rest) in
     (record { ordered = omega (arith, from, to, here); within = omega (arith, to); utf8 = subst IsUtf8 (sym is) (IsUtf8-append front rest f r) }, is)
@@ -79,7 +79,7 @@ range_put old new place byte_range e at =
     let within : length old < length new = let n = ap length e in omega (arith, l, n) in
     (subst (HasRange new) (sym here) within, ap (range_at new) here ∙ ap (λ b. Some (get_or b (length old) no_range)) e ∙ ap Some (get_or-append_seam old byte_range [] no_range))
 
-row_ext : (tx ux : List ℕ) (tr ur : List ByteRange) (s z : Standing) (row : Row) → listed_text ux row.uri ≡ listed_text tx row.uri → listed_text ux row.title ≡ listed_text tx row.title → range_at ur row.byte_range ≡ range_at tr row.byte_range → z ≡ s → row_segment_over ux ur z row ≡ row_segment_over tx tr s row
+row_ext : (tx ux : List ℕ) (tr ur : List ByteRange) (s z : Standing) (row : Row) → segment_text_at ux row.uri ≡ segment_text_at tx row.uri → segment_text_at ux row.title ≡ segment_text_at tx row.title → range_at ur row.byte_range ≡ range_at tr row.byte_range → z ≡ s → row_segment_over ux ur z row ≡ row_segment_over tx tr s row
 row_ext tx ux tr ur s z row u t r e = grind (arith, u, t, r, e)
 
 pub row_grown : (t u : Tables) (row : Row) → Extends t u → Fits t row → row_segment u row ≡ row_segment t row
@@ -123,8 +123,8 @@ row_fits t (r ∷ rows) row h f = (h.0, row_fits t rows row h.1 f)
 -- the row of a segment whose texts were put after others, the title first
 pub row_listed : (t u v : List ℕ) (ranges : List ByteRange) (new : List Standing) (tables : Tables) (row : Row) (parts : SegmentParts) (keys : List Key) (init_section : Option InitSection) (s : Standing)
     → string_bytes tables.texts ≡ v → tables.byte_ranges.items ≡ ranges → tables.standings.items ≡ new
-    → Grows t u → Grows u v → HasText u row.title → listed_text u row.title ≡ parts.title.now
-    → HasText v row.uri → listed_text v row.uri ≡ parts.uri_front.now ++ parts.uri_rest.now
+    → Grows t u → Grows u v → HasText u row.title → segment_text_at u row.title ≡ parts.title.now
+    → HasText v row.uri → segment_text_at v row.uri ≡ parts.uri_front.now ++ parts.uri_rest.now
     → HasRange ranges row.byte_range → range_at ranges row.byte_range ≡ parts.byte_range
     → slice_get new row.standing ≡ Some s → s ≡ record { discontinuities = parts.discontinuities; keys = keys; init_section = init_section }
     → row ≡ record row { media_sequence = parts.media_sequence; discontinuity_sequence = parts.discontinuity_sequence; duration = parts.duration; program_date_time = parts.program_date_time }
@@ -163,3 +163,17 @@ listed_on t u rows later row s e h f g is = (
 pub always : {A E : Type 0} (r : Result A E) (P : Type 0) → P → OnErr r P
 always (Ok x) P p = tt
 always (Err e) P p = p
+
+-- ---- copies
+
+-- one more of a list is taken
+pub taken_more : {A : Type 0} (xs : List A) (count : ℕ) (x : A) (later : List A) → x ∷ later ≡ drop count xs → (take (count + 1) xs ≡ take count xs ++ x ∷ []) × (later ≡ drop (count + 1) xs)
+taken_more xs zero x later h = grind arith
+taken_more [] (suc count) x later h = grind arith
+taken_more (y ∷ xs) (suc count) x later h = let more = taken_more xs count x later h in grind (arith, more)
+
+-- nothing is left of a list that is taken whole
+pub all_taken : {A : Type 0} (xs : List A) (count : ℕ) → [] ≡ drop count xs → take count xs ≡ xs
+all_taken xs zero h = h
+all_taken [] (suc count) h = refl
+all_taken (x ∷ xs) (suc count) h = ap (λ ys. x ∷ ys) (all_taken xs count h)

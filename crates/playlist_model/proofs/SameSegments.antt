@@ -8,7 +8,7 @@ use Rattle.playlist_model.specs.declared.Key.{Key}
 use Rattle.playlist_model.specs.declared.ByteRange.{ByteRange}
 use Rattle.playlist_model.specs.declared.InitSection.{InitSection}
 use Rattle.playlist_model.specs.Segments.{Segment}
-use Rattle.playlist_model.specs.Same.{same_key, same_option, same_byte_range, same_init_section, same_numbers, same_media, same_segment, kept_parts}
+use Rattle.playlist_model.specs.Same.{same_key, same_option, same_byte_range, same_init_section, has_same_segment_numbers, has_same_segment_media, same_segment, kept_parts}
 use Rattle.playlist_model.proofs.SameParts.{keys_are, keys_same, byte_range_is, init_section_is}
 
 some_is : {A : Type 0} {a b : A} → ◌≡◌ {A = Option A} (Some a) (Some b) → a ≡ b
@@ -32,7 +32,7 @@ parts_ext n m d e u v r s k l i j t w a b c f g h x = cc
 
 parts_are : (a b : Segment) → same_segment a b ≡ true → kept_parts a ≡ kept_parts b
 parts_are a b h =
-    let p = and_parts _ _ h in let q : (same_numbers a b ≡ true) × (same_media a b ≡ true) = and_parts _ _ p.0 in
+    let p = and_parts _ _ h in let q : (has_same_segment_numbers a b ≡ true) × (has_same_segment_media a b ≡ true) = and_parts _ _ p.0 in
     let n : ((a.media_sequence == b.media_sequence) ≡ true) × ((a.discontinuity_sequence == b.discontinuity_sequence) ≡ true) = and_parts _ _ q.0 in
     let m = and_parts _ _ q.1 in let u : (bytes_eq a.uri b.uri ≡ true) × (same_option same_byte_range a.byte_range b.byte_range ≡ true) = and_parts _ _ m.0 in
     let k : (pointwise same_key a.keys b.keys ≡ true) × (same_option same_init_section a.init_section b.init_section ≡ true) = and_parts _ _ p.1 in

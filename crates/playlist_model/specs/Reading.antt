@@ -67,11 +67,11 @@ within_formats reader before said =
     refuse_if (over reader.formats (length (keys_at (said ∷ before)))) fault.TooMany (Ok said)
 
 -- an AES-128 key over an EXT-X-MAP has to state its IV (4.3.2.5)
-abbrev pub needs_iv : Key → Bool
-needs_iv k = bytes_eq k.method (codes "AES-128") && is_none k.iv
+abbrev pub key_needs_iv : Key → Bool
+key_needs_iv k = bytes_eq k.method (codes "AES-128") && is_none k.iv
 
 abbrev pub with_ivs : List Said → Said → Outcome Said
-with_ivs before said = refuse_if (list_any needs_iv (keys_at before)) fault.MapWithoutIv (Ok said)
+with_ivs before said = refuse_if (list_any key_needs_iv (keys_at before)) fault.MapWithoutIv (Ok said)
 
 abbrev pub said_by_tag : Reader → Parts → List Said → Name → List ℕ → Outcome Said
 said_by_tag reader base before version_tag rest =

@@ -16,8 +16,8 @@ use Rattle.playlist_model.specs.declared.segments.Row.{Row}
 abbrev pub no_standing : Standing
 no_standing = record { discontinuities = 0; keys = []; init_section = None }
 
-abbrev pub listed_text : List ℕ → Place → List ℕ
-listed_text texts place = slice_range texts place.from place.to
+abbrev pub segment_text_at : List ℕ → Place → List ℕ
+segment_text_at texts place = slice_range texts place.from place.to
 
 abbrev pub no_range : ByteRange
 no_range = record { length = 0; offset = 0 }
@@ -36,12 +36,12 @@ row_segment_over texts byte_ranges standing row = record {
   media_sequence = row.media_sequence;
   discontinuity_sequence = row.discontinuity_sequence;
   discontinuities = standing.discontinuities;
-  uri = listed_text texts row.uri;
+  uri = segment_text_at texts row.uri;
   byte_range = range_at byte_ranges row.byte_range;
   keys = map (effective_key row.media_sequence) standing.keys;
   init_section = standing.init_section;
   duration = row.duration;
-  title = listed_text texts row.title;
+  title = segment_text_at texts row.title;
   program_date_time = row.program_date_time;
 }
 
@@ -56,7 +56,7 @@ row_segments tables rows = map (row_segment tables) rows
 pub record HasText (texts : List ℕ) (place : Place) : Type 0 where
   pub ordered : place.from ≤ place.to
   pub within : place.to ≤ length texts
-  pub utf8 : IsUtf8 (listed_text texts place)
+  pub utf8 : IsUtf8 (segment_text_at texts place)
 
 -- a byte range lies there, if it is a place of one
 abbrev pub HasRange : List ByteRange → ℕ → Type 0

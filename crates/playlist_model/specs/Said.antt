@@ -189,8 +189,8 @@ init_section_said reader base rest =
 abbrev pub time_of : Pair → Outcome ℤ
 time_of pair = or_fault fault.BadTime (instant_of pair.value)
 
-abbrev pub length_of : Pair → Outcome ℕ
-length_of pair = mended fault.BadDuration (duration_of pair.value)
+abbrev pub attribute_duration_of : Pair → Outcome ℕ
+attribute_duration_of pair = mended fault.BadDuration (duration_of pair.value)
 
 abbrev pub value_in_pair : Pair → List ℕ
 value_in_pair pair = pair.value
@@ -201,8 +201,8 @@ date_range_of text pairs =
     required true (attribute pairs (codes "ID")) >>= λ id.
     optional time_of (attribute pairs (codes "START-DATE")) >>= λ start.
     optional time_of (attribute pairs (codes "END-DATE")) >>= λ end.
-    optional length_of (attribute pairs (codes "DURATION")) >>= λ duration.
-    optional length_of (attribute pairs (codes "PLANNED-DURATION")) >>= λ planned.
+    optional attribute_duration_of (attribute pairs (codes "DURATION")) >>= λ duration.
+    optional attribute_duration_of (attribute pairs (codes "PLANNED-DURATION")) >>= λ planned.
     Ok (date_range (record {
       id = id;
       start = start;

@@ -37,15 +37,15 @@ kind_eq _ _ = false
 abbrev pub kept_parts : Segment → Segment
 kept_parts s = record s { discontinuities = 0; title = []; program_date_time = None }
 
-abbrev pub same_numbers : Segment → Segment → Bool
-same_numbers a b = a.media_sequence == b.media_sequence && a.discontinuity_sequence == b.discontinuity_sequence
+abbrev pub has_same_segment_numbers : Segment → Segment → Bool
+has_same_segment_numbers a b = a.media_sequence == b.media_sequence && a.discontinuity_sequence == b.discontinuity_sequence
 
-abbrev pub same_media : Segment → Segment → Bool
-same_media a b = bytes_eq a.uri b.uri && same_option same_byte_range a.byte_range b.byte_range && a.duration == b.duration
+abbrev pub has_same_segment_media : Segment → Segment → Bool
+has_same_segment_media a b = bytes_eq a.uri b.uri && same_option same_byte_range a.byte_range b.byte_range && a.duration == b.duration
 
-abbrev pub same_protection : Segment → Segment → Bool
-same_protection a b = pointwise same_key a.keys b.keys && same_option same_init_section a.init_section b.init_section
+abbrev pub has_same_segment_protection : Segment → Segment → Bool
+has_same_segment_protection a b = pointwise same_key a.keys b.keys && same_option same_init_section a.init_section b.init_section
 
 -- the same in all but title, time and steps
 abbrev pub same_segment : Segment → Segment → Bool
-same_segment a b = same_numbers a b && same_media a b && same_protection a b
+same_segment a b = has_same_segment_numbers a b && has_same_segment_media a b && has_same_segment_protection a b

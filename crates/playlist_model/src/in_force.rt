@@ -5,7 +5,7 @@ ghost use Rattle.std.specs.List.{list_any};
 ghost use Rattle.playlist_model.specs.EffectiveKeys.{effective_key, key_under};
 ghost use Rattle.playlist_model.specs.KeysHeld.{keys_held};
 ghost use Rattle.playlist_model.specs.LookBack.{is_before};
-ghost use Rattle.playlist_model.specs.Reading.{needs_iv};
+ghost use Rattle.playlist_model.specs.Reading.{key_needs_iv};
 
 use crate::{Items, Key, OtherAttributes, Shared};
 use std::alloc::{AllocError, Global};
@@ -128,7 +128,7 @@ enum Held {
 
 #[tactic(auto, using(crate::proofs::KeysUnder::stated_keys))]
 // Keys as their tags state them, or under a number if there is one.
-fn held_under(keys: Shared<Items<Key>>, media_sequence: Option<u64>) -> Held
+fn keys_held_under_number(keys: Shared<Items<Key>>, media_sequence: Option<u64>) -> Held
     ensures { keys_held result ≡ map (key_under media_sequence) keys }
 {
     match media_sequence {
@@ -310,7 +310,7 @@ impl<'a> KeysRef<'a> {
         let (keys, media_sequence) = (self.keys, self.media_sequence);
         let held = match &keys.held {
             Held::Clear => Held::Clear,
-            Held::Stated(keys) => held_under(keys.clone()?, media_sequence),
+            Held::Stated(keys) => keys_held_under_number(keys.clone()?, media_sequence),
             Held::Under(keys, own) => Held::Under(keys.clone()?, *own),
         };
         Ok(Keys { held })
@@ -381,8 +381,8 @@ impl<'a> Iterator for KeysIter<'a> {
     }
 }
 
-fn needs_iv(key: &KeyRef<'_>) -> bool
-    ensures { result ≡ needs_iv key.now }
+fn key_needs_iv(key: &KeyRef<'_>) -> bool
+    ensures { result ≡ key_needs_iv key.now }
 {
     key.method() == "AES-128" && key.iv().is_none()
 }
@@ -391,10 +391,10 @@ fn needs_iv(key: &KeyRef<'_>) -> bool
 /// segment's Media Sequence Number stands in for a missing IV, and an initialisation section has none (RFC 8216,
 /// section 4.3.2.5).
 pub fn is_iv_needed(keys: &KeysRef<'_>) -> bool
-    ensures { result ≡ list_any needs_iv keys.now }
+    ensures { result ≡ list_any key_needs_iv keys.now }
 {
     for key in keys.iter() {
-        if needs_iv(&key) {
+        if key_needs_iv(&key) {
             return true;
         }
     }

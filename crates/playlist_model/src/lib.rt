@@ -1,15 +1,15 @@
 //! The data of playlists and what their texts mean.
 #![tactic(auto)]
 
-ghost use Rattle.std.specs.Prelude.{◌≡◌, List, length, Ok, Err, Result, true, false, IfOk};
+ghost use Rattle.std.specs.Prelude.{◌≡◌, List, length, Ok, Err, Result, true, false};
 ghost use Rattle.std.specs.Prelude.{MatchResult, IsTrue};
 ghost use Rattle.std.specs.Str.{is_utf8};
 ghost use Rattle.std.specs.List.{list_all};
 ghost use Rattle.playlist_model.specs.Lines.{has_control};
-ghost use Rattle.playlist_model.specs.Inner.Lines.{is_printable};
+ghost use Rattle.playlist_model.specs.Inner.Lines.{is_printable_playlist_byte};
 
 use fixed_duration::Nanos;
-use std::alloc::{AllocError, AllocFailed, Global};
+use std::alloc::{AllocError, AllocFailed};
 use std::marker::Model;
 
 mod fault;
@@ -218,20 +218,20 @@ pub struct Playlist {
 }
 
 // Whether a byte is an ASCII character that is no control character.
-fn is_printable(byte: u8) -> bool
-    ensures { result ≡ is_printable byte }
+fn is_printable_playlist_byte(byte: u8) -> bool
+    ensures { result ≡ is_printable_playlist_byte byte }
 {
     byte >= 32 && byte < 127
 }
 
 #[tactic(auto, using(std::proofs::lemmas::List::Folds::list_all_more))]
 // Whether each byte is printable. It looks at all of them, so that many are tested at once.
-fn are_printable(bytes: &[u8]) -> bool
-    ensures { result ≡ list_all is_printable bytes.now }
+fn are_printable_playlist_bytes(bytes: &[u8]) -> bool
+    ensures { result ≡ list_all is_printable_playlist_byte bytes.now }
 {
     let mut printable = true;
     for byte in bytes {
-        printable &= is_printable(*byte);
+        printable &= is_printable_playlist_byte(*byte);
     }
     printable
 }
@@ -242,14 +242,14 @@ pub fn has_control(text: &str) -> bool
     ensures { result ≡ has_control text.now }
 {
     // Most lines are ASCII, where the bytes are the characters.
-    if are_printable(text.as_bytes()) {
+    if are_printable_playlist_bytes(text.as_bytes()) {
         return false;
     }
     text.chars().any(char::is_control)
 }
 
 /// The text that `bytes` are. `NotUtf8` if they aren't UTF-8 (RFC 8216, section 4.1). Takes no memory.
-pub fn text_of(bytes: &[u8]) -> Result<&str, FaultKind>
+pub fn playlist_text_of(bytes: &[u8]) -> Result<&str, FaultKind>
     ensures { MatchResult result (λ text. IsTrue (is_utf8 bytes.now) × (text.now ≡ bytes.now))
         (λ e. (is_utf8 bytes.now ≡ false) × (e ≡ FaultKind.NotUtf8)) }
 {

@@ -43,8 +43,8 @@ impl OtherAttributes {
         ensures { IfOk result (λ others. others ≡ after_commas (carried (map attr_pair list.now))) }
     {
         let attrs = list.as_slice();
-        let mut string = String::with_capacity(alloc, length_of_others(attrs))?;
-        push_others(&mut string, attrs)?;
+        let mut string = String::with_capacity(alloc, other_key_attributes_length(attrs))?;
+        push_other_key_attributes(&mut string, attrs)?;
         Ok(OtherAttributes { string })
     }
 
@@ -85,7 +85,7 @@ fn is_key_attribute(attr: &Attr<'_>) -> bool
 }
 
 // How many bytes `,NAME=value` or `,NAME="value"` takes.
-fn length_of(attr: &Attr<'_>) -> usize
+fn key_attribute_length(attr: &Attr<'_>) -> usize
     ensures { result ≤ length (44 ∷ pair_spelling (attr_pair attr.now)) }
 {
     let marks: usize = if attr.quoted { 4 } else { 2 };
@@ -96,20 +96,20 @@ fn length_of(attr: &Attr<'_>) -> usize
 }
 
 // How many bytes the others take with their commas: their text is given no more room than it needs.
-fn length_of_others(attrs: &[Attr<'_>]) -> usize
+fn other_key_attributes_length(attrs: &[Attr<'_>]) -> usize
     ensures { result ≤ length (after_commas (carried (map attr_pair attrs.now))) }
 {
     let mut length: usize = 0;
     for attr in attrs {
         if !is_key_attribute(attr) {
-            length = length.saturating_add(length_of(attr));
+            length = length.saturating_add(key_attribute_length(attr));
         }
     }
     length
 }
 
 // Appends `,NAME=value` or `,NAME="value"`.
-fn push_attribute(out: &mut String, attr: &Attr<'_>) -> Result<(), AllocError>
+fn push_key_attribute(out: &mut String, attr: &Attr<'_>) -> Result<(), AllocError>
     ensures { Appends result out.old out.new (44 ∷ pair_spelling (attr_pair attr.now)) }
 {
     out.push(',')?;
@@ -124,12 +124,12 @@ fn push_attribute(out: &mut String, attr: &Attr<'_>) -> Result<(), AllocError>
     }
 }
 
-fn push_others(out: &mut String, attrs: &[Attr<'_>]) -> Result<(), AllocError>
+fn push_other_key_attributes(out: &mut String, attrs: &[Attr<'_>]) -> Result<(), AllocError>
     ensures { Appends result out.old out.new (after_commas (carried (map attr_pair attrs.now))) }
 {
     for attr in attrs {
         if !is_key_attribute(attr) {
-            push_attribute(out, attr)?;
+            push_key_attribute(out, attr)?;
         }
     }
     Ok(())

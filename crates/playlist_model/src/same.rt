@@ -1,7 +1,7 @@
 //! Whether keys, initialisation sections and segments are the same.
 ghost use Rattle.std.specs.Prelude.{◌≡◌, true, ◌↔◌};
 ghost use Rattle.std.specs.Cmp.Lexicographic.{pointwise};
-ghost use Rattle.playlist_model.specs.Same.{kept_parts, same_key, same_media, same_number, same_numbers, same_option, same_protection, same_init_section, same_segment};
+ghost use Rattle.playlist_model.specs.Same.{kept_parts, same_key, has_same_segment_media, same_number, has_same_segment_numbers, same_option, has_same_segment_protection, same_init_section, same_segment};
 
 use crate::{InitSection, KeyRef, KeysRef, SegmentRef, Shared};
 
@@ -62,21 +62,21 @@ fn are_same_init_sections(
     }
 }
 
-fn same_numbers(a: &SegmentRef<'_>, b: &SegmentRef<'_>) -> bool
-    ensures { result ≡ same_numbers a.now b.now }
+fn has_same_segment_numbers(a: &SegmentRef<'_>, b: &SegmentRef<'_>) -> bool
+    ensures { result ≡ has_same_segment_numbers a.now b.now }
 {
     a.media_sequence() == b.media_sequence()
         && a.discontinuity_sequence() == b.discontinuity_sequence()
 }
 
-fn same_media(a: &SegmentRef<'_>, b: &SegmentRef<'_>) -> bool
-    ensures { result ≡ same_media a.now b.now }
+fn has_same_segment_media(a: &SegmentRef<'_>, b: &SegmentRef<'_>) -> bool
+    ensures { result ≡ has_same_segment_media a.now b.now }
 {
     a.uri() == b.uri() && a.byte_range() == b.byte_range() && a.duration() == b.duration()
 }
 
-fn same_protection(a: &SegmentRef<'_>, b: &SegmentRef<'_>) -> bool
-    ensures { result ≡ same_protection a.now b.now }
+fn has_same_segment_protection(a: &SegmentRef<'_>, b: &SegmentRef<'_>) -> bool
+    ensures { result ≡ has_same_segment_protection a.now b.now }
 {
     are_same_keys(&a.keys(), &b.keys())
         && are_same_init_sections(a.init_section(), b.init_section())
@@ -85,7 +85,9 @@ fn same_protection(a: &SegmentRef<'_>, b: &SegmentRef<'_>) -> bool
 fn are_same_segments(a: &SegmentRef<'_>, b: &SegmentRef<'_>) -> bool
     ensures { result ≡ same_segment a.now b.now }
 {
-    same_numbers(a, b) && same_media(a, b) && same_protection(a, b)
+    has_same_segment_numbers(a, b)
+        && has_same_segment_media(a, b)
+        && has_same_segment_protection(a, b)
 }
 
 #[tactic(auto, using(crate::proofs::SameSegments::same_segment_decides))]

@@ -1,9 +1,9 @@
 //! Segments. A list of them holds their texts together: each is a row of places among these.
-ghost use Rattle.std.specs.Prelude.{◌≡◌, ◌∷◌, ◌++◌, ◌+◌, ◌<◌, ◌≤◌, [], true, None, Some, IfOk, OnOk, OnErr, MatchOption, length, take, drop, slice_get, string_bytes, IsTrue};
+ghost use Rattle.std.specs.Prelude.{◌≡◌, ℕ, ◌∷◌, ◌++◌, ◌+◌, ◌<◌, [], true, None, Some, IfOk, OnOk, OnErr, MatchOption, length, take, drop, slice_get, string_bytes, IsTrue};
 ghost use Rattle.std.specs.List.{AllByRecursion};
 ghost use Rattle.std.specs.Str.{is_utf8};
 ghost use Rattle.playlist_model.specs.Segments.{segment_under};
-ghost use Rattle.playlist_model.specs.Rows.{Fits, HasRange, HasText, IsLastOf, listed_text, range_at, row_segment};
+ghost use Rattle.playlist_model.specs.Rows.{Fits, HasRange, HasText, IsLastOf, segment_text_at, range_at, row_segment};
 ghost use Rattle.playlist_model.specs.Inner.Rows.{Extends, Grows};
 
 use crate::{ByteRange, InitSection, Keys, KeysRef, Shared};
@@ -75,7 +75,7 @@ pub struct SegmentParts<'a> {
 }
 
 // A number as a place; none if it has more than 32 bits.
-fn place_of(number: usize) -> Result<u32, AllocError>
+fn segment_text_place(number: usize) -> Result<u32, AllocError>
     ensures { IfOk result (λ place. place ≡ number) }
 {
     match u32::try_from(number) {
@@ -87,38 +87,38 @@ fn place_of(number: usize) -> Result<u32, AllocError>
 #[tactic(auto, using(crate::proofs::Rows::text_put))]
 // Puts a text of two parts after those of a list.
 #[inline(always)]
-fn put_text(texts: &mut String, front: &str, rest: &str) -> Result<Place, AllocError>
+fn put_segment_text(texts: &mut String, front: &str, rest: &str) -> Result<Place, AllocError>
     ensures grows { Grows (string_bytes texts.old) (string_bytes texts.new) }
     ensures there { IfOk result
         (λ place. HasText (string_bytes texts.new) place
-        × (listed_text (string_bytes texts.new) place ≡ front.now ++ rest.now)) }
+        × (segment_text_at (string_bytes texts.new) place ≡ front.now ++ rest.now)) }
 {
-    let from = place_of(texts.len())?;
+    let from = segment_text_place(texts.len())?;
     texts.push_str(front)?;
     texts.push_str(rest)?;
-    let to = place_of(texts.len())?;
+    let to = segment_text_place(texts.len())?;
     Ok(Place { from, to })
 }
 
 // The same of a title. Most are empty.
 #[inline(always)]
-fn put_title(texts: &mut String, title: &str) -> Result<Place, AllocError>
+fn put_segment_title(texts: &mut String, title: &str) -> Result<Place, AllocError>
     ensures grows { Grows (string_bytes texts.old) (string_bytes texts.new) }
     ensures there { IfOk result
         (λ place. HasText (string_bytes texts.new) place
-        × (listed_text (string_bytes texts.new) place ≡ title.now)) }
+        × (segment_text_at (string_bytes texts.new) place ≡ title.now)) }
 {
     if title.is_empty() {
         return Ok(Place { from: 0, to: 0 });
     }
-    put_text(texts, title, "")
+    put_segment_text(texts, title, "")
 }
 
 // The text at a place.
 #[inline(always)]
-fn listed_text(texts: &str, place: Place) -> &str
+fn segment_text_at(texts: &str, place: Place) -> &str
     requires { HasText texts.now place }
-    ensures { result.now ≡ listed_text texts.now place }
+    ensures { result.now ≡ segment_text_at texts.now place }
 {
     let bytes = &texts.as_bytes()[place.from as usize..place.to as usize];
     // Each place has a text.
@@ -127,7 +127,7 @@ fn listed_text(texts: &str, place: Place) -> &str
 
 // The place of a byte range, which is put after those of a list, from 1; 0 if there is none.
 #[inline(always)]
-fn put_byte_range(
+fn put_segment_byte_range(
     byte_ranges: &mut Vec<ByteRange>,
     byte_range: Option<ByteRange>,
 ) -> Result<u32, AllocError>
@@ -137,14 +137,14 @@ fn put_byte_range(
         × (range_at byte_ranges.new.items place ≡ byte_range)) }
 {
     match byte_range {
-        Some(byte_range) => push_byte_range(byte_ranges, byte_range),
+        Some(byte_range) => push_segment_byte_range(byte_ranges, byte_range),
         None => Ok(0),
     }
 }
 
 #[tactic(auto, using(crate::proofs::Rows::range_put))]
 #[inline(never)]
-fn push_byte_range(
+fn push_segment_byte_range(
     byte_ranges: &mut Vec<ByteRange>,
     byte_range: ByteRange,
 ) -> Result<u32, AllocError>
@@ -154,12 +154,12 @@ fn push_byte_range(
         × (range_at byte_ranges.new.items place ≡ Some byte_range)) }
 {
     byte_ranges.push(byte_range)?;
-    place_of(byte_ranges.len())
+    segment_text_place(byte_ranges.len())
 }
 
 // The place of the last of these, if so many discontinuities stand before its segments.
 #[inline(always)]
-fn last_place(standings: &[Standing], discontinuities: u64) -> Option<usize>
+fn last_standing_place(standings: &[Standing], discontinuities: u64) -> Option<usize>
     ensures { MatchOption result (Unit {0})
         (λ place. (last : Standing) × (slice_get standings.now place ≡ Some last)
         × (place + 1 ≡ length standings.now)
@@ -176,7 +176,7 @@ fn last_place(standings: &[Standing], discontinuities: u64) -> Option<usize>
 // The place of what stands over the next segment. It is put after the others, unless the last of them is it: `is_listed` says
 // that this one has the keys and the initialisation section.
 #[inline(always)]
-fn put_standing(
+fn put_segment_standing(
     standings: &mut Vec<Standing>,
     is_listed: bool,
     discontinuities: u64,
@@ -192,15 +192,15 @@ fn put_standing(
     ensures refused { OnErr result (standings.new.items ≡ standings.old.items) }
 {
     if is_listed {
-        if let Some(place) = last_place(standings.as_slice(), discontinuities) {
-            return place_of(place);
+        if let Some(place) = last_standing_place(standings.as_slice(), discontinuities) {
+            return segment_text_place(place);
         }
     }
-    push_standing(standings, discontinuities, keys, init_section)
+    push_segment_standing(standings, discontinuities, keys, init_section)
 }
 
 #[inline(never)]
-fn push_standing(
+fn push_segment_standing(
     standings: &mut Vec<Standing>,
     discontinuities: u64,
     keys: &Keys,
@@ -213,7 +213,7 @@ fn push_standing(
     ensures last { OnOk result (IsLastOf standings.new.items keys.now init_section.now) }
     ensures refused { OnErr result (standings.new.items ≡ standings.old.items) }
 {
-    let place = place_of(standings.len())?;
+    let place = segment_text_place(standings.len())?;
     standings.push(Standing {
         discontinuities,
         keys: keys.clone()?,
@@ -225,7 +225,7 @@ fn push_standing(
 // Puts the row of the next segment after the others, and into the tables all that it points to. `is_listed` says that the last
 // standing has the keys and the initialisation section.
 #[inline(always)]
-fn push_row(
+fn push_segment_row(
     tables: &mut Tables,
     rows: &mut Vec<Row>,
     is_listed: bool,
@@ -244,16 +244,16 @@ fn push_row(
     ensures refused { OnErr result (rows.new.items ≡ rows.old.items) }
 {
     rows.reserve(1)?;
-    let standing = put_standing(
+    let standing = put_segment_standing(
         &mut tables.standings,
         is_listed,
         parts.discontinuities,
         keys,
         init_section,
     )?;
-    let byte_range = put_byte_range(&mut tables.byte_ranges, parts.byte_range)?;
-    let title = put_title(&mut tables.texts, parts.title)?;
-    let uri = put_text(&mut tables.texts, parts.uri_front, parts.uri_rest)?;
+    let byte_range = put_segment_byte_range(&mut tables.byte_ranges, parts.byte_range)?;
+    let title = put_segment_title(&mut tables.texts, parts.title)?;
+    let uri = put_segment_text(&mut tables.texts, parts.uri_front, parts.uri_rest)?;
     rows.push_reserved(Row {
         media_sequence: parts.media_sequence,
         discontinuity_sequence: parts.discontinuity_sequence,
@@ -421,7 +421,7 @@ impl GrowingSegments {
             }) }
         ensures refused { OnErr result (self.new ≡ self.old) }
     {
-        push_row(
+        push_segment_row(
             &mut self.tables,
             &mut self.rows,
             self.is_listed,
@@ -454,6 +454,21 @@ impl GrowingSegments {
             title: segment.title(),
             program_date_time: row.program_date_time,
         })
+    }
+
+    /// Lists copies of `segments`, one after the other, as `push_copy` does. Fails only if an allocation fails, or the texts have
+    /// 2^32 bytes or more; some of them may be listed then, the first ones.
+    pub fn push_copies(&mut self, segments: SegmentSlice<'_>) -> Result<(), AllocError>
+        ensures pushed { OnOk result (self.new.segments ≡ self.old.segments ++ segments.entry) }
+        ensures refused { OnErr result
+            ((count : ℕ) × (self.new.segments ≡ self.old.segments ++ take count segments.entry)) }
+    {
+        let mut rest = segments;
+        while let Some((segment, later)) = rest.split_first() {
+            self.push_copy(&segment)?;
+            rest = later;
+        }
+        Ok(())
     }
 
     /// The list of the segments.
@@ -639,7 +654,7 @@ impl<'a> SegmentRef<'a> {
         ensures utf8 { IsTrue (is_utf8 self.now.uri) }
     {
         let (tables, row) = (self.tables, self.row);
-        listed_text(tables.texts.as_str(), row.uri)
+        segment_text_at(tables.texts.as_str(), row.uri)
     }
 
     /// The part of the resource, if it isn't the whole.
@@ -688,7 +703,7 @@ impl<'a> SegmentRef<'a> {
         ensures { result.now ≡ self.now.title }
     {
         let (tables, row) = (self.tables, self.row);
-        listed_text(tables.texts.as_str(), row.title)
+        segment_text_at(tables.texts.as_str(), row.title)
     }
 
     /// When its first sample is, if EXT-X-PROGRAM-DATE-TIME states that.

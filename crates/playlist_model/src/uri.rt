@@ -2,18 +2,18 @@
 
 ghost use Rattle.std.specs.Prelude.{◌≡◌, IsTrue, ◌==◌, ◌↔◌};
 ghost use Rattle.std.specs.List.{prefix_len, list_any};
-ghost use Rattle.playlist_model.specs.Uri.{has_scheme, is_scheme_byte};
+ghost use Rattle.playlist_model.specs.Uri.{has_scheme, is_uri_scheme_byte};
 
-fn is_scheme_byte(b: u8) -> bool
-    ensures { result ≡ is_scheme_byte b }
+fn is_uri_scheme_byte(b: u8) -> bool
+    ensures { result ≡ is_uri_scheme_byte b }
 {
     b.is_ascii_alphanumeric() || b == b'+' || b == b'-' || b == b'.'
 }
 
-fn scheme_len(bytes: &[u8]) -> usize
-    ensures { result ≡ prefix_len is_scheme_byte bytes.now }
+fn uri_scheme_length(bytes: &[u8]) -> usize
+    ensures { result ≡ prefix_len is_uri_scheme_byte bytes.now }
 {
-    bytes.iter().take_while(|b| is_scheme_byte(**b)).count()
+    bytes.iter().take_while(|b| is_uri_scheme_byte(**b)).count()
 }
 
 /// Whether `text` begins with a scheme, and so is a whole URI, whatever the base: a letter, then letters, digits,
@@ -22,7 +22,7 @@ pub fn has_scheme(text: &str) -> bool
     ensures { result ≡ has_scheme text.now }
 {
     let bytes = text.as_bytes();
-    let len = scheme_len(bytes);
+    let len = uri_scheme_length(bytes);
     if len >= bytes.len() {
         return false;
     }

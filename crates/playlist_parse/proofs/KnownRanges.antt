@@ -7,7 +7,7 @@ use Rattle.playlist_model.specs.Segments.{Segment}
 use Rattle.playlist_model.specs.Said.{nothing}
 use Rattle.playlist_kept.specs.KeptLines.{LinesWereRead}
 use Rattle.playlist_kept.specs.declared.source.KeptLines.{KeptLines}
-use Rattle.playlist_parse.specs.Inner.DateRanges.{AreSaidByAttributes}
+use Rattle.playlist_parse.specs.Inner.ParsedDateRanges.{AreSaidByAttributes}
 use Rattle.playlist_parse.proofs.SaidAgain.{all_said}
 
 pub said_before : (base : Parts) (kept : KeptLines) (all : List Segment) (ranges : List DateRange) → LinesWereRead base kept all ranges → AreSaidByAttributes (take kept.date_ranges ranges)

@@ -16,7 +16,7 @@ pub mod JoinedLines
 pub mod GoingTo
 pub mod Again
 pub mod Light
-pub mod DateRanges
+pub mod ParsedDateRanges
 pub mod SaidAgain
 pub mod KnownRanges
 pub mod Mixed

@@ -12,7 +12,7 @@ use Rattle.playlist_model.specs.Said.{Name, version_tag, target_tag, sequence_ta
 use Rattle.playlist_model.specs.LookBack.{the_version, the_target, the_sequence, the_discontinuity_sequence, the_type, is_media, is_discontinuity, is_ended, segments_of, with_said}
 use Rattle.playlist_model.specs.Reading.{has, is_set, name_of, said_by_tag, said_by_kind, said_by, said_from, at_line, limited, Fault}
 use Rattle.playlist_parse.specs.Light.{IsOfWhole, IsLightKind, IsLight, AreLight}
-use Rattle.playlist_parse.specs.Inner.Answers.{fault_at}
+use Rattle.playlist_parse.specs.Inner.Answers.{fault_at_line}
 use Rattle.playlist_parse.specs.Inner.Progress.{Progress, progress_at, TakesLineExactly}
 use Rattle.playlist_parse.specs.Inner.Reached.{Telling, IsToBeTold, left_in}
 use Rattle.playlist_parse.specs.declared.reading.Reading.{Reading}
@@ -192,7 +192,7 @@ its_fault (Ok x) kind h is = absurd (cc is)
 its_fault (Err e) kind h is = λ f. h (let same : e ≡ kind = cc in same ∙ f)
 
 pub is_told : (base : Parts) (progress new : Progress) (n : ℕ) (line : List ℕ) (rest : List (List ℕ)) (e : Fault) (kind : FaultKind) → Exact progress line (Err kind) new
-    → Telling base progress n (line ∷ rest) e → fault_at kind n ≡ e
+    → Telling base progress n (line ∷ rest) e → fault_at_line kind n ≡ e
 is_told base progress new n line rest e kind takes t =
     let o = opened base t.before line rest t.front t.later e t.left_is t.light t.said in
     let says : said_by limited base t.before line ≡ Err kind =

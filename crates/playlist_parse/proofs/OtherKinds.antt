@@ -10,9 +10,9 @@ use Rattle.playlist_model.specs.declared.FaultKind.{FaultKind}
 use Rattle.playlist_model.specs.declared.FaultKind.TheVariants as fault
 use Rattle.playlist_model.specs.Lines.{Kind, ignored, uri, tag, kind_of, has_control}
 use Rattle.spec_words.specs.Outcomes.{or_fault, mended, optional, ◌>>=◌, refuse_if}
-use Rattle.playlist_model.specs.Said.{Name, sequence_tag, version_tag, target_tag, discontinuity_sequence_tag, type_tag, ended_tag, independent_tag, frames_tag, master_tag, duration_tag, byte_range_tag, discontinuity_tag, key_tag, init_section_tag, time_tag, date_range_tag, unknown_tag, Said, sequence, discontinuity_sequence, Reader, over, number_said, version_of, playlist_type_of, byte_range_of, attributes, required, iv_of, quoted_of, uri_of, init_section_byte_range, time_of, length_of, set_key, key_said, init_section_said, date_range_said, Outcome}
+use Rattle.playlist_model.specs.Said.{Name, sequence_tag, version_tag, target_tag, discontinuity_sequence_tag, type_tag, ended_tag, independent_tag, frames_tag, master_tag, duration_tag, byte_range_tag, discontinuity_tag, key_tag, init_section_tag, time_tag, date_range_tag, unknown_tag, Said, sequence, discontinuity_sequence, Reader, over, number_said, version_of, playlist_type_of, byte_range_of, attributes, required, iv_of, quoted_of, uri_of, init_section_byte_range, time_of, attribute_duration_of, set_key, key_said, init_section_said, date_range_said, Outcome}
 use Rattle.playlist_model.specs.LookBack.{the_version, the_target, the_sequence, the_discontinuity_sequence, the_type, is_media, is_discontinuity, is_ended, count, own_duration, byte_range_at, keys_at, discontinuity_at, media_sequence_at}
-use Rattle.playlist_model.specs.Reading.{has, is_set, passes, needs_iv, name_of, within_formats, with_ivs, said_by_tag, said_by_uri, said_by_kind, said_by}
+use Rattle.playlist_model.specs.Reading.{has, is_set, passes, key_needs_iv, name_of, within_formats, with_ivs, said_by_tag, said_by_uri, said_by_kind, said_by}
 
 -- what says no first number
 abbrev pub is_other : Said → Bool
@@ -67,7 +67,7 @@ module _ (reader : Reader) (base : Parts) where
   date_range_other rest =
       after (attributes reader rest) _ (λ pairs. after (required true (attribute pairs (codes "ID"))) _ (λ id.
       after (optional time_of (attribute pairs (codes "START-DATE"))) _ (λ start. after (optional time_of (attribute pairs (codes "END-DATE"))) _ (λ end.
-      after (optional length_of (attribute pairs (codes "DURATION"))) _ (λ length. after (optional length_of (attribute pairs (codes "PLANNED-DURATION"))) _ (λ planned. refl))))))
+      after (optional attribute_duration_of (attribute pairs (codes "DURATION"))) _ (λ length. after (optional attribute_duration_of (attribute pairs (codes "PLANNED-DURATION"))) _ (λ planned. refl))))))
 
   tag_other : (before : List Said) (name : Name) (rest : List ℕ) → has is_media before ≡ true → Other (said_by_tag reader base before name rest)
   tag_other before version_tag rest h = refused (is_set the_version before) _ _ (after (version_of rest) _ (λ n. refl))
@@ -86,7 +86,7 @@ module _ (reader : Reader) (base : Parts) where
   tag_other before key_tag rest h =
       bound (key_said reader base rest) (within_formats reader before) (key_other rest) (λ x is. refused (over reader.formats (length (keys_at (x ∷ before)))) _ (Ok x) is)
   tag_other before init_section_tag rest h =
-      bound (init_section_said reader base rest) (with_ivs before) (init_section_other rest) (λ x is. refused (list_any needs_iv (keys_at before)) _ (Ok x) is)
+      bound (init_section_said reader base rest) (with_ivs before) (init_section_other rest) (λ x is. refused (list_any key_needs_iv (keys_at before)) _ (Ok x) is)
   tag_other before time_tag rest h = after (or_fault fault.BadTime (instant_of rest)) _ (λ t. refl)
   tag_other before date_range_tag rest h = date_range_other rest
   tag_other before unknown_tag rest h = refl

@@ -10,7 +10,7 @@ use Rattle.playlist_model.specs.Said.{Said, nothing}
 use Rattle.playlist_model.specs.LookBack.{with_said}
 use Rattle.playlist_model.specs.Reading.{said_by, said_from, and_whole, whole_fault, playlist_of, Fault}
 use Rattle.playlist_model.specs.Reading.{limited}
-use Rattle.playlist_parse.specs.Inner.Answers.{fault_at, line_of_fault}
+use Rattle.playlist_parse.specs.Inner.Answers.{fault_at_line, line_of_fault}
 use Rattle.playlist_parse.specs.Inner.Progress.{Progress, progress_at, EndsIn}
 use Rattle.playlist_parse.specs.Inner.Reached.{Reached, Faulted, left_in}
 use Rattle.playlist_parse.specs.declared.reading.Reading.{Reading}
@@ -45,12 +45,12 @@ kept_line _ n h = refl
 no_line : (e : FaultKind) (n : ℕ) → e ≡ OutOfMemory → line_of_fault e n ≡ 0
 no_line e n h = rw h refl
 
-failed : (e : FaultKind) (n : ℕ) (outcome : Result Playlist Fault) → (e ≢ OutOfMemory → outcome ≡ Err (record { kind = e; line = n })) → AnswersRead (Err (fault_at e n)) outcome
+failed : (e : FaultKind) (n : ℕ) (outcome : Result Playlist Fault) → (e ≢ OutOfMemory → outcome ≡ Err (record { kind = e; line = n })) → AnswersRead (Err (fault_at_line e n)) outcome
 failed e n outcome h = grind arith
 
 -- a line that is refused
 pub refused : {base : Parts} {progress : Progress} {number : ℕ} {line : List ℕ} {left lines : List (List ℕ)} (e : FaultKind) (r : Reached base progress number (line ∷ left) lines)
-    → RefusesByPlaylistFault e (said_by limited base r.before line) → AnswersRead (Err (fault_at e number)) (and_whole (said_from (said_by limited base) (nothing ∷ []) lines))
+    → RefusesByPlaylistFault e (said_by limited base r.before line) → AnswersRead (Err (fault_at_line e number)) (and_whole (said_from (said_by limited base) (nothing ∷ []) lines))
 refused {base = base} {number = number} {line = line} {left = left} {lines = lines} e r h = grind arith
 
 pub ends : {base : Parts} {progress : Progress} {number : ℕ} {left lines : List (List ℕ)} (result : Result Read FaultKind) (r : Reached base progress number left lines) → EndsIn progress result
@@ -59,7 +59,7 @@ ends {base = base} {progress = progress} result r h = grind arith
 
 -- a refused line's fault is the text's
 pub line_refused : {base : Parts} {progress : Progress} {number : ℕ} {line : List ℕ} {left lines : List (List ℕ)} (e : FaultKind) (fault : Fault) (r : Reached base progress number (line ∷ left) lines)
-    → ((before : List Said) → progress ≡ progress_at progress.base before → RefusesByPlaylistFault e (said_by limited progress.base before line)) → fault ≡ fault_at e number → Faulted base fault lines
+    → ((before : List Said) → progress ≡ progress_at progress.base before → RefusesByPlaylistFault e (said_by limited progress.base before line)) → fault ≡ fault_at_line e number → Faulted base fault lines
 line_refused {base = base} {number = number} {line = line} {lines = lines} e fault r refuses is = grind arith
 
 -- if no line is left, the text is the playlist
@@ -68,7 +68,7 @@ pub ended : {base : Parts} {progress : Progress} {number : ℕ} {lines : List (L
 ended {base = base} {progress = progress} read r h = grind arith
 
 -- a failed allocation says nothing of the text
-pub unread : (fault : Fault) (outcome : Result Playlist Fault) → fault ≡ fault_at OutOfMemory 0 → AnswersRead (Err fault) outcome
+pub unread : (fault : Fault) (outcome : Result Playlist Fault) → fault ≡ fault_at_line OutOfMemory 0 → AnswersRead (Err fault) outcome
 unread fault outcome is = grind arith
 
 -- a whole text is what its lines said

@@ -15,10 +15,10 @@ use Rattle.playlist_model.specs.declared.ByteRange.{ByteRange}
 use Rattle.playlist_model.specs.declared.FaultKind.{FaultKind}
 use Rattle.playlist_model.specs.declared.FaultKind.TheVariants as fault
 use Rattle.playlist_model.specs.Lines.{Kind, ignored, uri, tag}
-use Rattle.playlist_model.specs.Said.{Said, Outcome, Name, version_tag, target_tag, sequence_tag, discontinuity_sequence_tag, type_tag, ended_tag, independent_tag, frames_tag, master_tag, duration_tag, byte_range_tag, discontinuity_tag, key_tag, init_section_tag, time_tag, date_range_tag, unknown_tag, version, target, sequence, discontinuity_sequence, playlist_type, ended, duration, byte_range, discontinuity, key, init_section, time, date_range, number_said, version_of, playlist_type_of, byte_range_of, required, quoted_of, key_said, init_section_byte_range, init_section_said, time_of, length_of, value_in_pair, uri_of, over, date_range_of, date_range_said}
+use Rattle.playlist_model.specs.Said.{Said, Outcome, Name, version_tag, target_tag, sequence_tag, discontinuity_sequence_tag, type_tag, ended_tag, independent_tag, frames_tag, master_tag, duration_tag, byte_range_tag, discontinuity_tag, key_tag, init_section_tag, time_tag, date_range_tag, unknown_tag, version, target, sequence, discontinuity_sequence, playlist_type, ended, duration, byte_range, discontinuity, key, init_section, time, date_range, number_said, version_of, playlist_type_of, byte_range_of, required, quoted_of, key_said, init_section_byte_range, init_section_said, time_of, attribute_duration_of, value_in_pair, uri_of, over, date_range_of, date_range_said}
 use Rattle.playlist_model.specs.LookBack.{the_version, the_target, the_sequence, the_discontinuity_sequence, the_type, is_media, is_discontinuity, is_ended, discontinuity_at, keys_at, date_ranges_of}
-use Rattle.playlist_model.specs.Reading.{limited, is_set, has, passes, needs_iv, within_formats, with_ivs, said_by, said_by_tag, said_by_kind, said_by_uri, said_from, at_line, Fault, name_of}
-use Rattle.playlist_parse.specs.Inner.DateRanges.{IsSaidByAttributes, AreSaidByAttributes}
+use Rattle.playlist_model.specs.Reading.{limited, is_set, has, passes, key_needs_iv, within_formats, with_ivs, said_by, said_by_tag, said_by_kind, said_by_uri, said_from, at_line, Fault, name_of}
+use Rattle.playlist_parse.specs.Inner.ParsedDateRanges.{IsSaidByAttributes, AreSaidByAttributes}
 
 -- ---- what holds of an outcome, if it is one
 
@@ -46,7 +46,7 @@ HasText rest _ = ⊥
 
 abbrev after_lasts : List ℕ → List Pair → List ℕ → Option ℤ → Option ℤ → Option ℕ → Outcome Said
 after_lasts text pairs id start end lasts =
-    optional length_of (attribute pairs (codes "PLANNED-DURATION")) >>= λ planned.
+    optional attribute_duration_of (attribute pairs (codes "PLANNED-DURATION")) >>= λ planned.
     Ok (date_range (record {
       id = id;
       start = start;
@@ -59,7 +59,7 @@ after_lasts text pairs id start end lasts =
     }))
 
 abbrev after_end : List ℕ → List Pair → List ℕ → Option ℤ → Option ℤ → Outcome Said
-after_end text pairs id start end = optional length_of (attribute pairs (codes "DURATION")) >>= after_lasts text pairs id start end
+after_end text pairs id start end = optional attribute_duration_of (attribute pairs (codes "DURATION")) >>= after_lasts text pairs id start end
 
 abbrev after_start : List ℕ → List Pair → List ℕ → Option ℤ → Outcome Said
 after_start text pairs id start = optional time_of (attribute pairs (codes "END-DATE")) >>= after_end text pairs id start
@@ -75,7 +75,7 @@ range_text text pairs =
     only_then (HasText text) (required true (attribute pairs (codes "ID"))) (after_id text pairs)
     (λ id. only_then (HasText text) (optional time_of (attribute pairs (codes "START-DATE"))) (after_start text pairs id)
     (λ start. only_then (HasText text) (optional time_of (attribute pairs (codes "END-DATE"))) (after_end text pairs id start)
-    (λ end. only_then (HasText text) (optional length_of (attribute pairs (codes "DURATION"))) (after_lasts text pairs id start end) (last_of_range text pairs id start end))))
+    (λ end. only_then (HasText text) (optional attribute_duration_of (attribute pairs (codes "DURATION"))) (after_lasts text pairs id start end) (last_of_range text pairs id start end))))
 
 has_text : (rest : List ℕ) → Only (HasText rest) (date_range_said limited rest)
 has_text rest = grind (arith, only_then, range_text)
@@ -139,7 +139,7 @@ right_tag base before duration_tag rest =
 right_tag base before byte_range_tag rest = only_then IsRight (byte_range_of rest) (λ r. Ok (byte_range r.0 r.1)) (λ r. tt)
 right_tag base before discontinuity_tag rest = only_if IsRight (passes (discontinuity_at before + 1)) fault.BadValue (Ok discontinuity) tt
 right_tag base before key_tag rest = only_both IsRight (key_said limited base rest) (within_formats limited before) (right_key base rest) (λ s h. only_if IsRight (over limited.formats (length (keys_at (s ∷ before)))) fault.TooMany (Ok s) h)
-right_tag base before init_section_tag rest = only_both IsRight (init_section_said limited base rest) (with_ivs before) (right_section base rest) (λ s h. only_if IsRight (list_any needs_iv (keys_at before)) fault.MapWithoutIv (Ok s) h)
+right_tag base before init_section_tag rest = only_both IsRight (init_section_said limited base rest) (with_ivs before) (right_section base rest) (λ s h. only_if IsRight (list_any key_needs_iv (keys_at before)) fault.MapWithoutIv (Ok s) h)
 right_tag base before time_tag rest = only_then IsRight (or_fault fault.BadTime (instant_of rest)) (λ t. Ok (time t)) (λ t. tt)
 right_tag base before date_range_tag rest = right_range rest (date_range_said limited rest) refl (has_text rest)
 right_tag base before unknown_tag rest = tt

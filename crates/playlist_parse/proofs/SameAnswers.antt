@@ -12,7 +12,7 @@ use Rattle.spec_words.specs.Outcomes.{◌>>=◌, refuse_if}
 use Rattle.playlist_model.specs.Said.{Name, sequence_tag, version_tag, target_tag, discontinuity_sequence_tag, type_tag, ended_tag, independent_tag, frames_tag, master_tag, duration_tag, byte_range_tag, discontinuity_tag, key_tag, init_section_tag, time_tag, date_range_tag, unknown_tag, Said, version, target, sequence, discontinuity_sequence, playlist_type, ended, discontinuity, no_keys, key, media, Reader, over, number_said, version_of, playlist_type_of, uri_of, key_said, init_section_said, Outcome}
 use Rattle.playlist_model.specs.LookBack.{is_media, is_discontinuity, count, byte_range_from, keys_at, put_key}
 use Rattle.playlist_model.specs.Inner.Heading.{Heading, heading_at}
-use Rattle.playlist_model.specs.Reading.{has, passes, needs_iv, name_of, within_formats, with_ivs, said_by_tag, said_by_uri, said_by_kind, said_by}
+use Rattle.playlist_model.specs.Reading.{has, passes, key_needs_iv, name_of, within_formats, with_ivs, said_by_tag, said_by_uri, said_by_kind, said_by}
 use Rattle.playlist_parse.specs.Inner.Resumed.{Scene, Alike}
 
 same_bound : {A B : Type 0} (o : Outcome A) (f g : A → Outcome B) → ((x : A) → f x ≡ g x) → (o >>= f) ≡ (o >>= g)
@@ -69,7 +69,7 @@ module _ (reader : Reader) (base : Parts) (old new : List Said) (alike : Alike o
       same_bound (key_said reader base rest) (within_formats reader old) (within_formats reader new)
       (λ said. ap (λ ks. refuse_if (over reader.formats (length ks)) fault.TooMany (Ok said)) (keys_step said old new keys))
   same_tag init_section_tag rest =
-      same_bound (init_section_said reader base rest) (with_ivs old) (with_ivs new) (λ said. ap (λ ks. refuse_if (list_any needs_iv ks) fault.MapWithoutIv (Ok said)) keys)
+      same_bound (init_section_said reader base rest) (with_ivs old) (with_ivs new) (λ said. ap (λ ks. refuse_if (list_any key_needs_iv ks) fault.MapWithoutIv (Ok said)) keys)
   same_tag time_tag rest = refl
   same_tag date_range_tag rest = refl
   same_tag unknown_tag rest = refl

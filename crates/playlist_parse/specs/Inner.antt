@@ -6,4 +6,4 @@ pub mod Answers
 pub mod Resumed
 pub mod Reached
 pub mod Source
-pub mod DateRanges
+pub mod ParsedDateRanges

@@ -3,32 +3,32 @@ ghost use Rattle.std.specs.Prelude.{◌≡◌, IfOk, option_map};
 ghost use Rattle.attr_list.specs.Attributes.{attribute};
 ghost use Rattle.playlist_model.specs.Refusals.{GivesOrPlaylistFault};
 ghost use Rattle.spec_words.specs.Outcomes.{optional};
-ghost use Rattle.playlist_model.specs.Said.{time_of, length_of, value_in_pair, date_range_said, date_range};
+ghost use Rattle.playlist_model.specs.Said.{time_of, attribute_duration_of, value_in_pair, date_range_said, date_range};
 ghost use Rattle.playlist_model.specs.Reading.{limited};
 ghost use Rattle.segment_state.specs.Attributes.{pairs_of};
 
 use attr_list::AttrList;
 use fixed_duration::Nanos;
 use playlist_model::{DateRange, FaultKind, Instant, Shared, Text, read_instant};
-use segment_state::attributes::{attributes_of, required_value};
+use segment_state::attributes::{required_tag_value, tag_attributes_of};
 use std::alloc::{AllocError, Global};
 
 /// The date range that `rest` states, which comes after `#EXT-X-DATERANGE:` (RFC 8216, section 4.3.2.7). The faults,
 /// in this order: `BadAttributes` if it is no attribute list, `MissingAttribute` without ID, `BadAttributes` if ID is
 /// without quotes, `BadTime` for START-DATE and END-DATE, `BadDuration` for DURATION and PLANNED-DURATION;
 /// `OutOfMemory` only if an allocation fails.
-pub fn date_range_of(alloc: Global, rest: &str) -> Result<DateRange, FaultKind>
+pub fn date_range_line_said(alloc: Global, rest: &str) -> Result<DateRange, FaultKind>
     ensures { GivesOrPlaylistFault date_range result (date_range_said limited rest.now) }
 {
-    let attributes = attributes_of(alloc, rest)?;
-    let id = required_value(&attributes, "ID", true)?;
-    let start = instant_of(&attributes, "START-DATE")?;
-    let end = instant_of(&attributes, "END-DATE")?;
-    let duration = duration_of(&attributes, "DURATION")?;
-    let planned = duration_of(&attributes, "PLANNED-DURATION")?;
+    let attributes = tag_attributes_of(alloc, rest)?;
+    let id = required_tag_value(&attributes, "ID", true)?;
+    let start = instant_said_by_date_range(&attributes, "START-DATE")?;
+    let end = instant_said_by_date_range(&attributes, "END-DATE")?;
+    let duration = duration_said_by_date_range(&attributes, "DURATION")?;
+    let planned = duration_said_by_date_range(&attributes, "PLANNED-DURATION")?;
     let id = Shared::copy_of(alloc, id)?;
-    let out = copy_value(alloc, &attributes, "SCTE35-OUT")?;
-    let back = copy_value(alloc, &attributes, "SCTE35-IN")?;
+    let out = copy_value_of_date_range_line(alloc, &attributes, "SCTE35-OUT")?;
+    let back = copy_value_of_date_range_line(alloc, &attributes, "SCTE35-IN")?;
     let text = Text::copy_of(alloc, rest)?;
     Ok(DateRange {
         id,
@@ -42,7 +42,10 @@ pub fn date_range_of(alloc: Global, rest: &str) -> Result<DateRange, FaultKind>
     })
 }
 
-fn instant_of(attributes: &AttrList<'_>, name: &str) -> Result<Option<Instant>, FaultKind>
+fn instant_said_by_date_range(
+    attributes: &AttrList<'_>,
+    name: &str,
+) -> Result<Option<Instant>, FaultKind>
     ensures { result ≡ optional time_of (attribute (pairs_of attributes.now) name.now) }
 {
     let Some(attribute) = attributes.get(name) else {
@@ -54,8 +57,11 @@ fn instant_of(attributes: &AttrList<'_>, name: &str) -> Result<Option<Instant>, 
     }
 }
 
-fn duration_of(attributes: &AttrList<'_>, name: &str) -> Result<Option<Nanos>, FaultKind>
-    ensures { result ≡ optional length_of (attribute (pairs_of attributes.now) name.now) }
+fn duration_said_by_date_range(
+    attributes: &AttrList<'_>,
+    name: &str,
+) -> Result<Option<Nanos>, FaultKind>
+    ensures { result ≡ optional attribute_duration_of (attribute (pairs_of attributes.now) name.now) }
 {
     let Some(attribute) = attributes.get(name) else {
         return Ok(None);
@@ -67,7 +73,7 @@ fn duration_of(attributes: &AttrList<'_>, name: &str) -> Result<Option<Nanos>, F
 }
 
 // The value of an attribute.
-fn copy_value(
+fn copy_value_of_date_range_line(
     alloc: Global,
     attributes: &AttrList<'_>,
     name: &str,

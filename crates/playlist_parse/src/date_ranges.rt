@@ -1,12 +1,12 @@
 //! The date ranges of a text, as far as it is read. One that stands word for word in the last text too isn't read again.
-ghost use Rattle.std.specs.Prelude.{◌≡◌, ◌++◌, ◌∷◌, [], true, false, length, take, List, MatchResult, IfOk, OnOk};
+ghost use Rattle.std.specs.Prelude.{◌≡◌, ◌++◌, [], true, false, length, take, List, MatchResult, IfOk, OnOk};
 ghost use Rattle.playlist_model.specs.Reading.{limited};
 ghost use Rattle.playlist_model.specs.Refusals.{RefusesByPlaylistFault};
 ghost use Rattle.playlist_model.specs.Said.{date_range_said};
-ghost use Rattle.playlist_parse.specs.Inner.DateRanges.{Adds, AreSaidByAttributes, HasAttributesAt};
+ghost use Rattle.playlist_parse.specs.Inner.ParsedDateRanges.{Adds, AreSaidByAttributes, HasAttributesAt};
 
-use crate::date_range::date_range_of;
-use crate::source::up_to;
+use crate::date_range::date_range_line_said;
+use crate::source::values_up_to_read_place;
 use playlist_model::{DateRange, FaultKind, Items, Shared};
 use std::alloc::{AllocError, Global};
 use std::marker::Model;
@@ -23,7 +23,7 @@ pub struct Known<'a> {
 impl<'a> Model for Known<'a> {
     ghost use Rattle.std.specs.Prelude.{List};
     ghost use Rattle.playlist_model.specs.declared.DateRange.{DateRange};
-    ghost use Rattle.playlist_parse.specs.Inner.DateRanges.{AreSaidByAttributes};
+    ghost use Rattle.playlist_parse.specs.Inner.ParsedDateRanges.{AreSaidByAttributes};
 
     ghost Value = { List DateRange };
 
@@ -47,7 +47,7 @@ impl<'a> Known<'a> {
 }
 
 // Puts these after a list, which is an owner of each then.
-fn share_date_ranges(
+fn share_date_ranges_read(
     list: &mut Vec<Shared<DateRange>>,
     more: &[Shared<DateRange>],
 ) -> Result<(), AllocError>
@@ -62,7 +62,7 @@ fn share_date_ranges(
 }
 
 // Whether the date range at a place has these attributes, word for word.
-fn stands_at(known: &[Shared<DateRange>], place: usize, rest: &str) -> bool
+fn date_range_line_stands_at(known: &[Shared<DateRange>], place: usize, rest: &str) -> bool
     ensures { result ≡ true → HasAttributesAt known.now place rest.now }
 {
     match known.get(place) {
@@ -71,9 +71,12 @@ fn stands_at(known: &[Shared<DateRange>], place: usize, rest: &str) -> bool
     }
 }
 
-#[tactic(auto, using(crate::proofs::DateRanges::said_later))]
+#[tactic(auto, using(crate::proofs::ParsedDateRanges::said_later))]
 // The known date ranges from the first of the next few that has these attributes, or all of them.
-fn from_next<'a>(known: &'a [Shared<DateRange>], rest: &str) -> &'a [Shared<DateRange>]
+fn date_range_lines_from_next<'a>(
+    known: &'a [Shared<DateRange>],
+    rest: &str,
+) -> &'a [Shared<DateRange>]
     requires { AreSaidByAttributes known.now }
     ensures { AreSaidByAttributes result.now }
 {
@@ -91,7 +94,11 @@ fn from_next<'a>(known: &'a [Shared<DateRange>], rest: &str) -> &'a [Shared<Date
 }
 
 // The known date ranges, so many of which are met: before one is, some that don't stand again may be passed over.
-fn to_meet<'a>(known: &'a [Shared<DateRange>], met: usize, rest: &str) -> &'a [Shared<DateRange>]
+fn date_range_lines_to_meet<'a>(
+    known: &'a [Shared<DateRange>],
+    met: usize,
+    rest: &str,
+) -> &'a [Shared<DateRange>]
     requires { AreSaidByAttributes known.now }
     ensures said { AreSaidByAttributes result.now }
     ensures met { take met result.now ≡ take met known.now }
@@ -99,12 +106,12 @@ fn to_meet<'a>(known: &'a [Shared<DateRange>], met: usize, rest: &str) -> &'a [S
     if met > 0 {
         return known;
     }
-    from_next(known, rest)
+    date_range_lines_from_next(known, rest)
 }
 
 /// The date ranges of a text as far as it is read.
 #[derive(Drop)]
-pub struct DateRanges<'a> {
+pub struct ParsedDateRanges<'a> {
     // Known ones, the first of which are met in the text: they have no owner more before the text is read.
     known: &'a [Shared<DateRange>],
     met: usize,
@@ -112,26 +119,26 @@ pub struct DateRanges<'a> {
     list: Vec<Shared<DateRange>>,
 }
 
-impl<'a> Model for DateRanges<'a> {
+impl<'a> Model for ParsedDateRanges<'a> {
     ghost use Rattle.std.specs.Prelude.{List, ◌++◌, take};
     ghost use Rattle.playlist_model.specs.declared.DateRange.{DateRange};
 
     ghost Value = { List DateRange };
 
-    ghost use Rattle.playlist_parse.specs.Inner.DateRanges.{AreSaidByAttributes};
+    ghost use Rattle.playlist_parse.specs.Inner.ParsedDateRanges.{AreSaidByAttributes};
 
     ghost view = { λ a. take a.met a.known.now ++ a.list.items };
 
     ghost invariant = { λ a. AreSaidByAttributes a.known.now };
 }
 
-impl<'a> DateRanges<'a> {
+impl<'a> ParsedDateRanges<'a> {
     /// None yet. Those that are `known` may come.
-    pub fn new(alloc: Global, known: Known<'a>) -> DateRanges<'a>
+    pub fn new(alloc: Global, known: Known<'a>) -> ParsedDateRanges<'a>
         ensures { result ≡ [] }
     {
         let Known { list } = known;
-        DateRanges {
+        ParsedDateRanges {
             known: list,
             met: 0,
             list: Vec::new(alloc),
@@ -142,7 +149,7 @@ impl<'a> DateRanges<'a> {
     pub fn len(&self) -> usize
         ensures { result ≡ length self.now }
     {
-        up_to(self.known, self.met).len() + self.list.len()
+        values_up_to_read_place(self.known, self.met).len() + self.list.len()
     }
 
     // Takes the known date range that has these attributes, if it comes next.
@@ -153,8 +160,8 @@ impl<'a> DateRanges<'a> {
         if self.list.len() > 0 {
             return false;
         }
-        let known = to_meet(self.known, self.met, rest);
-        if !stands_at(known, self.met, rest) {
+        let known = date_range_lines_to_meet(self.known, self.met, rest);
+        if !date_range_line_stands_at(known, self.met, rest) {
             return false;
         }
         self.known = known;
@@ -163,7 +170,7 @@ impl<'a> DateRanges<'a> {
     }
 
     /// Takes the date range that `rest` states, which comes after `#EXT-X-DATERANGE:` (RFC 8216, section 4.3.2.7). The
-    /// faults are those of `date_range_of`.
+    /// faults are those of `date_range_line_said`.
     pub fn push(&mut self, alloc: Global, rest: &str) -> Result<(), FaultKind>
         ensures { MatchResult result (λ _. Adds rest.now self.old self.new)
             (λ e. RefusesByPlaylistFault e (date_range_said limited rest.now)) }
@@ -171,7 +178,7 @@ impl<'a> DateRanges<'a> {
         if self.meets(rest) {
             return Ok(());
         }
-        let date_range = date_range_of(alloc, rest)?;
+        let date_range = date_range_line_said(alloc, rest)?;
         self.list.push(Shared::new(alloc, date_range)?)?;
         Ok(())
     }
@@ -180,20 +187,20 @@ impl<'a> DateRanges<'a> {
     pub fn append_shared(&mut self, more: &[Shared<DateRange>]) -> Result<(), AllocError>
         ensures { OnOk result (self.new ≡ self.old ++ more.now) }
     {
-        share_date_ranges(&mut self.list, more)
+        share_date_ranges_read(&mut self.list, more)
     }
 
     /// A list of them. Fails only if an allocation fails.
     pub fn into_items(self, alloc: Global) -> Result<Items<Shared<DateRange>>, AllocError>
         ensures { IfOk result (λ items. items ≡ self.entry) }
     {
-        let DateRanges { known, met, list } = self;
+        let ParsedDateRanges { known, met, list } = self;
         if met == 0 {
             return Ok(Items::from_vec(list));
         }
         let mut list = list;
         let mut all = Vec::with_capacity(alloc, met.saturating_add(list.len()))?;
-        share_date_ranges(&mut all, up_to(known, met))?;
+        share_date_ranges_read(&mut all, values_up_to_read_place(known, met))?;
         all.append(&mut list)?;
         Ok(Items::from_vec(all))
     }

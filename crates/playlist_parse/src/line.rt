@@ -37,7 +37,7 @@ pub struct Line<'a> {
 }
 
 /// Whether `line` has no character but spaces.
-pub(crate) fn is_blank(line: &str) -> bool
+pub(crate) fn is_blank_line(line: &str) -> bool
     ensures { result ≡ is_blank line.now }
 {
     line.as_bytes().iter().all(|b| *b == b' ')
@@ -45,7 +45,7 @@ pub(crate) fn is_blank(line: &str) -> bool
 
 // A text's two parts around its first colon: as `split_once`, by vectors, since names of tags are long.
 #[inline(always)]
-fn cut_at_colon(text: &str) -> Option<(&str, &str)>
+fn cut_line_at_colon(text: &str) -> Option<(&str, &str)>
     ensures { MatchOption result (position_or_len is_colon text.now ≡ length text.now)
         (λ parts. (position_or_len is_colon text.now < length text.now)
         × (parts.0.now ≡ before_first is_colon text.now)
@@ -63,7 +63,7 @@ fn cut_at_colon(text: &str) -> Option<(&str, &str)>
 pub fn kind_of(line: &str) -> LineKind<'_>
     ensures { line_kind_view result ≡ kind_of line.now }
 {
-    if is_blank(line) {
+    if is_blank_line(line) {
         return LineKind::Ignored;
     }
     if !line.starts_with("#EXT") {
@@ -74,7 +74,7 @@ pub fn kind_of(line: &str) -> LineKind<'_>
         };
     }
     let text = &line[1..];
-    match cut_at_colon(text) {
+    match cut_line_at_colon(text) {
         Some((name, rest)) => LineKind::Tag {
             name,
             rest,
@@ -89,7 +89,7 @@ pub fn kind_of(line: &str) -> LineKind<'_>
 }
 
 // The carriage return goes only with the line feed after it.
-fn without_carriage_return(piece: &str) -> &str
+fn line_without_carriage_return(piece: &str) -> &str
     ensures { result.now ≡ strip_carriage_return piece.now }
 {
     let bytes = piece.as_bytes();
@@ -101,7 +101,7 @@ fn without_carriage_return(piece: &str) -> &str
 
 /// Whether `bytes` are printable ASCII characters and line feeds alone, so that no line of them has a control
 /// character. It looks at all of them, many at a time.
-pub fn has_plain_bytes(bytes: &[u8]) -> bool
+pub fn has_plain_line_bytes(bytes: &[u8]) -> bool
     ensures { result ≡ list_all is_plain_byte bytes.now }
 {
     let mut plain = true;
@@ -112,7 +112,7 @@ pub fn has_plain_bytes(bytes: &[u8]) -> bool
 }
 
 // A line that begins at a place.
-fn line_at(start: usize, text: &str) -> Line<'_>
+fn line_starting_at(start: usize, text: &str) -> Line<'_>
     requires { start + length text.now < 2 ^ 64 }
     ensures { line_view result ≡ with_end (start, text.now) }
 {
@@ -123,7 +123,7 @@ fn line_at(start: usize, text: &str) -> Line<'_>
 
 #[tactic(auto, using(crate::proofs::Places::last_line, crate::proofs::Places::no_line))]
 // What stands after the last line feed, unless it is empty.
-fn last_line(start: usize, rest: &str) -> Option<Line<'_>>
+fn last_line_of_text(start: usize, rest: &str) -> Option<Line<'_>>
     requires bound { start + length rest.now < 2 ^ 64 }
     requires last { position_or_len is_feed rest.now ≡ length rest.now }
     ensures { MatchOption result (lines_from start rest.now ≡ [])
@@ -132,12 +132,12 @@ fn last_line(start: usize, rest: &str) -> Option<Line<'_>>
     if rest.is_empty() {
         return None;
     }
-    Some(line_at(start, rest))
+    Some(line_starting_at(start, rest))
 }
 
 // A text's two parts around its first line feed: as `split_once`, by vectors, since the search takes most of the time.
 #[inline(always)]
-fn cut_at_feed(text: &str) -> Option<(&str, &str)>
+fn cut_at_line_feed(text: &str) -> Option<(&str, &str)>
     ensures { MatchOption result (position_or_len is_feed text.now ≡ length text.now)
         (λ parts. (position_or_len is_feed text.now < length text.now)
         × (parts.0.now ≡ before_first is_feed text.now)
@@ -150,7 +150,7 @@ fn cut_at_feed(text: &str) -> Option<(&str, &str)>
 }
 
 // Whether a text ends with a line feed.
-fn ends_in_feed(text: &str) -> bool
+fn ends_in_line_feed(text: &str) -> bool
     ensures { result ≡ true → EndsInFeed text.now }
 {
     match text.as_bytes().split_last() {
@@ -160,7 +160,7 @@ fn ends_in_feed(text: &str) -> bool
 }
 
 // What stands after a front of a text, if it begins so.
-fn text_after<'a>(text: &'a str, front: &str) -> Option<&'a str>
+fn text_after_lines<'a>(text: &'a str, front: &str) -> Option<&'a str>
     ensures { MatchOption result (Unit {0}) (λ later. text.now ≡ front.now ++ later.now) }
 {
     match text.split_at_checked(front.len()) {
@@ -170,19 +170,19 @@ fn text_after<'a>(text: &'a str, front: &str) -> Option<&'a str>
 }
 
 // Whether a line that stands after this line feed names a segment.
-fn names_segment(line: &[u8]) -> bool {
+fn line_names_segment(line: &[u8]) -> bool {
     matches!(line, [_feed, first, ..] if *first != b'#' && *first != b'\n')
 }
 
 // The place after the last line that names a segment and ends with a line feed, or the end of the text. It has no contract:
-// `cut_after_segments` looks at the place, whatever it is.
-fn end_of_segments(text: &str) -> usize {
+// `cut_after_segment_lines` looks at the place, whatever it is.
+fn end_of_segment_lines(text: &str) -> usize {
     let mut rest = text.as_bytes();
     while let Some(feed) = memrchr(b'\n', rest) {
         let Some((front, line)) = rest.split_at_checked(feed) else {
             return text.len();
         };
-        if names_segment(line) {
+        if line_names_segment(line) {
             return feed.saturating_add(line.len()).saturating_add(1);
         }
         rest = front;
@@ -190,21 +190,21 @@ fn end_of_segments(text: &str) -> usize {
     text.len()
 }
 
-/// The first line of `text` with its line feed, if it has one. It has no contract: `stated_in` looks at the line,
+/// The first line of `text` with its line feed, if it has one. It has no contract: `duration_line_states` looks at the line,
 /// whatever it is.
-pub(crate) fn whole_line(text: &str) -> Option<&str> {
+pub(crate) fn first_whole_line(text: &str) -> Option<&str> {
     let feed = memchr(b'\n', text.as_bytes())?;
     text.get(..feed + 1)
 }
 
 #[tactic(auto, using(crate::proofs::Again::line_states))]
 /// What `line` states, if it is one whole line of EXTINF with its line feed.
-pub(crate) fn stated_in(line: &str) -> Option<&str>
+pub(crate) fn duration_line_states(line: &str) -> Option<&str>
     ensures { IfSome result (λ stated. IsLineOf line.now stated.now) }
 {
     let mut lines = Lines::new(line);
     let first = lines.next()?;
-    if lines.next().is_some() || !ends_in_feed(line) {
+    if lines.next().is_some() || !ends_in_line_feed(line) {
         return None;
     }
     first.text.strip_prefix("#EXTINF:")
@@ -218,11 +218,11 @@ pub struct CutText<'a> {
 }
 
 /// The lines of `text` up to the last one that names a segment, and those after it.
-pub fn cut_after_segments(text: &str) -> CutText<'_>
+pub fn cut_after_segment_lines(text: &str) -> CutText<'_>
     ensures { lines text.now ≡ lines result.front.now ++ lines result.tail.now }
 {
-    match text.split_at_checked(end_of_segments(text)) {
-        Some((front, tail)) if ends_in_feed(front) => CutText { front, tail },
+    match text.split_at_checked(end_of_segment_lines(text)) {
+        Some((front, tail)) if ends_in_line_feed(front) => CutText { front, tail },
         _ => CutText {
             front: text,
             tail: "",
@@ -295,10 +295,10 @@ impl<'a> Lines<'a> {
         ensures { MatchOption result (Unit {0})
             (λ later. map line_text self.now ≡ lines front.now ++ map line_text later) }
     {
-        if !ends_in_feed(front) {
+        if !ends_in_line_feed(front) {
             return None;
         }
-        let later = text_after(self.rest, front)?;
+        let later = text_after_lines(self.rest, front)?;
         Some(Lines {
             start: self.start + front.len(),
             rest: later,
@@ -313,12 +313,12 @@ impl<'a> Lines<'a> {
     {
         let start = self.start;
         let rest = self.rest;
-        let Some((piece, later)) = cut_at_feed(rest) else {
+        let Some((piece, later)) = cut_at_line_feed(rest) else {
             self.rest = "";
-            return last_line(start, rest);
+            return last_line_of_text(start, rest);
         };
         self.start = start + piece.len() + 1;
         self.rest = later;
-        Some(line_at(start, without_carriage_return(piece)))
+        Some(line_starting_at(start, line_without_carriage_return(piece)))
     }
 }

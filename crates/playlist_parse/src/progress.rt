@@ -1,5 +1,5 @@
 //! A playlist as far as it has been read, and what each tag adds to it.
-ghost use Rattle.std.specs.Prelude.{◌≡◌, ◌<◌, ◌≤◌, ◌^◌, [], ◌∷◌, ◌++◌, true, false, length, Some, None, Ok, Err, IfOk, OnOk, MatchOption};
+ghost use Rattle.std.specs.Prelude.{◌≡◌, ◌<◌, ◌≤◌, ◌^◌, [], ◌∷◌, true, false, length, Some, None, Ok, Err, IfOk, MatchOption};
 ghost use Rattle.std.specs.List.{list_any, list_all};
 ghost use Rattle.playlist_model.specs.Reading.{said_by, name_of, said_by_kind, said_by_uri, has_init_section, are_mixed};
 ghost use Rattle.playlist_model.specs.Lines as kinds;
@@ -14,9 +14,11 @@ ghost use Rattle.playlist_parse.specs.Inner.HeadingView.{heading_view};
 ghost use Rattle.playlist_parse.specs.Inner.Source.{gone_to};
 ghost use Rattle.playlist_kept.specs.Kept.{playlist_in, with_taken};
 
-use crate::date_ranges::{DateRanges, Known};
-use crate::line::{LineKind, Lines, is_blank, kind_of, stated_in, whole_line};
-use crate::tag::{Tag, tag_of};
+use crate::date_ranges::{Known, ParsedDateRanges};
+use crate::line::{
+    LineKind, Lines, duration_line_states, first_whole_line, is_blank_line, kind_of,
+};
+use crate::tag::{Tag, tag_of_line_name};
 use attr_list::read_decimal;
 use playlist_kept::{Read, ReadHeading};
 use playlist_model::{
@@ -33,7 +35,7 @@ pub struct Progress<'a> {
     alloc: Global,
     heading: ReadHeading,
     state: ReaderState<'a>,
-    date_ranges: DateRanges<'a>,
+    date_ranges: ParsedDateRanges<'a>,
     // How many segments were read before others were taken over, and these.
     front: usize,
     taken: &'a [Member],
@@ -70,7 +72,7 @@ impl<'a> Progress<'a> {
                 has_media: false,
             },
             state: ReaderState::new(alloc, base),
-            date_ranges: DateRanges::new(alloc, known),
+            date_ranges: ParsedDateRanges::new(alloc, known),
             front: 0,
             taken: &[],
         }
@@ -86,7 +88,7 @@ impl<'a> Progress<'a> {
         ensures light { IsLight line.now → TakesLineExactly
             (λ base before. said_by limited base before line.now) self.old self.new result }
     {
-        if has_control_in(line, is_plain) {
+        if line_has_control(line, is_plain) {
             return Err(FaultKind::Control);
         }
         // The tag that every segment has, taken without the other tags' names.
@@ -130,10 +132,10 @@ impl<'a> Progress<'a> {
     fn keep_line(&mut self, left: &'a str)
         ensures { self.new ≡ self.old }
     {
-        let Some(line) = whole_line(left) else {
+        let Some(line) = first_whole_line(left) else {
             return;
         };
-        if let Some(stated) = stated_in(line) {
+        if let Some(stated) = duration_line_states(line) {
             self.state.keep_duration_line(line, stated);
         }
     }
@@ -173,7 +175,7 @@ impl<'a> Progress<'a> {
         ensures light { IsLight line.now → TakesLineExactly
             (λ base before. said_by limited base before line.now) self.old self.new result }
     {
-        if is_blank(line) {
+        if is_blank_line(line) {
             return Ok(());
         }
         self.uri(line)
@@ -199,7 +201,7 @@ impl<'a> Progress<'a> {
             (λ base before. said_by_kind limited base before (kinds.tag name.now rest.now colon))
             self.old self.new result }
     {
-        match tag_of(name, colon) {
+        match tag_of_line_name(name, colon) {
             Tag::Inf => self.duration(rest),
             Tag::Discontinuity => self.discontinuity(),
             Tag::Version => self.version(rest),
@@ -277,7 +279,7 @@ impl<'a> Progress<'a> {
         if self.heading.version.is_some() {
             return Err(FaultKind::Repeated);
         }
-        self.heading.version = Some(version_of(rest)?);
+        self.heading.version = Some(version_said_by_line(rest)?);
         Ok(())
     }
 
@@ -289,7 +291,7 @@ impl<'a> Progress<'a> {
         if self.heading.target_duration.is_some() {
             return Err(FaultKind::Repeated);
         }
-        self.heading.target_duration = Some(number_said(rest)?);
+        self.heading.target_duration = Some(number_said_by_line(rest)?);
         Ok(())
     }
 
@@ -303,7 +305,7 @@ impl<'a> Progress<'a> {
         if self.heading.has_media {
             return Err(FaultKind::Misplaced);
         }
-        self.state.sequence(number_said(rest)?);
+        self.state.sequence(number_said_by_line(rest)?);
         self.heading.has_sequence = true;
         Ok(())
     }
@@ -318,7 +320,8 @@ impl<'a> Progress<'a> {
         if self.heading.has_media || self.state.has_discontinuity() {
             return Err(FaultKind::Misplaced);
         }
-        self.state.discontinuity_sequence(number_said(rest)?);
+        self.state
+            .discontinuity_sequence(number_said_by_line(rest)?);
         self.heading.has_discontinuity_sequence = true;
         Ok(())
     }
@@ -330,7 +333,7 @@ impl<'a> Progress<'a> {
         if self.heading.playlist_type.is_some() {
             return Err(FaultKind::Repeated);
         }
-        self.heading.playlist_type = Some(playlist_type_of(rest)?);
+        self.heading.playlist_type = Some(playlist_type_said_by_line(rest)?);
         Ok(())
     }
 
@@ -356,7 +359,7 @@ impl<'a> Progress<'a> {
         if !self.heading.has_media {
             return Err(FaultKind::NoSegments);
         }
-        if are_mixed(self.front, &self.state.segments(), self.taken) {
+        if are_read_init_sections_mixed(self.front, &self.state.segments(), self.taken) {
             return Err(FaultKind::MixedMaps);
         }
         Ok(target)
@@ -495,14 +498,14 @@ impl<'a> Progress<'a> {
 
 // Whether a line has a control character: one that is known to be plain isn't looked at.
 #[inline(always)]
-fn has_control_in(line: &str, is_plain: bool) -> bool
+fn line_has_control(line: &str, is_plain: bool) -> bool
     requires { is_plain ≡ true → has_control line.now ≡ false }
     ensures { result ≡ has_control line.now }
 {
     !is_plain && has_control(line)
 }
 
-fn number_said(rest: &str) -> Result<u64, FaultKind>
+fn number_said_by_line(rest: &str) -> Result<u64, FaultKind>
     ensures { result ≡ number_said rest.now }
 {
     read_decimal(rest).map_err(|_| FaultKind::BadValue)
@@ -510,7 +513,7 @@ fn number_said(rest: &str) -> Result<u64, FaultKind>
 
 // The number that EXT-X-VERSION states: `BadVersion` if it is none, `Version` if it isn't one from 1 to 7 (RFC 8216,
 // section 4.3.1.2).
-fn version_of(rest: &str) -> Result<u64, FaultKind>
+fn version_said_by_line(rest: &str) -> Result<u64, FaultKind>
     ensures { result ≡ version_of rest.now }
 {
     let Ok(version) = read_decimal(rest) else {
@@ -523,7 +526,7 @@ fn version_of(rest: &str) -> Result<u64, FaultKind>
 }
 
 // What EXT-X-PLAYLIST-TYPE states: EVENT or VOD (RFC 8216, section 4.3.3.5).
-fn playlist_type_of(rest: &str) -> Result<PlaylistKind, FaultKind>
+fn playlist_type_said_by_line(rest: &str) -> Result<PlaylistKind, FaultKind>
     ensures { result ≡ playlist_type_of rest.now }
 {
     match rest {
@@ -533,7 +536,7 @@ fn playlist_type_of(rest: &str) -> Result<PlaylistKind, FaultKind>
     }
 }
 
-fn some_have_init_sections(segments: SegmentSlice<'_>) -> bool
+fn some_read_have_init_sections(segments: SegmentSlice<'_>) -> bool
     ensures { result ≡ list_any has_init_section segments.entry }
 {
     let mut rest = segments;
@@ -546,7 +549,7 @@ fn some_have_init_sections(segments: SegmentSlice<'_>) -> bool
     false
 }
 
-fn all_have_init_sections(segments: SegmentSlice<'_>) -> bool
+fn all_read_have_init_sections(segments: SegmentSlice<'_>) -> bool
     ensures { result ≡ list_all has_init_section segments.entry }
 {
     let mut rest = segments;
@@ -578,10 +581,11 @@ fn all_taken_have_init_sections(segments: &[Member]) -> bool
 #[tactic(auto, using(crate::proofs::Mixed::any_with_taken, crate::proofs::Mixed::all_with_taken))]
 // Whether some of these segments, with those that were taken over after the first `front`, have an initialisation section, and
 // others have none (RFC 8216, section 4.3.2.5).
-fn are_mixed(front: usize, segments: &SegmentSlice<'_>, taken: &[Member]) -> bool
+fn are_read_init_sections_mixed(front: usize, segments: &SegmentSlice<'_>, taken: &[Member]) -> bool
     ensures { result ≡ are_mixed (with_taken front segments.now taken.now) }
 {
-    let some = some_have_init_sections(segments.again()) || some_taken_have_init_sections(taken);
-    let all = all_have_init_sections(segments.again()) && all_taken_have_init_sections(taken);
+    let some = some_read_have_init_sections(segments.again())
+        || some_taken_have_init_sections(taken);
+    let all = all_read_have_init_sections(segments.again()) && all_taken_have_init_sections(taken);
     some && !all
 }

@@ -14,17 +14,20 @@ ghost use Rattle.playlist_parse.specs.Inner.Source.{Grown};
 ghost use Rattle.playlist_kept.specs.Places.{StandInBoth};
 ghost use Rattle.playlist_kept.specs.Kept.{AnswersRead, AreKeptLines, IsKeptUnderBase, IsTakenFrom, kept_segments, playlist_in};
 
-use crate::line::{Lines, cut_after_segments, has_plain_bytes};
-use crate::reading::{Reading, fault_at, read_all, read_some, reading_of, whole_reading};
-use crate::source::{known_of, lines_of, take_over};
+use crate::line::{Lines, cut_after_segment_lines, has_plain_line_bytes};
+use crate::reading::{
+    Reading, fault_at_line, read_all_lines, read_some_lines, reading_of_lines,
+    whole_playlist_reading,
+};
+use crate::source::{date_ranges_known_of_source, source_lines_of_reading, take_over_source_lines};
 use playlist_kept::{LastPlaylist, Places, Read, read_with_places};
-use playlist_model::{FaultKind, MAX_BYTES, PlaylistFault, text_of};
+use playlist_model::{FaultKind, MAX_BYTES, PlaylistFault, playlist_text_of};
 use std::alloc::Global;
 use uri_resolver::Base;
 
 #[tactic(none)]
 // Reads the lines that are left, some of which may be taken over: at which places the segments of these stand.
-fn read_front<'a>(
+fn read_front_lines<'a>(
     alloc: Global,
     reading: &mut Reading<'a>,
     is_plain: bool,
@@ -42,7 +45,7 @@ fn read_front<'a>(
     ensures taken { IfOk result
         (StandInBoth (kept_segments source.now) reading.new.progress.segments) }
 {
-    match read_some(reading, is_plain, 1) {
+    match read_some_lines(reading, is_plain, 1) {
         Ok(()) => {}
         Err(fault) => return Err(fault),
     }
@@ -50,11 +53,11 @@ fn read_front<'a>(
     if reading.progress.has_fewer_than(1) {
         return Ok(Places::none());
     }
-    let places = match take_over(alloc, reading, base, source) {
+    let places = match take_over_source_lines(alloc, reading, base, source) {
         Ok(places) => places,
-        Err(_) => return Err(fault_at(FaultKind::OutOfMemory, 0)),
+        Err(_) => return Err(fault_at_line(FaultKind::OutOfMemory, 0)),
     };
-    match read_all(reading, is_plain) {
+    match read_all_lines(reading, is_plain) {
         Ok(()) => Ok(places),
         Err(fault) => Err(fault),
     }
@@ -62,7 +65,7 @@ fn read_front<'a>(
 
 #[tactic(none)]
 // The playlist that is read, after the lines of this text, the last ones.
-fn read_tail<'a>(
+fn read_tail_lines<'a>(
     reading: Reading<'a>,
     tail: &'a str,
     is_plain: bool,
@@ -82,8 +85,8 @@ fn read_tail<'a>(
 {
     let mut reading = reading;
     reading.lines = Lines::new(tail);
-    match read_all(&mut reading, is_plain) {
-        Ok(()) => whole_reading(reading),
+    match read_all_lines(&mut reading, is_plain) {
+        Ok(()) => whole_playlist_reading(reading),
         Err(fault) => Err(fault),
     }
 }
@@ -91,7 +94,7 @@ fn read_tail<'a>(
 #[tactic(none)]
 // Reads the lines after the header. `is_plain` says that none of them has a control character, and `keeps` that they
 // are kept for the next text.
-fn read_lines<'a>(
+fn read_lines_after_header<'a>(
     alloc: Global,
     body: &'a str,
     is_plain: bool,
@@ -111,24 +114,24 @@ fn read_lines<'a>(
     ensures taken { IfOk result (IsTakenFrom (kept_segments source.now)) }
     ensures front { IfOk result (λ read. read.front ≤ length read.playlist.segments) }
 {
-    let cut = cut_after_segments(body);
-    let known = known_of(base, source);
-    let mut reading = reading_of(alloc, base, known, Lines::new(cut.front));
-    let places = match read_front(alloc, &mut reading, is_plain, base, source) {
+    let cut = cut_after_segment_lines(body);
+    let known = date_ranges_known_of_source(base, source);
+    let mut reading = reading_of_lines(alloc, base, known, Lines::new(cut.front));
+    let places = match read_front_lines(alloc, &mut reading, is_plain, base, source) {
         Ok(places) => places,
         Err(fault) => return Err(fault),
     };
-    let lines = match lines_of(alloc, cut.front, &reading, keeps) {
+    let lines = match source_lines_of_reading(alloc, cut.front, &reading, keeps) {
         Ok(lines) => lines,
-        Err(_) => return Err(fault_at(FaultKind::OutOfMemory, 0)),
+        Err(_) => return Err(fault_at_line(FaultKind::OutOfMemory, 0)),
     };
-    let read = match read_tail(reading, cut.tail, is_plain) {
+    let read = match read_tail_lines(reading, cut.tail, is_plain) {
         Ok(read) => read,
         Err(fault) => return Err(fault),
     };
     match read_with_places(alloc, read, places, lines) {
         Ok(read) => Ok(read),
-        Err(_) => Err(fault_at(FaultKind::OutOfMemory, 0)),
+        Err(_) => Err(fault_at_line(FaultKind::OutOfMemory, 0)),
     }
 }
 
@@ -172,20 +175,20 @@ pub fn read<'a>(
     ensures taken { IfOk result (IsTakenFrom (kept_segments source.now)) }
     ensures front { IfOk result (λ read. read.front ≤ length read.playlist.segments) }
 {
-    let text = match text_of(bytes) {
+    let text = match playlist_text_of(bytes) {
         Ok(text) => text,
-        Err(kind) => return Err(fault_at(kind, 0)),
+        Err(kind) => return Err(fault_at_line(kind, 0)),
     };
     if text.len() > MAX_BYTES {
-        return Err(fault_at(FaultKind::TooLong, 0));
+        return Err(fault_at_line(FaultKind::TooLong, 0));
     }
     let mut lines = Lines::new(text);
     let Some(first) = lines.next() else {
-        return Err(fault_at(FaultKind::NoHeader, 1));
+        return Err(fault_at_line(FaultKind::NoHeader, 1));
     };
     if first.text != "#EXTM3U" {
-        return Err(fault_at(FaultKind::NoHeader, 1));
+        return Err(fault_at_line(FaultKind::NoHeader, 1));
     }
-    let is_plain = has_plain_bytes(bytes);
-    read_lines(alloc, lines.left(), is_plain, base, source, keeps)
+    let is_plain = has_plain_line_bytes(bytes);
+    read_lines_after_header(alloc, lines.left(), is_plain, base, source, keeps)
 }

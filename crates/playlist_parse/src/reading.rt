@@ -5,7 +5,7 @@ ghost use Rattle.std.specs.List.{list_all};
 ghost use Rattle.playlist_model.specs.Said.{nothing};
 ghost use Rattle.playlist_model.specs.Reading.{said_by, said_from, and_whole, limited};
 ghost use Rattle.playlist_parse.specs.Inner.LineViews.{is_free, line_text};
-ghost use Rattle.playlist_parse.specs.Inner.Answers.{fault_at};
+ghost use Rattle.playlist_parse.specs.Inner.Answers.{fault_at_line};
 ghost use Rattle.playlist_parse.specs.Inner.Progress.{EndsIn};
 ghost use Rattle.playlist_kept.specs.Kept.{AnswersRead};
 ghost use Rattle.playlist_parse.specs.Inner.Reached.{Reached, IsToBeTold, LeadsTo, IsStillTold, Reads, TellsFault, ReadsLine, TellsLine, left_in, reading_at};
@@ -19,8 +19,8 @@ use std::alloc::Global;
 use uri_resolver::Base;
 
 /// The fault `kind` at the line `line`, from 1; out of memory is at none, and has the line 0.
-pub fn fault_at(kind: FaultKind, line: u64) -> PlaylistFault
-    ensures { result ≡ fault_at kind line }
+pub fn fault_at_line(kind: FaultKind, line: u64) -> PlaylistFault
+    ensures { result ≡ fault_at_line kind line }
 {
     let line = if kind == FaultKind::OutOfMemory {
         0
@@ -42,7 +42,7 @@ pub struct Reading<'a> {
 }
 
 /// A reading under `base` of `lines`, which come after a header that was read. The `known` date ranges may come.
-pub fn reading_of<'a>(
+pub fn reading_of_lines<'a>(
     alloc: Global,
     base: &'a Base,
     known: Known<'a>,
@@ -62,7 +62,7 @@ pub fn reading_of<'a>(
 
 // Passes the next of `lines` if it is the EXTINF that repeats itself. `is_plain` says that no line has a control character.
 #[inline(always)]
-fn pass_again<'a>(
+fn pass_line_again<'a>(
     progress: &mut Progress<'a>,
     lines: &mut Lines<'a>,
     number: &mut u64,
@@ -90,7 +90,7 @@ fn pass_again<'a>(
 // Reads `line`, the one of this number before `lines`, and passes the next one if that is the EXTINF that repeats itself.
 // `is_plain` says that none has a control character.
 #[inline(always)]
-fn read_line<'a>(
+fn read_next_line<'a>(
     progress: &mut Progress<'a>,
     lines: &mut Lines<'a>,
     number: &mut u64,
@@ -110,15 +110,15 @@ fn read_line<'a>(
 {
     match progress.line(line, is_plain) {
         Ok(()) => *number += 1,
-        Err(kind) => return Err(fault_at(kind, *number)),
+        Err(kind) => return Err(fault_at_line(kind, *number)),
     }
-    pass_again(progress, lines, number, is_plain);
+    pass_line_again(progress, lines, number, is_plain);
     Ok(())
 }
 
 /// Goes on with `reading` until it has `most` segments, or no line is left. `is_plain` says that no line has a
 /// control character. The fault is the first one, with its line.
-pub fn read_some<'a>(
+pub fn read_some_lines<'a>(
     reading: &mut Reading<'a>,
     is_plain: bool,
     most: usize,
@@ -135,7 +135,7 @@ pub fn read_some<'a>(
         let Some(line) = reading.lines.next() else {
             return Ok(());
         };
-        match read_line(
+        match read_next_line(
             &mut reading.progress,
             &mut reading.lines,
             &mut reading.number,
@@ -152,7 +152,7 @@ pub fn read_some<'a>(
 /// Goes on with `reading` until no line is left. `is_plain` says that none of them has a control character. The fault
 /// is the first one, with its line.
 #[inline(always)]
-pub fn read_all<'a>(reading: &mut Reading<'a>, is_plain: bool) -> Result<(), PlaylistFault>
+pub fn read_all_lines<'a>(reading: &mut Reading<'a>, is_plain: bool) -> Result<(), PlaylistFault>
     requires few { reading.old.number + length reading.old.lines < 2 ^ 64 }
     requires plain { is_plain ≡ true → list_all is_free (left_in reading.old) ≡ true }
     ensures reached { (base : Parts) → Reads base reading.old result reading.new }
@@ -164,7 +164,7 @@ pub fn read_all<'a>(reading: &mut Reading<'a>, is_plain: bool) -> Result<(), Pla
     let mut lines = Lines::at(start, rest);
     let mut number = reading.number;
     'lines: while let Some(line) = lines.next() {
-        match read_line(
+        match read_next_line(
             &mut reading.progress,
             &mut lines,
             &mut number,
@@ -182,7 +182,7 @@ pub fn read_all<'a>(reading: &mut Reading<'a>, is_plain: bool) -> Result<(), Pla
 
 /// The playlist of `reading`, whose lines are all read, or a fault of the whole text (RFC 8216, sections 4.3.2.5 and
 /// 4.3.3.1), at the line 0.
-pub fn whole_reading(reading: Reading<'_>) -> Result<Read<'_>, PlaylistFault>
+pub fn whole_playlist_reading(reading: Reading<'_>) -> Result<Read<'_>, PlaylistFault>
     ensures answer { (base : Parts) (all : List (List ℕ))
         → Reached base reading.entry.progress reading.entry.number [] all
         → AnswersRead result (and_whole (said_from (said_by limited base) (nothing ∷ []) all)) }
@@ -191,6 +191,6 @@ pub fn whole_reading(reading: Reading<'_>) -> Result<Read<'_>, PlaylistFault>
 {
     match reading.progress.read() {
         Ok(read) => Ok(read),
-        Err(kind) => Err(fault_at(kind, 0)),
+        Err(kind) => Err(fault_at_line(kind, 0)),
     }
 }

@@ -12,7 +12,7 @@ ghost use Rattle.playlist_kept.specs.Kept.{IsKeptUnderBase, kept_segments};
 use crate::date_ranges::Known;
 use crate::line::Lines;
 use crate::progress::Progress;
-use crate::reading::{Reading, read_some, reading_of};
+use crate::reading::{Reading, read_some_lines, reading_of_lines};
 use playlist_kept::{KeptLines, LastPlaylist, Places};
 use playlist_model::Text;
 use std::alloc::{AllocError, Global};
@@ -20,7 +20,7 @@ use uri_resolver::Base;
 
 #[tactic(auto, using(crate::proofs::GoingTo::dropped_all))]
 // The values from a place on.
-fn values_from<T>(list: &[T], place: usize) -> &[T]
+fn values_from_read_place<T>(list: &[T], place: usize) -> &[T]
     ensures { result.now ≡ drop place list.now }
 {
     match list.get(place..) {
@@ -31,7 +31,7 @@ fn values_from<T>(list: &[T], place: usize) -> &[T]
 
 #[tactic(auto, using(crate::proofs::GoingTo::taken_all))]
 /// The first values of `list`, up to `place`, from 0; all if it has no more.
-pub(crate) fn up_to<T>(list: &[T], place: usize) -> &[T]
+pub(crate) fn values_up_to_read_place<T>(list: &[T], place: usize) -> &[T]
     ensures { result.now ≡ take place list.now }
 {
     match list.get(..place) {
@@ -41,18 +41,18 @@ pub(crate) fn up_to<T>(list: &[T], place: usize) -> &[T]
 }
 
 // The date ranges that a source has.
-fn known_in<'a>(base: &Base, source: &'a LastPlaylist) -> Known<'a>
+fn date_ranges_known_in_source<'a>(base: &Base, source: &'a LastPlaylist) -> Known<'a>
     requires { LinesWereRead base.now source.now.lines source.now.segments.items source.now.date_ranges }
 {
-    Known::of(up_to(source.date_ranges.as_slice(), source.lines.date_ranges))
+    Known::of(values_up_to_read_place(source.date_ranges.as_slice(), source.lines.date_ranges))
 }
 
 /// The date ranges that are kept in `source` of what was read under `base`.
-pub fn known_of<'a>(base: &Base, source: &'a Option<LastPlaylist>) -> Known<'a>
+pub fn date_ranges_known_of_source<'a>(base: &Base, source: &'a Option<LastPlaylist>) -> Known<'a>
     requires { IsKeptUnderBase base.now source.now }
 {
     match source {
-        Some(source) => known_in(base, source),
+        Some(source) => date_ranges_known_in_source(base, source),
         None => Known::none(),
     }
 }
@@ -62,8 +62,8 @@ pub fn known_of<'a>(base: &Base, source: &'a Option<LastPlaylist>) -> Known<'a>
 const SMALL_PART: usize = 8;
 
 // How many segments of the last playlist stand up to the first one that is read here, by its number; none if little is left to
-// read. It has no contract: `agrees` decides, whatever it answers.
-fn place_in(source: &LastPlaylist, reading: &Reading<'_>) -> Option<usize> {
+// read. It has no contract: `reading_progress_agrees` decides, whatever it answers.
+fn place_of_reading_in_source(source: &LastPlaylist, reading: &Reading<'_>) -> Option<usize> {
     let (here, left) = reading.lines.stand();
     let kept = source.lines.text.as_str().len().saturating_sub(here);
     if left.len() < kept / SMALL_PART {
@@ -76,7 +76,7 @@ fn place_in(source: &LastPlaylist, reading: &Reading<'_>) -> Option<usize> {
 }
 
 // The number of the next line here, as many lines on as there are from `there` to `end`.
-fn number_after(here: u64, there: u64, end: u64) -> Option<u64>
+fn line_number_after(here: u64, there: u64, end: u64) -> Option<u64>
     ensures { MatchOption result (Unit {0}) (λ number. number + there ≡ here + end) }
 {
     let lines = end.checked_sub(there)?;
@@ -84,7 +84,7 @@ fn number_after(here: u64, there: u64, end: u64) -> Option<u64>
 }
 
 // The lines of a source, read up to the segment that `reading` read first; none if the source doesn't have it.
-fn read_source_front<'a>(
+fn read_front_of_source_lines<'a>(
     alloc: Global,
     reading: &Reading<'_>,
     base: &'a Base,
@@ -94,10 +94,15 @@ fn read_source_front<'a>(
     ensures { MatchOption result (Unit {0}) (λ front.
         Reached base.now front.progress front.number (left_in front) (lines source.now.lines.text)) }
 {
-    let most = place_in(source, reading)?;
+    let most = place_of_reading_in_source(source, reading)?;
     let lines = Lines::new(source.lines.text.as_str());
-    let mut front = reading_of(alloc, base, known_in(base, source), lines);
-    match read_some(&mut front, false, most) {
+    let mut front = reading_of_lines(
+        alloc,
+        base,
+        date_ranges_known_in_source(base, source),
+        lines,
+    );
+    match read_some_lines(&mut front, false, most) {
         Ok(()) => Some(front),
         Err(_) => None,
     }
@@ -106,7 +111,7 @@ fn read_source_front<'a>(
 // Whether what is read here goes on as what is read there: after the same segment, under the same heading, and after no more
 // segments.
 #[tactic(none)]
-fn agrees(here: &Progress<'_>, there: &Progress<'_>) -> Result<bool, AllocError>
+fn reading_progress_agrees(here: &Progress<'_>, there: &Progress<'_>) -> Result<bool, AllocError>
     ensures { IfOk result (λ agrees. agrees ≡ true → GoOnAlike here.now there.now) }
 {
     if !here.has_no_more_than(there) {
@@ -127,7 +132,7 @@ fn agrees(here: &Progress<'_>, there: &Progress<'_>) -> Result<bool, AllocError>
 
 // Takes over what a source has after what is read there, of which the segments come from the place `from` on. False if
 // that can't be told; then all is as it was.
-fn go_after<'a>(
+fn go_on_after_source_lines<'a>(
     here: &mut Progress<'a>,
     there: &Progress<'_>,
     source: &'a LastPlaylist,
@@ -138,10 +143,13 @@ fn go_after<'a>(
         (λ done. done ≡ true → here.new ≡ gone_after here.old there.now source.now) }
     ensures kept { IfOk result (λ done. done ≡ false → here.new ≡ here.old) }
 {
-    let date_ranges = up_to(source.date_ranges.as_slice(), source.lines.date_ranges);
-    let segments = up_to(source.segments.as_slice(), source.lines.segments);
-    let new_ranges = values_from(date_ranges, there.date_range_count());
-    let new_segments = values_from(segments, from);
+    let date_ranges = values_up_to_read_place(
+        source.date_ranges.as_slice(),
+        source.lines.date_ranges,
+    );
+    let segments = values_up_to_read_place(source.segments.as_slice(), source.lines.segments);
+    let new_ranges = values_from_read_place(date_ranges, there.date_range_count());
+    let new_segments = values_from_read_place(segments, from);
     here.go_to(
         &source.lines.heading,
         &source.lines.stop,
@@ -153,7 +161,7 @@ fn go_after<'a>(
 #[tactic(none)]
 // Takes over the lines of `source` that come after `front`, if the lines that are left begin with them: at which places
 // their segments stand.
-fn take_over_after<'a>(
+fn take_over_source_lines_after<'a>(
     reading: &mut Reading<'a>,
     front: &Reading<'_>,
     source: &'a LastPlaylist,
@@ -165,13 +173,13 @@ fn take_over_after<'a>(
     ensures taken { IfOk result
         (StandInBoth source.now.segments.items reading.new.progress.segments) }
 {
-    if !agrees(&reading.progress, &front.progress)? {
+    if !reading_progress_agrees(&reading.progress, &front.progress)? {
         return Ok(Places::none());
     }
     let Some(later) = reading.lines.after(front.lines.left()) else {
         return Ok(Places::none());
     };
-    let Some(next) = number_after(reading.number, front.number, source.lines.next) else {
+    let Some(next) = line_number_after(reading.number, front.number, source.lines.next) else {
         return Ok(Places::none());
     };
     let (Some(start), Some(from)) = (
@@ -180,7 +188,7 @@ fn take_over_after<'a>(
     ) else {
         return Ok(Places::none());
     };
-    if !go_after(&mut reading.progress, &front.progress, source, from)? {
+    if !go_on_after_source_lines(&mut reading.progress, &front.progress, source, from)? {
         return Ok(Places::none());
     }
     reading.lines = later;
@@ -199,7 +207,7 @@ fn take_over_after<'a>(
 #[tactic(none)]
 /// Takes over the lines of `source` after the segment that `reading` read last under `base`, if the lines that are left
 /// begin with them: at which places their segments stand. Fails only if an allocation fails.
-pub fn take_over<'a>(
+pub fn take_over_source_lines<'a>(
     alloc: Global,
     reading: &mut Reading<'a>,
     base: &Base,
@@ -215,15 +223,15 @@ pub fn take_over<'a>(
     let Some(source) = source else {
         return Ok(Places::none());
     };
-    match read_source_front(alloc, reading, base, source) {
-        Some(front) => take_over_after(reading, &front, source),
+    match read_front_of_source_lines(alloc, reading, base, source) {
+        Some(front) => take_over_source_lines_after(reading, &front, source),
         None => Ok(Places::none()),
     }
 }
 
 /// What is kept of `text`, all of whose lines `reading` has read; none if it has no segment, or tags of a further one at
 /// its end, or if `keeps` is false. Fails only if an allocation fails.
-pub fn lines_of(
+pub fn source_lines_of_reading(
     alloc: Global,
     text: &str,
     reading: &Reading<'_>,

@@ -43,7 +43,7 @@ pub enum Tag {
 }
 
 // A flag takes no colon: with one it is an unknown tag.
-fn flag(tag: Tag, colon: bool) -> Tag
+fn flag_tag_of_line(tag: Tag, colon: bool) -> Tag
     ensures { result ≡ (if colon then Tag.Unknown else tag) }
 {
     if colon { Tag::Unknown } else { tag }
@@ -51,13 +51,13 @@ fn flag(tag: Tag, colon: bool) -> Tag
 
 /// The tag called `name` (RFC 8216, section 4.3), after which a `colon` comes or not. A name that isn't known is
 /// passed over (section 6.3.1), and one of a master playlist is refused (section 4.3.4).
-pub fn tag_of(name: &str, colon: bool) -> Tag
+pub fn tag_of_line_name(name: &str, colon: bool) -> Tag
     ensures { tag_view result ≡ name_of name.now colon }
 {
     match name {
         "EXTINF" => Tag::Inf,
         "EXT-X-BYTERANGE" => Tag::ByteRange,
-        "EXT-X-DISCONTINUITY" => flag(Tag::Discontinuity, colon),
+        "EXT-X-DISCONTINUITY" => flag_tag_of_line(Tag::Discontinuity, colon),
         "EXT-X-KEY" => Tag::Key,
         "EXT-X-MAP" => Tag::InitSection,
         "EXT-X-PROGRAM-DATE-TIME" => Tag::ProgramDateTime,
@@ -67,9 +67,9 @@ pub fn tag_of(name: &str, colon: bool) -> Tag
         "EXT-X-MEDIA-SEQUENCE" => Tag::MediaSequence,
         "EXT-X-DISCONTINUITY-SEQUENCE" => Tag::DiscontinuitySequence,
         "EXT-X-PLAYLIST-TYPE" => Tag::PlaylistType,
-        "EXT-X-ENDLIST" => flag(Tag::EndList, colon),
-        "EXT-X-INDEPENDENT-SEGMENTS" => flag(Tag::IndependentSegments, colon),
-        "EXT-X-I-FRAMES-ONLY" => flag(Tag::IFramesOnly, colon),
+        "EXT-X-ENDLIST" => flag_tag_of_line(Tag::EndList, colon),
+        "EXT-X-INDEPENDENT-SEGMENTS" => flag_tag_of_line(Tag::IndependentSegments, colon),
+        "EXT-X-I-FRAMES-ONLY" => flag_tag_of_line(Tag::IFramesOnly, colon),
         "EXT-X-MEDIA" => Tag::Master,
         "EXT-X-STREAM-INF" => Tag::Master,
         "EXT-X-I-FRAME-STREAM-INF" => Tag::Master,

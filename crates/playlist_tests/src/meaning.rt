@@ -1,7 +1,7 @@
 //! Calls that the program shows nothing of. Bases, references, times and characters are tried on the built program
 //! (`tests/run_playlists`).
 use crate::made::key;
-use channel_window::text_in;
+use channel_window::mark_text_in_window;
 use playlist_model::{
     Instant, Items, Key, KeyRef, Keys, KeysRef, Shared, Text, is_iv_needed, read_instant,
 };
@@ -51,7 +51,7 @@ fn are_equal_texts(alloc: Global, words: &str, others: &str) -> Result<bool, All
 fn is_shared(alloc: Global, words: &str, others: &str) -> Result<bool, AllocError> {
     let shared = Shared::copy_of(alloc, words)?.clone()?;
     let other = Shared::new(alloc, Text::copy_of(alloc, others)?)?;
-    Ok(shared == other && text_in(&Some(shared)) == Some(words))
+    Ok(shared == other && mark_text_in_window(&Some(shared)) == Some(words))
 }
 
 // Whether a list of these bytes, and a copy of it, are equal and hold them.
@@ -67,7 +67,7 @@ fn owned_values(rt: HostRuntime) {
     assert!(rt; matches!(are_equal_texts(rt.alloc(), "s0.ts", "s1.ts"), Ok(false)));
     assert!(rt; matches!(is_shared(rt.alloc(), "s0.ts", "s0.ts"), Ok(true)));
     assert!(rt; matches!(is_shared(rt.alloc(), "s0.ts", "s1.ts"), Ok(false)));
-    assert!(rt; text_in(&None).is_none());
+    assert!(rt; mark_text_in_window(&None).is_none());
     assert!(rt; matches!(is_copied_list(rt.alloc(), &[1, 2, 3]), Ok(true)));
 }
 

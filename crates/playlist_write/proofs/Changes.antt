@@ -8,8 +8,8 @@ use Rattle.playlist_model.specs.declared.InitSection.{InitSection}
 use Rattle.playlist_model.specs.LookBack.{or_earlier}
 use Rattle.playlist_model.specs.Said.{discontinuity}
 use Rattle.stitcher.specs.declared.OutSegment.{OutSegment}
-use Rattle.playlist_write.specs.Owed.{Current, after_segment, changed_init_section, init_section_owed, keys_then, keys_owed, said_text}
-use Rattle.playlist_write.specs.Inner.Changes.{changes_nothing, changes_owed}
+use Rattle.playlist_write.specs.Owed.{Current, after_segment, changed_written_init_section, init_section_owed, written_keys_then, keys_owed, said_text}
+use Rattle.playlist_write.specs.Inner.Changes.{written_segment_changes_nothing, changes_owed}
 
 no_step : (steps : ℕ) → (steps == 0) ≡ true → steps ≡ 0
 no_step steps h = grind (arith, nat_tests)
@@ -23,14 +23,14 @@ no_section None h = refl
 no_section (Some section) h = absurd (cc)
 
 none_owed : (current : Option InitSection) (keys new : List Key) (steps : ℕ) (section : Option InitSection) → keys ≡ [] → new ≡ [] → steps ≡ 0 → section ≡ None
-    → replicate steps discontinuity ++ (init_section_owed keys (changed_init_section current section) ++ keys_owed (keys_then keys (changed_init_section current section)) new) ≡ []
+    → replicate steps discontinuity ++ (init_section_owed keys (changed_written_init_section current section) ++ keys_owed (written_keys_then keys (changed_written_init_section current section)) new) ≡ []
 none_owed current keys new steps section k n s i = rw (k, n, s, i) refl
 
-pub nothing_owed : (current : Current) (next : OutSegment) → changes_nothing current.keys next ≡ true → [] ≡ said_text (changes_owed current next)
+pub nothing_owed : (current : Current) (next : OutSegment) → written_segment_changes_nothing current.keys next ≡ true → [] ≡ said_text (changes_owed current next)
 nothing_owed current next h = grind (arith, and_parts, none_owed, no_key, no_step, no_section)
 
 -- what is in force stays after a segment that changes nothing
-pub nothing_after : (current : Current) (next : OutSegment) → changes_nothing current.keys next ≡ true → current ≡ after_segment current next
+pub nothing_after : (current : Current) (next : OutSegment) → written_segment_changes_nothing current.keys next ≡ true → current ≡ after_segment current next
 nothing_after current next h =
     let a = and_parts _ _ (and_parts _ _ h).1 in
     let k = and_parts _ _ a.1 in

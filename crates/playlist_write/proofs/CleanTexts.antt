@@ -12,7 +12,7 @@ use Rattle.std.proofs.lemmas.List.Folds.{list_any-append}
 use Rattle.std.proofs.lemmas.Str.{IsUtf8-append, IsUtf8-from_ascii, chars-append, encodes-chars, NoCharPasses-byte, IsUtf8-nil}
 use Rattle.std.proofs.lemmas.Str.Ascii.{IsAscii-nil, IsAscii-cons}
 use Rattle.playlist_model.specs.Lines.{has_control}
-use Rattle.playlist_model.specs.Inner.Lines.{is_printable}
+use Rattle.playlist_model.specs.Inner.Lines.{is_printable_playlist_byte}
 use Rattle.playlist_model.proofs.Printable.{ascii, printable_has_no_control}
 
 pub record Clean (bytes : List ℕ) : Type 0 where
@@ -22,7 +22,7 @@ pub record Clean (bytes : List ℕ) : Type 0 where
 pub clean-append : (xs ys : List ℕ) → Clean xs → Clean ys → Clean (xs ++ ys)
 clean-append xs ys a b = grind (arith, IsUtf8-append, chars-append, list_any-append, or_from)
 
-pub clean_printable : (bs : List ℕ) → list_all is_printable bs ≡ true → Clean bs
+pub clean_printable : (bs : List ℕ) → list_all is_printable_playlist_byte bs ≡ true → Clean bs
 clean_printable bs h = grind (arith, IsUtf8-from_ascii, ascii, printable_has_no_control)
 
 -- ---- lines

@@ -11,10 +11,10 @@ use Rattle.playlist_model.specs.declared.FaultKind.TheVariants as fault
 use Rattle.playlist_model.specs.declared.DateRange.{DateRange}
 use Rattle.date_times.specs.Instant.{instant_of}
 use Rattle.spec_words.specs.Outcomes.{mended, or_fault, optional, some_value, ◌>>=◌}
-use Rattle.playlist_model.specs.Said.{required, value_if, time_of, length_of, Said, Reader, date_range, Outcome, date_range_of, date_range_said}
+use Rattle.playlist_model.specs.Said.{required, value_if, time_of, attribute_duration_of, Said, Reader, date_range, Outcome, date_range_of, date_range_said}
 use Rattle.playlist_model.specs.Reading.{limited, unlimited}
 use Rattle.writable.specs.Fitting.{if_some, says_date_range, date_range_fits}
-use Rattle.playlist_write.specs.Inner.DateRangeParts.{is_quoted_id, says_time, says_duration, is_date_range}
+use Rattle.playlist_write.specs.Inner.DateRangeParts.{is_quoted_id, written_attribute_says_time, written_attribute_says_duration, is_written_date_range}
 
 -- a reader of at most 64 attributes
 abbrev pub few : Reader
@@ -36,7 +36,7 @@ pairs_kept : (text : List ℕ) (pairs : List Pair) → Keeps text (date_range_of
 pairs_kept text pairs =
     keeps_bind {A = List ℕ} text (required true (attribute pairs (codes "ID"))) _ (λ id.
     keeps_bind {A = Option ℤ} text (optional time_of (attribute pairs (codes "START-DATE"))) _ (λ start. keeps_bind {A = Option ℤ} text (optional time_of (attribute pairs (codes "END-DATE"))) _ (λ end.
-    keeps_bind {A = Option ℕ} text (optional length_of (attribute pairs (codes "DURATION"))) _ (λ duration. keeps_bind {A = Option ℕ} text (optional length_of (attribute pairs (codes "PLANNED-DURATION"))) _ (λ planned.
+    keeps_bind {A = Option ℕ} text (optional attribute_duration_of (attribute pairs (codes "DURATION"))) _ (λ duration. keeps_bind {A = Option ℕ} text (optional attribute_duration_of (attribute pairs (codes "PLANNED-DURATION"))) _ (λ planned.
     keeps_ok _)))))
 
 text_kept : (text : List ℕ) → Keeps text (date_range_said unlimited text)
@@ -88,7 +88,7 @@ some_time : (o : Option ℤ) → is_ok (some_value (or_fault fault.BadTime o)) �
 some_time None = refl
 some_time (Some t) = refl
 
-time_is : (o : Option Pair) → is_ok (optional time_of o) ≡ if_some says_time o
+time_is : (o : Option Pair) → is_ok (optional time_of o) ≡ if_some written_attribute_says_time o
 time_is None = refl
 time_is (Some pair) = some_time (instant_of pair.value)
 
@@ -96,26 +96,26 @@ some_duration : {E : Type 0} (r : Result ℕ E) → is_ok (some_value (mended fa
 some_duration (Ok n) = refl
 some_duration (Err e) = refl
 
-duration_is : (o : Option Pair) → is_ok (optional length_of o) ≡ if_some says_duration o
+duration_is : (o : Option Pair) → is_ok (optional attribute_duration_of o) ≡ if_some written_attribute_says_duration o
 duration_is None = refl
 duration_is (Some pair) = some_duration (duration_of pair.value)
 
-pairs_are : (text : List ℕ) (pairs : List Pair) → says_date_range (date_range_of text pairs) ≡ is_date_range pairs
+pairs_are : (text : List ℕ) (pairs : List Pair) → says_date_range (date_range_of text pairs) ≡ is_written_date_range pairs
 pairs_are text pairs =
     let a = attribute pairs (codes "ID") in let b = attribute pairs (codes "START-DATE") in let c = attribute pairs (codes "END-DATE") in
     let d = attribute pairs (codes "DURATION") in let e = attribute pairs (codes "PLANNED-DURATION") in
     binds {A = List ℕ} (required true a) _ (is_quoted_id a) _ (id_is a) (λ id.
-    binds {A = Option ℤ} (optional time_of b) _ (if_some says_time b) _ (time_is b) (λ start.
-    binds {A = Option ℤ} (optional time_of c) _ (if_some says_time c) _ (time_is c) (λ end.
-    binds {A = Option ℕ} (optional length_of d) _ (if_some says_duration d) _ (duration_is d) (λ duration.
-    last (optional length_of e) _ (if_some says_duration e) (duration_is e) (λ planned. refl)))))
+    binds {A = Option ℤ} (optional time_of b) _ (if_some written_attribute_says_time b) _ (time_is b) (λ start.
+    binds {A = Option ℤ} (optional time_of c) _ (if_some written_attribute_says_time c) _ (time_is c) (λ end.
+    binds {A = Option ℕ} (optional attribute_duration_of d) _ (if_some written_attribute_says_duration d) _ (duration_is d) (λ duration.
+    last (optional attribute_duration_of e) _ (if_some written_attribute_says_duration e) (duration_is e) (λ planned. refl)))))
   where
     last : (o : Outcome (Option ℕ)) (f : Option ℕ → Outcome Said) (b : Bool) → is_ok o ≡ b → ((x : Option ℕ) → says_date_range (f x) ≡ true) → says_date_range (o >>= f) ≡ b
     last (Ok x) f b e h = h x ∙ e
     last (Err d) f b e h = e
 
 -- the attributes that are read say a date range if each is as it has to be
-pub attributes_say : (text : List ℕ) (pairs : List Pair) → attributes_of (Some 64) text ≡ Ok pairs → is_date_range pairs ≡ says_date_range (date_range_said few text)
+pub attributes_say : (text : List ℕ) (pairs : List Pair) → attributes_of (Some 64) text ≡ Ok pairs → is_written_date_range pairs ≡ says_date_range (date_range_said few text)
 attributes_say text pairs h = grind (arith, pairs_are)
 
 -- there is an answer if there is a value

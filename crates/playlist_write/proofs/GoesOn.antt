@@ -7,7 +7,7 @@ use Rattle.stitcher.specs.declared.OutSegment.{OutSegment}
 use Rattle.playlist_write.specs.declared.OutPlaylist.{OutPlaylist}
 use Rattle.playlist_write.specs.declared.resumed.WrittenText.{WrittenText}
 use Rattle.playlist_write.specs.Owed.{Current, none_yet, after_segment, segment_owed, segments_owed, said_text, header_owed, ended_owed, with_feed, date_ranges_text, playlist_text}
-use Rattle.playlist_write.specs.Laid.{after_segments, states_all, current_of, IsLaid, IsFrontLength}
+use Rattle.playlist_write.specs.Laid.{after_segments, first_written_segment_states_all, current_of, IsLaid, IsFrontLength}
 use Rattle.playlist_write.specs.Inner.Laid.{front_text}
 use Rattle.std.specs.Prelude.{codes}
 
@@ -68,7 +68,7 @@ goes_by gone x rest k h =
       end = ap (after_segments n) (sym whole) ∙ (after_joined n front back ∙ ap (λ s. after_segments s back) (sym here));
     }
 
-pub goes_on : (gone all fresh : List OutSegment) (again : ℕ) → 1 ≤ again → states_all (after_segments none_yet gone) all ≡ true → drop again all ≡ fresh → GoesOn gone all again fresh
+pub goes_on : (gone all fresh : List OutSegment) (again : ℕ) → 1 ≤ again → first_written_segment_states_all (after_segments none_yet gone) all ≡ true → drop again all ≡ fresh → GoesOn gone all again fresh
 goes_on gone all fresh again l h f = grind (arith, goes_by)
 
 -- ---- the text
@@ -122,7 +122,7 @@ pub joins : (p : OutPlaylist) (last : WrittenText) (before fresh : List OutSegme
     → IsFrontLength before gone len → kept ≡ drop (last.from + len) (take last.till last.text) → Joins p last kept fresh
 joins p last before fresh gone again len kept some laid on f front k =
     let first = take gone before in
-    let states : states_all (after_segments none_yet first) p.segments ≡ true = ap (states_all (after_segments none_yet first)) (sym on) ∙ front.states in
+    let states : first_written_segment_states_all (after_segments none_yet first) p.segments ≡ true = ap (first_written_segment_states_all (after_segments none_yet first)) (sym on) ∙ front.states in
     let n : len ≡ length (lines none_yet first ++ lines (after_segments none_yet first) (take 1 p.segments)) = front.is ∙ ap (λ xs. length (lines none_yet first ++ lines (after_segments none_yet first) (take 1 xs))) on in
     let g = goes_on first p.segments fresh again some states f in
     let stood : take (gone + again) before ≡ first ++ take again p.segments = take_plus gone again before ∙ ap (λ xs. first ++ take again xs) on in

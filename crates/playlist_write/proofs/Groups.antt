@@ -11,7 +11,7 @@ use Rattle.playlist_model.specs.Segments.{Segment}
 use Rattle.playlist_model.specs.Said.{Said, discontinuity, key, key_tag_said, duration, media}
 use Rattle.playlist_model.specs.EffectiveKeys.{effective_key}
 use Rattle.playlist_model.specs.LookBack.{or_earlier, put_key, Extent, Standing, extent_with}
-use Rattle.playlist_model.specs.Reading.{passes, needs_iv}
+use Rattle.playlist_model.specs.Reading.{passes, key_needs_iv}
 use Rattle.date_times.specs.Instant.{in_range}
 use Rattle.playlist_model.proofs.ListTests.{all_filter}
 use Rattle.playlist_model.specs.declared.KeyTag.{KeyTag}
@@ -21,9 +21,9 @@ use Rattle.playlist_model.specs.Same.{same_init_section, same_option}
 use Rattle.stitcher.specs.KeyTags.{is_new_key, after_tags}
 use Rattle.playlist_model.proofs.SameParts.{init_section_is}
 use Rattle.stitcher.proofs.TagLaws.{transition_leads}
-use Rattle.playlist_write.specs.Owed.{Current, keys_owed, changed_init_section, init_section_owed, keys_then, time_owed, byte_range_owed, segment_owed, after_segment, segments_owed}
-use Rattle.writable.specs.Fitting.{is_clean, uri_fits, quoted_uri_fits, byte_range_fits, if_some, key_fits, keys_fit, states_iv, init_section_fits}
-use Rattle.playlist_write.specs.WellFormed.{segment_fits}
+use Rattle.playlist_write.specs.Owed.{Current, keys_owed, changed_written_init_section, init_section_owed, written_keys_then, time_owed, byte_range_owed, segment_owed, after_segment, segments_owed}
+use Rattle.writable.specs.Fitting.{is_clean, uri_fits, quoted_uri_fits, byte_range_fits, if_some, key_is_writable, keys_are_writable, writable_key_states_iv, init_section_fits}
+use Rattle.playlist_write.specs.WellFormed.{well_formed_segment_fits}
 use Rattle.playlist_write.specs.Denoted.{denoted_segment}
 use Rattle.playlist_write.proofs.Machine.{Known, step, run, Allowed, number_known, discontinuity_known}
 
@@ -71,14 +71,14 @@ run_tags [] k = refl
 run_tags (End ∷ tags) k = run_tags tags (with_keys k [])
 run_tags (Set j ∷ tags) k = run_tags tags (with_keys k (put_key j k.standing.keys))
 
-sets_allowed : (keys : List Key) (k : Known) → list_all key_fits keys ≡ true → Allowed k (map key_tag_said (map Set keys))
+sets_allowed : (keys : List Key) (k : Known) → list_all key_is_writable keys ≡ true → Allowed k (map key_tag_said (map Set keys))
 sets_allowed [] k h = tt
 sets_allowed (j ∷ keys) k h = let a = and_parts _ _ h in (a.0, tt, sets_allowed keys (step k (key j)) a.1)
 
-tags_allowed : (b : Bool) (old new : List Key) (k : Known) → list_all key_fits new ≡ true → Allowed k (map key_tag_said (cond b (map Set (filter (is_new_key old) new)) (End ∷ map Set new)))
+tags_allowed : (b : Bool) (old new : List Key) (k : Known) → list_all key_is_writable new ≡ true → Allowed k (map key_tag_said (cond b (map Set (filter (is_new_key old) new)) (End ∷ map Set new)))
 tags_allowed b old new k h = grind (arith, sets_allowed, all_filter, step)
 
-goes_keys : (old new : List Key) (k : Known) → k.standing.keys ≡ old → keys_fit old ≡ true → keys_fit new ≡ true → Goes k (keys_owed old new) (with_keys k new)
+goes_keys : (old new : List Key) (k : Known) → k.standing.keys ≡ old → keys_are_writable old ≡ true → keys_are_writable new ≡ true → Goes k (keys_owed old new) (with_keys k new)
 goes_keys old new k e h g = grind (arith, and_parts, tags_allowed, run_tags, transition_leads)
 
 -- ---- the section
@@ -92,8 +92,8 @@ with_both k ks s e g = ap (with_keys k) e ∙ ap (with_init_section k ks) g
 record InitSectionParts (s : InitSection) : Type 0 where
   uri : quoted_uri_fits s.uri ≡ true
   byte_range : if_some byte_range_fits s.byte_range ≡ true
-  keys : keys_fit s.keys ≡ true
-  ivs : list_any needs_iv s.keys ≡ false
+  keys : keys_are_writable s.keys ≡ true
+  ivs : list_any key_needs_iv s.keys ≡ false
 
 init_section_parts : (s : InitSection) → init_section_fits s ≡ true → InitSectionParts s
 init_section_parts s h = grind arith
@@ -102,19 +102,19 @@ init_section_parts s h = grind arith
 abbrev written : Bool → InitSection → Option InitSection
 written same new = cond same None (Some new)
 
-init_section_step : (same : Bool) (cur : Current) (new : InitSection) (k : Known) → same_option same_init_section (Some new) cur.init_section ≡ same → k.standing.keys ≡ cur.keys → k.standing.init_section ≡ cur.init_section → keys_fit cur.keys ≡ true → init_section_fits new ≡ true
-    → Goes k (init_section_owed cur.keys (written same new)) (with_init_section k (keys_then cur.keys (written same new)) (Some new))
+init_section_step : (same : Bool) (cur : Current) (new : InitSection) (k : Known) → same_option same_init_section (Some new) cur.init_section ≡ same → k.standing.keys ≡ cur.keys → k.standing.init_section ≡ cur.init_section → keys_are_writable cur.keys ≡ true → init_section_fits new ≡ true
+    → Goes k (init_section_owed cur.keys (written same new)) (with_init_section k (written_keys_then cur.keys (written same new)) (Some new))
 init_section_step true cur new k e ke se h f = record { allowed = tt; leads = with_both k cur.keys (Some new) ke (se ∙ init_section_is new cur.init_section e) }
 init_section_step false cur new k e ke se h f =
     let p = init_section_parts new f in
     goes-append _ _ k (with_keys k new.keys) _ (goes_keys cur.keys new.keys k ke h p.keys) (record { allowed = ((p.uri, p.byte_range), p.ivs, tt); leads = refl })
 
-goes_init_section : (cur : Current) (sec : Option InitSection) (k : Known) → k.standing.keys ≡ cur.keys → k.standing.init_section ≡ cur.init_section → keys_fit cur.keys ≡ true → if_some init_section_fits sec ≡ true
-    → Goes k (init_section_owed cur.keys (changed_init_section cur.init_section sec)) (with_init_section k (keys_then cur.keys (changed_init_section cur.init_section sec)) (or_earlier sec cur.init_section))
+goes_init_section : (cur : Current) (sec : Option InitSection) (k : Known) → k.standing.keys ≡ cur.keys → k.standing.init_section ≡ cur.init_section → keys_are_writable cur.keys ≡ true → if_some init_section_fits sec ≡ true
+    → Goes k (init_section_owed cur.keys (changed_written_init_section cur.init_section sec)) (with_init_section k (written_keys_then cur.keys (changed_written_init_section cur.init_section sec)) (or_earlier sec cur.init_section))
 goes_init_section cur None k ke se h f = grind arith
 goes_init_section cur (Some new) k ke se h f = init_section_step _ cur new k refl ke se h f
 
-then_fit : (cur : Current) (sec : Option InitSection) → keys_fit cur.keys ≡ true → if_some init_section_fits sec ≡ true → keys_fit (keys_then cur.keys (changed_init_section cur.init_section sec)) ≡ true
+then_fit : (cur : Current) (sec : Option InitSection) → keys_are_writable cur.keys ≡ true → if_some init_section_fits sec ≡ true → keys_are_writable (written_keys_then cur.keys (changed_written_init_section cur.init_section sec)) ≡ true
 then_fit cur sec h f = grind arith
 
 -- ---- the rest of a segment's lines
@@ -196,10 +196,10 @@ ready h cur n d extent segments = record h {
   segments = segments;
 }
 
-effective_step : (n : ℕ) (k : Key) → states_iv k ≡ true → effective_key n k ≡ k
+effective_step : (n : ℕ) (k : Key) → writable_key_states_iv k ≡ true → effective_key n k ≡ k
 effective_step n k h = cond-false _ _ _ (not-true _ h)
 
-effective : (n : ℕ) (keys : List Key) → list_all states_iv keys ≡ true → map (effective_key n) keys ≡ keys
+effective : (n : ℕ) (keys : List Key) → list_all writable_key_states_iv keys ≡ true → map (effective_key n) keys ≡ keys
 effective n [] h = refl
 effective n (k ∷ keys) h = let a = and_parts _ _ h in let e = effective_step n k a.0 in let t = effective n keys a.1 in cc
 
@@ -211,31 +211,31 @@ pub record SegmentFits (out : OutSegment) : Type 0 where
   pub media_sequence : out.media_sequence < 2 ^ 64
   pub discontinuity_sequence : out.discontinuity_sequence < 2 ^ 64
   tail : TailFits out
-  keys : keys_fit out.segment.keys ≡ true
-  ivs : list_all states_iv out.segment.keys ≡ true
+  keys : keys_are_writable out.segment.keys ≡ true
+  ivs : list_all writable_key_states_iv out.segment.keys ≡ true
   init_section : if_some init_section_fits out.segment.init_section ≡ true
 
-pub segment_parts : (out : OutSegment) → segment_fits out ≡ true → SegmentFits out
+pub segment_parts : (out : OutSegment) → well_formed_segment_fits out ≡ true → SegmentFits out
 segment_parts out h = grind (arith, and_parts, ltb-true, tail)
 
 extent_of : OutSegment → Option Extent
 extent_of out = extent_with out.segment.uri out.segment.byte_range
 
 module _ (h : Known) where
-  goes_segment : (cur : Current) (n d : ℕ) (extent : Option Extent) (segments : List Segment) (out : OutSegment) → SegmentFits out → keys_fit cur.keys ≡ true
+  goes_segment : (cur : Current) (n d : ℕ) (extent : Option Extent) (segments : List Segment) (out : OutSegment) → SegmentFits out → keys_are_writable cur.keys ≡ true
       → or_earlier out.segment.init_section cur.init_section ≡ out.segment.init_section → h.standing.media_sequence + n ≡ out.media_sequence → h.standing.discontinuity_sequence + d + out.discontinuities ≡ out.discontinuity_sequence
       → Goes (ready h cur n d extent segments) (segment_owed cur out) (ready h (after_segment cur out) (n + 1) (d + out.discontinuities) (extent_of out) (segments ++ denoted_segment out ∷ []))
   unfolding extent_of tail
   goes_segment cur n d extent segments out f kf se media_is disc_is =
       let k0 = ready h cur n d extent segments in
       let k1 : Known = record k0 { standing = record k0.standing { discontinuity_count = d + out.discontinuities; discontinuities = 0 + out.discontinuities } } in
-      let changed = changed_init_section cur.init_section out.segment.init_section in
+      let changed = changed_written_init_section cur.init_section out.segment.init_section in
       let ms = f.media_sequence in let ds = f.discontinuity_sequence in
-      let k2 = with_init_section k1 (keys_then cur.keys changed) (or_earlier out.segment.init_section cur.init_section) in
+      let k2 = with_init_section k1 (written_keys_then cur.keys changed) (or_earlier out.segment.init_section cur.init_section) in
       let k3 = with_keys k2 out.segment.keys in
       let one = goes_steps out.discontinuities k0 (omega arith) in
       let two = goes_init_section cur out.segment.init_section k1 refl refl kf f.init_section in
-      let three = goes_keys (keys_then cur.keys changed) out.segment.keys k2 refl (then_fit cur out.segment.init_section kf f.init_section) f.keys in
+      let three = goes_keys (written_keys_then cur.keys changed) out.segment.keys k2 refl (then_fit cur out.segment.init_section kf f.init_section) f.keys in
       let four = goes_tail out out.program_date_time out.segment.byte_range refl refl k3 f.tail (lt-leb _ _ (omega arith)) in
       let same = segment_ext out (h.standing.media_sequence + n) (h.standing.discontinuity_sequence + (d + out.discontinuities)) (0 + out.discontinuities) (map (effective_key (h.standing.media_sequence + n)) out.segment.keys) (or_earlier out.segment.init_section cur.init_section)
       media_is (omega arith) (omega arith) (effective (h.standing.media_sequence + n) out.segment.keys f.ivs) se in
@@ -265,8 +265,8 @@ module _ (h : Known) where
   still_none false None cur e g m = g
   still_none false (Some s) cur e g m = cc
 
-  pub goes_segments : (with_init_sections : Bool) (outs : List OutSegment) (cur : Current) (n d number disc : ℕ) (extent : Option Extent) (segments : List Segment) → list_all segment_fits outs ≡ true → init_sections_alike with_init_sections outs ≡ true
-      → numbers_go_on number disc outs ≡ true → number ≡ h.standing.media_sequence + n → disc ≡ h.standing.discontinuity_sequence + d → keys_fit cur.keys ≡ true → (with_init_sections ≡ false → cur.init_section ≡ None) → After cur n d extent segments outs
+  pub goes_segments : (with_init_sections : Bool) (outs : List OutSegment) (cur : Current) (n d number disc : ℕ) (extent : Option Extent) (segments : List Segment) → list_all well_formed_segment_fits outs ≡ true → init_sections_alike with_init_sections outs ≡ true
+      → numbers_go_on number disc outs ≡ true → number ≡ h.standing.media_sequence + n → disc ≡ h.standing.discontinuity_sequence + d → keys_are_writable cur.keys ≡ true → (with_init_sections ≡ false → cur.init_section ≡ None) → After cur n d extent segments outs
   goes_segments with_init_sections [] cur n d number disc extent segments f a g ne de kf sn =
       record { current = cur; count = n; discontinuity_count = d; last = extent; counted = omega arith; goes = record { allowed = tt; leads = ap (ready h cur n d extent) (sym (append-nil segments)) } }
   goes_segments with_init_sections (out ∷ outs) cur n d number disc extent segments f a g ne de kf sn =

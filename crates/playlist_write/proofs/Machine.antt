@@ -12,10 +12,10 @@ use Rattle.playlist_model.specs.Said.{Said, nothing, version, target, sequence, 
 use Rattle.playlist_model.specs.EffectiveKeys.{effective_key}
 use Rattle.playlist_model.specs.LookBack.{is_media, is_discontinuity, put_key, extent_with, byte_range_from, Standing, standing_at, segments_of, date_ranges_of}
 use Rattle.playlist_model.specs.Inner.Heading.{Heading, heading_at}
-use Rattle.playlist_model.specs.Reading.{said_by, said_from, at_line, unlimited, passes, needs_iv}
+use Rattle.playlist_model.specs.Reading.{said_by, said_from, at_line, unlimited, passes, key_needs_iv}
 use Rattle.playlist_model.proofs.SaidCounts.{counted_none}
 use Rattle.playlist_write.specs.Spelling.{spelled}
-use Rattle.writable.specs.Fitting.{is_clean, uri_fits, quoted_uri_fits, if_some, byte_range_fits, key_fits}
+use Rattle.writable.specs.Fitting.{is_clean, uri_fits, quoted_uri_fits, if_some, byte_range_fits, key_is_writable}
 use Rattle.playlist_write.proofs.CleanTexts.{Clean, AllClean}
 use Rattle.playlist_write.proofs.SaidLines as lines
 
@@ -150,7 +150,7 @@ Allows k (discontinuity_sequence n) =
 Allows k (playlist_type kind) = is_some k.heading.playlist_type ≡ false
 Allows k ended = k.heading.end_list ≡ false
 Allows k discontinuity = passes (discontinuity_known k.standing + 1) ≡ false
-Allows k (init_section uri part) = list_any needs_iv k.standing.keys ≡ false
+Allows k (init_section uri part) = list_any key_needs_iv k.standing.keys ≡ false
 Allows k (media uri) =
     (is_none k.standing.duration ≡ false) × (passes (number_known k.standing) ≡ false) × (r : Option ByteRange) × (byte_range_known k.standing uri ≡ Ok r)
 Allows k _ = Unit {0}
@@ -164,7 +164,7 @@ Fits (discontinuity_sequence n) = n < 2 ^ 64
 Fits (duration n title) = (n < 10 ^ 15) × (is_clean title ≡ true)
 Fits (byte_range n None) = ⊥
 Fits (byte_range n (Some o)) = n + o < 2 ^ 64
-Fits (key k) = key_fits k ≡ true
+Fits (key k) = key_is_writable k ≡ true
 Fits (init_section uri part) = (quoted_uri_fits uri ≡ true) × (if_some byte_range_fits part ≡ true)
 Fits (time t) = in_range t ≡ true
 Fits (date_range r) = (is_clean r.attributes ≡ true) × (date_range_said unlimited r.attributes ≡ Ok (date_range r))

@@ -12,7 +12,7 @@ use Rattle.std.proofs.lemmas.Slice.Eq.{bytes_eq-Decides}
 use Rattle.url.specs.Parts.{Parts}
 use Rattle.fixed_duration.specs.Duration.{duration_of, duration_text}
 use Rattle.fixed_duration.proofs.Again.{read_again}
-use Rattle.attr_list.specs.Attributes.{Pair, pair_spelling, value_spelling, is_name_byte, is_name, is_value, is_named, attribute, attributes_of, attributes_text, are_apart}
+use Rattle.attr_list.specs.Attributes.{Pair, pair_spelling, value_spelling, is_attribute_name_byte, is_name, is_value, is_named, attribute, attributes_of, attributes_text, are_apart}
 use Rattle.attr_list.specs.Numbers.{decimal_of}
 use Rattle.attr_list.proofs.Cuts.{before_at, after_at, any_at}
 use Rattle.attr_list.proofs.Grammar.{written_is_read}
@@ -26,19 +26,19 @@ use Rattle.playlist_model.specs.declared.DateRange.{DateRange}
 use Rattle.playlist_model.specs.declared.PlaylistKind.{PlaylistKind}
 use Rattle.playlist_model.specs.declared.PlaylistKind.TheVariants.{Event, Vod}
 use Rattle.playlist_model.specs.Lines.{has_control, kind_of, uri}
-use Rattle.playlist_model.specs.Inner.Lines.{is_printable}
-use Rattle.playlist_model.specs.Uri.{has_scheme, is_scheme_byte}
+use Rattle.playlist_model.specs.Inner.Lines.{is_printable_playlist_byte}
+use Rattle.playlist_model.specs.Uri.{has_scheme, is_uri_scheme_byte}
 use Rattle.date_times.specs.Instant.{in_range, instant_of}
 use Rattle.spec_words.specs.Outcomes.{◌>>=◌, refuse_if, or_fault, some_value, optional}
 use Rattle.playlist_model.specs.Said.{Said, version, target, sequence, discontinuity_sequence, playlist_type, ended, independent, duration, byte_range, discontinuity, no_keys, key, init_section, time, date_range, media, Outcome, duration_said, byte_range_of, byte_range_end_fits, uri_of, iv_of, required, quoted_of, set_key, key_said, init_section_said, init_section_byte_range, number_said, version_of, date_range_said}
 use Rattle.playlist_model.specs.Carried.{after_commas, carried}
-use Rattle.playlist_model.specs.Reading.{said_by, unlimited, passes, said_by_kind, within_formats, needs_iv, with_ivs, is_set, has}
+use Rattle.playlist_model.specs.Reading.{said_by, unlimited, passes, said_by_kind, within_formats, key_needs_iv, with_ivs, is_set, has}
 use Rattle.playlist_model.specs.LookBack.{discontinuity_at, own_duration, media_sequence_at, byte_range_at, keys_at, the_version, the_target, the_sequence, the_discontinuity_sequence, the_type, is_media, is_discontinuity, is_ended}
 use Rattle.playlist_model.proofs.SameParts.{key_ext}
 use Rattle.date_times.specs.Digits.{fixed_digits}
 use Rattle.date_times.specs.Times.{time_text}
 use Rattle.playlist_write.specs.Spelling.{spelled, own_pairs, key_text, init_section_pairs, iv_pairs, format_pairs, in_quotes, part_pairs}
-use Rattle.writable.specs.Fitting.{is_clean, value_fits, uri_fits, quoted_uri_fits, if_some, iv_fits, key_fits, byte_range_fits}
+use Rattle.writable.specs.Fitting.{is_clean, value_fits, uri_fits, quoted_uri_fits, if_some, iv_is_writable, key_is_writable, byte_range_fits}
 use Rattle.playlist_write.proofs.CleanTexts.{Clean, clean-append, clean_printable}
 use Rattle.playlist_write.proofs.WrittenNumbers.{is_number_byte, decimal_bytes, duration_bytes, hex_bytes, hex_read}
 use Rattle.playlist_write.proofs.OtherFields.{carried_others, none_found}
@@ -65,17 +65,17 @@ unrefused : (t : Bool) (e : FaultKind) (o : Outcome Said) (s : Said) → t ≡ f
 unrefused true e o s h g = cc
 unrefused false e o s h g = g
 
-number_printable : (b : ℕ) → is_number_byte b ≡ true → is_printable b ≡ true
+number_printable : (b : ℕ) → is_number_byte b ≡ true → is_printable_playlist_byte b ≡ true
 number_printable b h = grind (arith, nat_tests)
 
 clean_number : (bs : List ℕ) → list_all is_number_byte bs ≡ true → Clean bs
-clean_number bs h = clean_printable bs (all_from is_number_byte is_printable bs h number_printable)
+clean_number bs h = clean_printable bs (all_from is_number_byte is_printable_playlist_byte bs h number_printable)
 
-name_printable : (b : ℕ) → is_name_byte b ≡ true → is_printable b ≡ true
+name_printable : (b : ℕ) → is_attribute_name_byte b ≡ true → is_printable_playlist_byte b ≡ true
 name_printable b h = grind (arith, nat_tests)
 
 clean_name : (name : List ℕ) → is_name name ≡ true → Clean name
-clean_name name h = clean_printable name (all_from is_name_byte is_printable name (and_parts _ _ h).1 name_printable)
+clean_name name h = clean_printable name (all_from is_attribute_name_byte is_printable_playlist_byte name (and_parts _ _ h).1 name_printable)
 
 as_written : (line : List ℕ) (o : Outcome Said) (s : Said) → Clean line → o ≡ Ok s → Clean line × (refuse_if (has_control line) fault.Control o ≡ Ok s)
 as_written line o s c h = (c, unrefused (has_control line) fault.Control o s c.free h)
@@ -146,7 +146,7 @@ module _ (base : Parts) (before : List Said) where
   uri_kind : (text : List ℕ) → has_scheme text ≡ true → kind_of text ≡ uri text
   uri_kind [] h = cc
   uri_kind (b ∷ rest) h =
-      let a : (is_ascii_alphabetic b ≡ true) × (slice_index (b ∷ rest) (prefix_len is_scheme_byte (b ∷ rest)) == 58 ≡ true) = and_parts _ _ h in
+      let a : (is_ascii_alphabetic b ≡ true) × (slice_index (b ∷ rest) (prefix_len is_uri_scheme_byte (b ∷ rest)) == 58 ≡ true) = and_parts _ _ h in
       let l = letter_is b a.0 in rw (l.0, l.1) refl
 
   pub media_line : (text : List ℕ) (r : Option ByteRange) → uri_fits text ≡ true → is_none (own_duration before) ≡ false → passes (media_sequence_at before) ≡ false → byte_range_at before text ≡ Ok r → IsRead (media text)
@@ -187,7 +187,7 @@ module _ (base : Parts) (before : List Said) where
 
   -- ---- EXT-X-KEY
 
-  iv_part : (iv : Option ℕ) (later : List Pair) → if_some iv_fits iv ≡ true → find (is_named (codes "IV")) later ≡ None → optional iv_of (find (is_named (codes "IV")) (iv_pairs iv ++ later)) ≡ Ok iv
+  iv_part : (iv : Option ℕ) (later : List Pair) → if_some iv_is_writable iv ≡ true → find (is_named (codes "IV")) later ≡ None → optional iv_of (find (is_named (codes "IV")) (iv_pairs iv ++ later)) ≡ Ok iv
   iv_part None later h e = ap (optional iv_of) e
   iv_part (Some n) later h e = ap (λ o. some_value (or_fault fault.BadAttributes o)) (hex_read n (ltb-true _ _ h))
 
@@ -224,13 +224,13 @@ module _ (base : Parts) (before : List Said) where
       → set_key base pairs method ≡ Ok (key (record { format = unwrap_or format (codes "identity"); method = method; uri = resource; iv = iv; other_attributes = others }))
   set_key_by pairs reference method resource iv format others a b c d e = rw (a, b, c, d, e) refl
 
-  hex_printable : (b : ℕ) → is_ascii_hexdigit b ≡ true → is_printable b ≡ true
+  hex_printable : (b : ℕ) → is_ascii_hexdigit b ≡ true → is_printable_playlist_byte b ≡ true
   hex_printable b h = grind (arith, nat_tests)
 
-  clean_iv : (iv : Option ℕ) → if_some iv_fits iv ≡ true → AllValuesClean (iv_pairs iv)
+  clean_iv : (iv : Option ℕ) → if_some iv_is_writable iv ≡ true → AllValuesClean (iv_pairs iv)
   unfolding AllValuesClean
   clean_iv None h = tt
-  clean_iv (Some n) h = (clean-append (48 ∷ 120 ∷ []) (fixed_digits 16 32 n) (clean_printable _ refl) (clean_printable _ (all_from is_ascii_hexdigit is_printable (fixed_digits 16 32 n) (hex_bytes n (ltb-true _ _ h)) hex_printable)), tt)
+  clean_iv (Some n) h = (clean-append (48 ∷ 120 ∷ []) (fixed_digits 16 32 n) (clean_printable _ refl) (clean_printable _ (all_from is_ascii_hexdigit is_printable_playlist_byte (fixed_digits 16 32 n) (hex_bytes n (ltb-true _ _ h)) hex_printable)), tt)
 
   clean_format : (b : Bool) (format : List ℕ) → Clean format → AllValuesClean (cond b [] (in_quotes (codes "KEYFORMAT") format ∷ []))
   unfolding AllValuesClean
@@ -264,7 +264,7 @@ module _ (base : Parts) (before : List Said) where
       past_format true format later = refl
       past_format false format later = refl
 
-  pub key_line : (k : Key) → key_fits k ≡ true → IsRead (key k)
+  pub key_line : (k : Key) → key_is_writable k ≡ true → IsRead (key k)
   key_line k h =
       let p = key_parts k h in let all = key_attributes k p in
       let pairs = key_pairs k p.others.pairs in
@@ -284,7 +284,7 @@ module _ (base : Parts) (before : List Said) where
       part_then r = refuse_if (not (byte_range_end_fits r.0 (unwrap_or r.1 0))) fault.BadRange (Ok (record { length = r.0; offset = unwrap_or r.1 0 }))
 
   init_section_by : (rest : List ℕ) (pairs : List Pair) (reference resource : List ℕ) (part : Option ByteRange) → attributes_of None rest ≡ Ok pairs → required true (attribute pairs (codes "URI")) ≡ Ok reference
-      → optional init_section_byte_range (attribute pairs (codes "BYTERANGE")) ≡ Ok part → uri_of base reference ≡ Ok resource → list_any needs_iv (keys_at before) ≡ false
+      → optional init_section_byte_range (attribute pairs (codes "BYTERANGE")) ≡ Ok part → uri_of base reference ≡ Ok resource → list_any key_needs_iv (keys_at before) ≡ false
       → (init_section_said unlimited base rest >>= with_ivs before) ≡ Ok (init_section resource part)
   init_section_by rest pairs reference resource part a b c d e = rw (a, b, c, d, e) refl
 
@@ -297,7 +297,7 @@ module _ (base : Parts) (before : List Said) where
   unfolding AllValuesClean
   init_section_values text part c h = (c, clean_part part h)
 
-  pub init_section_line : (text : List ℕ) (part : Option ByteRange) → quoted_uri_fits text ≡ true → if_some byte_range_fits part ≡ true → list_any needs_iv (keys_at before) ≡ false → IsRead (init_section text part)
+  pub init_section_line : (text : List ℕ) (part : Option ByteRange) → quoted_uri_fits text ≡ true → if_some byte_range_fits part ≡ true → list_any key_needs_iv (keys_at before) ≡ false → IsRead (init_section text part)
   init_section_line text part h g n =
       let all = init_section_attributes text part h g in
       let line = clean-append (codes "#EXT-X-MAP:") _ (clean_printable _ refl) (clean_attributes (init_section_pairs text part) [] all (init_section_values text part (clean_uri text h) g)) in
@@ -306,7 +306,7 @@ module _ (base : Parts) (before : List Said) where
 
   -- ---- the header, times and date ranges
 
-  clean_line : (front bytes : List ℕ) → list_all is_printable front ≡ true → Clean bytes → Clean (front ++ bytes)
+  clean_line : (front bytes : List ℕ) → list_all is_printable_playlist_byte front ≡ true → Clean bytes → Clean (front ++ bytes)
   clean_line front bytes h c = clean-append front bytes (clean_printable front h) c
 
   clean_decimal : (n : ℕ) → n < 2 ^ 64 → Clean (decimal n)

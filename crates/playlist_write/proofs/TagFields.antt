@@ -14,7 +14,7 @@ use Rattle.playlist_model.specs.declared.ByteRange.{ByteRange}
 use Rattle.playlist_model.specs.Carried.{is_key_attribute}
 use Rattle.date_times.specs.Digits.{fixed_digits}
 use Rattle.playlist_write.specs.Spelling.{unquoted_pair, in_quotes, iv_text, iv_pairs, format_pairs, own_pairs, key_text, init_section_pairs, byte_range_text}
-use Rattle.writable.specs.Fitting.{if_some, is_clean, value_fits, quoted_uri_fits, byte_range_fits, iv_fits, key_fits}
+use Rattle.writable.specs.Fitting.{if_some, is_clean, value_fits, quoted_uri_fits, byte_range_fits, iv_is_writable, key_is_writable}
 use Rattle.playlist_write.proofs.OtherFields.{IsOther, OtherPairs, other_pairs, is_other, others_after}
 use Rattle.playlist_write.proofs.WrittenNumbers.{is_number_byte, decimal_bytes, hex_bytes}
 
@@ -25,11 +25,11 @@ pub record KeyParts (k : Key) : Type 0 where
   pub method : value_fits false k.method ≡ true
   pub not_none : bytes_eq k.method (codes "NONE") ≡ false
   pub uri : quoted_uri_fits k.uri ≡ true
-  pub iv : if_some iv_fits k.iv ≡ true
+  pub iv : if_some iv_is_writable k.iv ≡ true
   pub clean : is_clean k.other_attributes ≡ true
   pub others : OtherPairs k.other_attributes
 
-pub key_parts : (k : Key) → key_fits k ≡ true → KeyParts k
+pub key_parts : (k : Key) → key_is_writable k ≡ true → KeyParts k
 key_parts k h = grind (arith, and_parts, not-true, other_pairs)
 
 -- ---- values
@@ -43,7 +43,7 @@ hex_is_plain b h = grind (arith, nat_tests)
 plain_is : (b : ℕ) (rest : List ℕ) → list_any ends_plain (b ∷ rest) ≡ false → is_value false (b ∷ rest) ≡ true
 plain_is b rest h = and_from _ _ (lt-ltb 0 (length (b ∷ rest)) (omega arith)) (ap not h)
 
-iv_is_value : (iv : ℕ) → iv_fits iv ≡ true → is_value false (iv_text iv) ≡ true
+iv_is_value : (iv : ℕ) → iv_is_writable iv ≡ true → is_value false (iv_text iv) ≡ true
 iv_is_value iv h =
     plain_is 48 (120 ∷ fixed_digits 16 32 iv) (or_from (ends_plain 48) _ refl (or_from (ends_plain 120) _ refl (none_from is_ascii_hexdigit ends_plain (fixed_digits 16 32 iv) (hex_bytes iv (ltb-true _ _ h)) hex_is_plain)))
 
@@ -101,7 +101,7 @@ after_iv : (b : Bool) (before : List Pair) (format : List ℕ) (others : List Pa
     → are_apart before (cond b [] (format_pair format ∷ []) ++ others) ≡ true
 after_iv b before format others v h d n f = grind (arith, others_apart, more_apart, pair_is, list_any-append, or_from, turned)
 
-after_uri : (iv : Option ℕ) (b : Bool) (method uri format : List ℕ) (others : List Pair) → if_some iv_fits iv ≡ true → is_value true format ≡ true → list_any is_key_attribute others ≡ false → are_attributes others ≡ true
+after_uri : (iv : Option ℕ) (b : Bool) (method uri format : List ℕ) (others : List Pair) → if_some iv_is_writable iv ≡ true → is_value true format ≡ true → list_any is_key_attribute others ≡ false → are_attributes others ≡ true
     → are_apart (method_pair method ∷ uri_pair uri ∷ []) (iv_pairs iv ++ (cond b [] (format_pair format ∷ []) ++ others)) ≡ true
 after_uri iv b method uri format others i v h d = grind (arith, after_iv, or_from, turned, more_apart, pair_is, iv_is_value)
 

@@ -16,9 +16,9 @@ use Rattle.playlist_model.proofs.SaidCounts.{counted_some}
 use Rattle.stitcher.specs.declared.OutSegment.{OutSegment}
 use Rattle.playlist_write.specs.declared.OutPlaylist.{OutPlaylist}
 use Rattle.playlist_write.specs.Spelling.{spelled, date_range_line}
-use Rattle.playlist_write.specs.Owed.{none_yet, header_owed, ended_owed, segments_owed, first_media_sequence, stated_discontinuity_sequence, line_saying, said_text, ended_date_range_line, date_ranges_text, playlist_text}
+use Rattle.playlist_write.specs.Owed.{none_yet, header_owed, ended_owed, segments_owed, first_written_media_sequence, written_discontinuity_sequence, line_saying, said_text, ended_date_range_line, date_ranges_text, playlist_text}
 use Rattle.writable.specs.Fitting.{is_clean, says_date_range, date_range_fits}
-use Rattle.playlist_write.specs.WellFormed.{is_word, version_fits, segment_fits, out_numbers, out_numbers_rise, out_has_init_section, init_sections_agree, well_formed}
+use Rattle.playlist_write.specs.WellFormed.{is_well_formed_number, written_version_fits, well_formed_segment_fits, out_numbers, out_numbers_rise, written_segment_has_init_section, written_init_sections_agree, well_formed}
 use Rattle.playlist_write.specs.Denoted.{denoted, denoted_segment, denoted_date_range, date_range_told}
 use Rattle.playlist_write.specs.Laws.{TextDenotes}
 use Rattle.playlist_write.proofs.CleanTexts.{text, AllClean, clean_printable, lines_of_text, utf8_text}
@@ -63,7 +63,7 @@ numbers_known : OutPlaylist → Known
 unfolding start
 numbers_known p = record start {
   heading = record start.heading { version = Some p.version; target_duration = Some p.target_duration; has_sequence = true; has_discontinuity_sequence = true };
-  standing = record start.standing { media_sequence = first_media_sequence p.segments; discontinuity_sequence = stated_discontinuity_sequence p.segments };
+  standing = record start.standing { media_sequence = first_written_media_sequence p.segments; discontinuity_sequence = written_discontinuity_sequence p.segments };
 }
 
 header_known : OutPlaylist → Known
@@ -75,7 +75,7 @@ header_known p = record (numbers_known p) {
 goes_ended : (b : Bool) (k : Known) → k.heading.end_list ≡ false → Goes k (ended_owed b) (record k { heading = record k.heading { end_list = b } })
 goes_ended b k e = grind arith
 
-goes_header : (p : OutPlaylist) → (p.version == 6 || p.version == 7) ≡ true → p.target_duration < 2 ^ 64 → first_media_sequence p.segments < 2 ^ 64 → stated_discontinuity_sequence p.segments < 2 ^ 64 → Goes start (header_owed p) (header_known p)
+goes_header : (p : OutPlaylist) → (p.version == 6 || p.version == 7) ≡ true → p.target_duration < 2 ^ 64 → first_written_media_sequence p.segments < 2 ^ 64 → written_discontinuity_sequence p.segments < 2 ^ 64 → Goes start (header_owed p) (header_known p)
 unfolding start numbers_known header_known
 goes_header p v t s d = grind arith
 
@@ -120,10 +120,10 @@ numbers_after previous (out ∷ outs) h =
     let m : out.media_sequence ≡ previous.media_sequence + 1 = eqb-true _ _ b.0 in
     and_from _ _ a.0 (subst (λ n. numbers_go_on (n + 1) out.discontinuity_sequence outs ≡ true) m (numbers_after out outs a.1))
 
-numbers_start : (outs : List OutSegment) → out_numbers_rise outs ≡ true → numbers_go_on (first_media_sequence outs) (stated_discontinuity_sequence outs) outs ≡ true
+numbers_start : (outs : List OutSegment) → out_numbers_rise outs ≡ true → numbers_go_on (first_written_media_sequence outs) (written_discontinuity_sequence outs) outs ≡ true
 numbers_start outs h = grind (arith, and_parts, leb-true, eq-eqb, and_from, numbers_after)
 
-first_fits : (outs : List OutSegment) → list_all segment_fits outs ≡ true → (first_media_sequence outs < 2 ^ 64) × (stated_discontinuity_sequence outs < 2 ^ 64)
+first_fits : (outs : List OutSegment) → list_all well_formed_segment_fits outs ≡ true → (first_written_media_sequence outs < 2 ^ 64) × (written_discontinuity_sequence outs < 2 ^ 64)
 first_fits outs h = grind arith
 
 some_segments : (outs : List OutSegment) → out_numbers_rise outs ≡ true → 0 < length outs
@@ -132,9 +132,9 @@ some_segments (out ∷ outs) h = omega arith
 
 abbrev first_has_init_section : List OutSegment → Bool
 first_has_init_section [] = false
-first_has_init_section (out ∷ later) = out_has_init_section out
+first_has_init_section (out ∷ later) = written_segment_has_init_section out
 
-none_alike : (outs : List OutSegment) → list_any out_has_init_section outs ≡ false → init_sections_alike false outs ≡ true
+none_alike : (outs : List OutSegment) → list_any written_segment_has_init_section outs ≡ false → init_sections_alike false outs ≡ true
 none_alike [] h = refl
 none_alike (out ∷ outs) h = let a = or_parts _ _ h in and_from _ _ (without_init_section out.segment.init_section a.0) (none_alike outs a.1)
   where
@@ -142,7 +142,7 @@ none_alike (out ∷ outs) h = let a = or_parts _ _ h in and_from _ _ (without_in
     without_init_section None h = refl
     without_init_section (Some s) h = cc
 
-alike : (outs : List OutSegment) → init_sections_agree outs ≡ true → init_sections_alike (first_has_init_section outs) outs ≡ true
+alike : (outs : List OutSegment) → written_init_sections_agree outs ≡ true → init_sections_alike (first_has_init_section outs) outs ≡ true
 alike [] h = refl
 alike (out ∷ outs) h =
     elim (or_cases _ _ h) [
@@ -198,14 +198,14 @@ module _ (base : Parts) (p : OutPlaylist) where
   unfolding start numbers_known header_known playlist_known
   arrives w =
       let a = and_parts _ _ w in let b = and_parts _ _ a.0 in let c = and_parts _ _ b.0 in let d = and_parts _ _ c.0 in
-      let f : (version_fits p.version ≡ true) × (is_word p.target_duration ≡ true) = and_parts _ _ d.0 in
+      let f : (written_version_fits p.version ≡ true) × (is_well_formed_number p.target_duration ≡ true) = and_parts _ _ d.0 in
       let some = some_segments p.segments d.1 in
       let numbers = numbers_start p.segments d.1 in let firsts = first_fits p.segments c.1 in
       let same = alike p.segments b.1 in
       let h : Known = record (header_known p) { date_ranges = flat_map denoted_date_range p.date_ranges } in
       let one = goes_header p f.0 (ltb-true _ _ f.1) firsts.0 firsts.1 in
       let two = goes_date_ranges p.date_ranges (header_known p) a.1 in
-      let three = goes_segments h (first_has_init_section p.segments) p.segments none_yet 0 0 (first_media_sequence p.segments) (stated_discontinuity_sequence p.segments) None [] c.1 same numbers (omega arith) (omega arith) refl (λ m. refl) in
+      let three = goes_segments h (first_has_init_section p.segments) p.segments none_yet 0 0 (first_written_media_sequence p.segments) (written_discontinuity_sequence p.segments) None [] c.1 same numbers (omega arith) (omega arith) refl (λ m. refl) in
       let between : Known = ready h three.current three.count three.discontinuity_count three.last (map denoted_segment p.segments) in
       let four = goes_ended p.end_list between refl in
       let counted : 0 < three.count = omega (arith, three.counted) in

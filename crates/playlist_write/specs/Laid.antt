@@ -11,9 +11,9 @@ after_segments current [] = current
 after_segments current (out ∷ later) = after_segments (after_segment current out) later
 
 -- what is in force after the first of these is what it states itself, whatever stood before it
-abbrev pub states_all : Current → List OutSegment → Bool
-states_all current [] = false
-states_all current (out ∷ later) = is_some out.segment.init_section || is_none current.init_section
+abbrev pub first_written_segment_states_all : Current → List OutSegment → Bool
+first_written_segment_states_all current [] = false
+first_written_segment_states_all current (out ∷ later) = is_some out.segment.init_section || is_none current.init_section
 
 -- the keys and the initialisation section that are in force at the end of a text that was written
 abbrev pub current_of : WrittenText → Current
@@ -31,7 +31,7 @@ pub record IsLaid (items : List OutSegment) (w : WrittenText) : Type 0 where
 
 -- the lines of the first segments and of the one after them have this length, and that one states all that is in force after it
 pub record IsFrontLength (segments : List OutSegment) (gone len : ℕ) : Type 0 where
-  pub states : states_all (after_segments none_yet (take gone segments)) (drop gone segments) ≡ true
+  pub states : first_written_segment_states_all (after_segments none_yet (take gone segments)) (drop gone segments) ≡ true
   pub is : len ≡ length (said_text (segments_owed none_yet (take gone segments)) ++ said_text (segments_owed (after_segments none_yet (take gone segments)) (take 1 (drop gone segments))))
 
 -- a text has the lines of the first of these segments, so many, after some that are gone: the lines of those and of the first one

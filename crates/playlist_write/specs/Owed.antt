@@ -29,18 +29,18 @@ abbrev pub none_yet : Current
 none_yet = record { keys = []; init_section = None }
 
 -- the initialisation section, if it is another than the one in force
-abbrev pub changed_init_section : Option InitSection → Option InitSection → Option InitSection
-changed_init_section current None = None
-changed_init_section current (Some new) = if same_option same_init_section (Some new) current then None else Some new
+abbrev pub changed_written_init_section : Option InitSection → Option InitSection → Option InitSection
+changed_written_init_section current None = None
+changed_written_init_section current (Some new) = if same_option same_init_section (Some new) current then None else Some new
 
 -- a changed initialisation section is written under its own keys, which are then in force
 abbrev pub init_section_owed : List Key → Option InitSection → List Said
 init_section_owed keys None = []
 init_section_owed keys (Some new) = keys_owed keys new.keys ++ init_section new.uri new.byte_range ∷ []
 
-abbrev pub keys_then : List Key → Option InitSection → List Key
-keys_then keys None = keys
-keys_then keys (Some new) = new.keys
+abbrev pub written_keys_then : List Key → Option InitSection → List Key
+written_keys_then keys None = keys
+written_keys_then keys (Some new) = new.keys
 
 abbrev pub time_owed : Option ℤ → List Said
 time_owed None = []
@@ -55,10 +55,10 @@ media_owed segment = duration segment.duration segment.title ∷ (byte_range_owe
 
 abbrev pub segment_owed : Current → OutSegment → List Said
 segment_owed current out =
-    let changed = changed_init_section current.init_section out.segment.init_section in
+    let changed = changed_written_init_section current.init_section out.segment.init_section in
     replicate out.discontinuities discontinuity
     ++ (init_section_owed current.keys changed
-    ++ (keys_owed (keys_then current.keys changed) out.segment.keys
+    ++ (keys_owed (written_keys_then current.keys changed) out.segment.keys
     ++ (time_owed out.program_date_time ++ media_owed out.segment)))
 
 abbrev pub after_segment : Current → OutSegment → Current
@@ -80,18 +80,18 @@ independent_owed test = if test then independent ∷ [] else []
 abbrev pub ended_owed : Bool → List Said
 ended_owed test = if test then ended ∷ [] else []
 
-abbrev pub first_media_sequence : List OutSegment → ℕ
-first_media_sequence [] = 0
-first_media_sequence (out ∷ later) = out.media_sequence
+abbrev pub first_written_media_sequence : List OutSegment → ℕ
+first_written_media_sequence [] = 0
+first_written_media_sequence (out ∷ later) = out.media_sequence
 
 -- what EXT-X-DISCONTINUITY-SEQUENCE states (4.3.3.3): the number before the discontinuities of the first segment
-abbrev pub stated_discontinuity_sequence : List OutSegment → ℕ
-stated_discontinuity_sequence [] = 0
-stated_discontinuity_sequence (out ∷ later) = out.discontinuity_sequence - out.discontinuities
+abbrev pub written_discontinuity_sequence : List OutSegment → ℕ
+written_discontinuity_sequence [] = 0
+written_discontinuity_sequence (out ∷ later) = out.discontinuity_sequence - out.discontinuities
 
 abbrev pub numbers_owed : OutPlaylist → List Said
 numbers_owed p =
-    version p.version ∷ target p.target_duration ∷ sequence (first_media_sequence p.segments) ∷ discontinuity_sequence (stated_discontinuity_sequence p.segments) ∷ []
+    version p.version ∷ target p.target_duration ∷ sequence (first_written_media_sequence p.segments) ∷ discontinuity_sequence (written_discontinuity_sequence p.segments) ∷ []
 
 abbrev pub header_owed : OutPlaylist → List Said
 header_owed p = numbers_owed p ++ (type_owed p.playlist_type ++ independent_owed p.independent_segments)

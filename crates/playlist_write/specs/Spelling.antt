@@ -49,9 +49,9 @@ init_section_pairs uri part = in_quotes (codes "URI") uri ∷ part_pairs part
 
 -- ---- lines
 
-abbrev pub type_text : PlaylistKind → List ℕ
-type_text Event = codes "EVENT"
-type_text Vod = codes "VOD"
+abbrev pub written_playlist_type : PlaylistKind → List ℕ
+written_playlist_type Event = codes "EVENT"
+written_playlist_type Vod = codes "VOD"
 
 abbrev pub offset_text : Option ℕ → List ℕ
 offset_text None = []
@@ -72,7 +72,7 @@ spelled (version n) = codes "#EXT-X-VERSION:" ++ decimal n
 spelled (target n) = codes "#EXT-X-TARGETDURATION:" ++ decimal n
 spelled (sequence n) = codes "#EXT-X-MEDIA-SEQUENCE:" ++ decimal n
 spelled (discontinuity_sequence n) = codes "#EXT-X-DISCONTINUITY-SEQUENCE:" ++ decimal n
-spelled (playlist_type kind) = codes "#EXT-X-PLAYLIST-TYPE:" ++ type_text kind
+spelled (playlist_type kind) = codes "#EXT-X-PLAYLIST-TYPE:" ++ written_playlist_type kind
 spelled ended = codes "#EXT-X-ENDLIST"
 spelled independent = codes "#EXT-X-INDEPENDENT-SEGMENTS"
 spelled (duration nanos title) = codes "#EXTINF:" ++ (duration_text nanos ++ comma ∷ title)

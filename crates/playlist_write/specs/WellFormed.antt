@@ -10,20 +10,20 @@ pub use Rattle.writable.specs.Fitting.{duration_fits}
 use Rattle.writable.specs.Fitting.{if_some, is_clean, uri_fits, byte_range_fits, effective_keys_fit, init_section_fits, date_range_fits}
 
 -- a number of 64 bits
-abbrev pub is_word : ℕ → Bool
-is_word n = nat_lt n (2 ^ 64)
+abbrev pub is_well_formed_number : ℕ → Bool
+is_well_formed_number n = nat_lt n (2 ^ 64)
 
 -- ---- a segment by itself
 
-abbrev pub numbers_are_words : OutSegment → Bool
-numbers_are_words out = is_word out.media_sequence && is_word out.discontinuity_sequence
+abbrev pub well_formed_numbers_are_words : OutSegment → Bool
+well_formed_numbers_are_words out = is_well_formed_number out.media_sequence && is_well_formed_number out.discontinuity_sequence
 
-abbrev pub resource_fits : Segment → Bool
-resource_fits segment = uri_fits segment.uri && if_some byte_range_fits segment.byte_range
+abbrev pub well_formed_resource_fits : Segment → Bool
+well_formed_resource_fits segment = uri_fits segment.uri && if_some byte_range_fits segment.byte_range
 
-abbrev pub segment_fits : OutSegment → Bool
-segment_fits out =
-    numbers_are_words out && resource_fits out.segment && effective_keys_fit out.segment.keys && if_some init_section_fits out.segment.init_section
+abbrev pub well_formed_segment_fits : OutSegment → Bool
+well_formed_segment_fits out =
+    well_formed_numbers_are_words out && well_formed_resource_fits out.segment && effective_keys_fit out.segment.keys && if_some init_section_fits out.segment.init_section
     && duration_fits out.segment.duration && is_clean out.segment.title && if_some in_range out.program_date_time
 
 -- ---- numbers (4.3.3.2, 4.3.3.3)
@@ -36,20 +36,20 @@ out_numbers_rise = numbers_rise out_numbers
 
 -- ---- the whole
 
-abbrev pub out_has_init_section : OutSegment → Bool
-out_has_init_section out = is_some out.segment.init_section
+abbrev pub written_segment_has_init_section : OutSegment → Bool
+written_segment_has_init_section out = is_some out.segment.init_section
 
 -- all have an initialisation section, or none has
-abbrev pub init_sections_agree : List OutSegment → Bool
-init_sections_agree segments = list_all out_has_init_section segments || not (list_any out_has_init_section segments)
+abbrev pub written_init_sections_agree : List OutSegment → Bool
+written_init_sections_agree segments = list_all written_segment_has_init_section segments || not (list_any written_segment_has_init_section segments)
 
-abbrev pub version_fits : ℕ → Bool
-version_fits version = version == 6 || version == 7
+abbrev pub written_version_fits : ℕ → Bool
+written_version_fits version = version == 6 || version == 7
 
-abbrev pub fits_without_date_ranges : OutPlaylist → Bool
-fits_without_date_ranges p =
-    version_fits p.version && is_word p.target_duration && out_numbers_rise p.segments && list_all segment_fits p.segments
-    && init_sections_agree p.segments
+abbrev pub well_formed_without_date_ranges : OutPlaylist → Bool
+well_formed_without_date_ranges p =
+    written_version_fits p.version && is_well_formed_number p.target_duration && out_numbers_rise p.segments && list_all well_formed_segment_fits p.segments
+    && written_init_sections_agree p.segments
 
 abbrev pub well_formed : OutPlaylist → Bool
-well_formed p = fits_without_date_ranges p && list_all date_range_fits p.date_ranges
+well_formed p = well_formed_without_date_ranges p && list_all date_range_fits p.date_ranges

@@ -1,5 +1,5 @@
 //! Initialisation vectors as they are written (RFC 8216, section 4.3.2.4).
-ghost use Rattle.std.specs.Prelude.{◌≡◌, ◌++◌, ◌∷◌, [], ◌<◌, ◌≤◌, ◌+◌, take, codes, OnOk, string_bytes};
+ghost use Rattle.std.specs.Prelude.{◌≡◌, ◌++◌, ◌∷◌, [], ◌<◌, ◌≤◌, ◌+◌, take, codes};
 ghost use Rattle.spec_words.specs.Bytes.{line_feed};
 ghost use Rattle.date_times.specs.Digits.{fixed_digits};
 ghost use Rattle.fixed_duration.specs.Appended.{Appends};
@@ -33,7 +33,7 @@ static PAIRS: [u8; 512] = *b"\
     F0F1F2F3F4F5F6F7F8F9FAFBFCFDFEFF";
 
 // Writes one character after the first `at` ones.
-fn put_mark(text: &mut [u8; LENGTH], at: usize, mark: u8)
+fn put_written_iv_mark(text: &mut [u8; LENGTH], at: usize, mark: u8)
     requires { at < 40 }
     ensures { take (at + 1) text.new ≡ take at text.old ++ mark ∷ [] }
 {
@@ -41,76 +41,76 @@ fn put_mark(text: &mut [u8; LENGTH], at: usize, mark: u8)
 }
 
 // Writes the last two hexadecimal digits of a number.
-fn put_two(text: &mut [u8; LENGTH], at: usize, number: u128)
+fn put_two_written_iv_digits(text: &mut [u8; LENGTH], at: usize, number: u128)
     requires { at + 2 ≤ 40 }
     ensures { take (at + 2) text.new ≡ take at text.old ++ fixed_digits 16 2 number }
 {
     let from = (number % 256) as usize * 2;
-    put_mark(text, at, PAIRS[from]);
-    put_mark(text, at + 1, PAIRS[from + 1]);
+    put_written_iv_mark(text, at, PAIRS[from]);
+    put_written_iv_mark(text, at + 1, PAIRS[from + 1]);
 }
 
 // The same of four.
-fn put_four(text: &mut [u8; LENGTH], at: usize, number: u128)
+fn put_four_written_iv_digits(text: &mut [u8; LENGTH], at: usize, number: u128)
     requires { at + 4 ≤ 40 }
     ensures { take (at + 4) text.new ≡ take at text.old ++ fixed_digits 16 4 number }
 {
-    put_two(text, at, number / 256);
-    put_two(text, at + 2, number);
+    put_two_written_iv_digits(text, at, number / 256);
+    put_two_written_iv_digits(text, at + 2, number);
 }
 
 // The same of eight.
-fn put_eight(text: &mut [u8; LENGTH], at: usize, number: u128)
+fn put_eight_written_iv_digits(text: &mut [u8; LENGTH], at: usize, number: u128)
     requires { at + 8 ≤ 40 }
     ensures { take (at + 8) text.new ≡ take at text.old ++ fixed_digits 16 8 number }
 {
-    put_four(text, at, number / 65_536);
-    put_four(text, at + 4, number);
+    put_four_written_iv_digits(text, at, number / 65_536);
+    put_four_written_iv_digits(text, at + 4, number);
 }
 
 // The same of 16.
-fn put_sixteen(text: &mut [u8; LENGTH], at: usize, number: u128)
+fn put_sixteen_written_iv_digits(text: &mut [u8; LENGTH], at: usize, number: u128)
     requires { at + 16 ≤ 40 }
     ensures { take (at + 16) text.new ≡ take at text.old ++ fixed_digits 16 16 number }
 {
-    put_eight(text, at, number / 4_294_967_296);
-    put_eight(text, at + 8, number);
+    put_eight_written_iv_digits(text, at, number / 4_294_967_296);
+    put_eight_written_iv_digits(text, at + 8, number);
 }
 
 // Writes the digits of an initialisation vector over zeros.
-fn put_iv(text: &mut [u8; LENGTH], iv: u128)
+fn put_written_iv(text: &mut [u8; LENGTH], iv: u128)
     requires { take 31 text.old ≡ codes "\",IV=0x000000000000000000000000" }
     ensures { take 39 text.new ≡ codes "\",IV=0x" ++ fixed_digits 16 32 iv }
 {
     // Most are the numbers of segments (RFC 8216, 5.2).
     if iv < 4_294_967_296 {
-        put_eight(text, 31, iv);
+        put_eight_written_iv_digits(text, 31, iv);
         return;
     }
-    put_sixteen(text, 7, iv / 18_446_744_073_709_551_616);
-    put_sixteen(text, 23, iv);
+    put_sixteen_written_iv_digits(text, 7, iv / 18_446_744_073_709_551_616);
+    put_sixteen_written_iv_digits(text, 23, iv);
 }
 
 /// Appends to `out` the closing quote of a value, and IV of a key tag (RFC 8216, section 4.3.2.4) with the 32
 /// hexadecimal digits of `iv`. Fails only if an allocation fails.
-pub fn push_quote_and_iv(out: &mut String, iv: u128) -> Result<(), AllocError>
+pub fn write_quote_and_iv(out: &mut String, iv: u128) -> Result<(), AllocError>
     ensures { Appends result out.old out.new (codes "\",IV=0x" ++ fixed_digits 16 32 iv) }
 {
     let mut bytes = ZERO;
-    put_iv(&mut bytes, iv);
+    put_written_iv(&mut bytes, iv);
     // What is written is ASCII.
     let text = unsafe { str::from_utf8_unchecked(&bytes[..39]) };
     out.push_str(text)
 }
 
-/// Appends to `out` what `push_quote_and_iv` does of `iv`, and a line feed. Fails only if an allocation fails.
-pub fn push_last_iv(out: &mut String, iv: u128) -> Result<(), AllocError>
+/// Appends to `out` what `write_quote_and_iv` does of `iv`, and a line feed. Fails only if an allocation fails.
+pub fn write_last_iv(out: &mut String, iv: u128) -> Result<(), AllocError>
     ensures { Appends result out.old out.new (codes "\",IV=0x"
         ++ (fixed_digits 16 32 iv ++ line_feed ∷ [])) }
 {
     let mut bytes = ZERO;
-    put_iv(&mut bytes, iv);
-    put_mark(&mut bytes, 39, b'\n');
+    put_written_iv(&mut bytes, iv);
+    put_written_iv_mark(&mut bytes, 39, b'\n');
     // What is written is ASCII.
     let text = unsafe { str::from_utf8_unchecked(&bytes) };
     out.push_str(text)?;

@@ -4,7 +4,7 @@ ghost use Rattle.spec_words.specs.Bytes.{line_feed, quote};
 ghost use Rattle.attr_list.specs.Attributes.{pair_spelling};
 ghost use Rattle.playlist_write.specs.Spelling.{in_quotes, iv_pairs, format_pairs, part_pairs};
 ghost use Rattle.playlist_model.specs.Carried.{after_commas};
-ghost use Rattle.playlist_write.specs.Inner.KeyParts.{text_after_uri, is_identity};
+ghost use Rattle.playlist_write.specs.Inner.KeyParts.{text_after_uri, is_written_key_identity};
 ghost use Rattle.playlist_model.specs.Said as Said;
 ghost use Rattle.playlist_write.specs.Owed.{line_saying, said_text, keys_owed};
 ghost use Rattle.playlist_write.specs.Inner.Owed.{set_tags, key_line, init_section_line};
@@ -14,8 +14,8 @@ ghost use Rattle.std.specs.List.{list_any};
 ghost use Rattle.stitcher.specs.KeyTags.{is_new_key};
 ghost use Rattle.fixed_duration.specs.Appended.{Appends};
 
-use crate::digits::{push_last_iv, push_quote_and_iv};
-use crate::lines::{push_byte_range, push_feed, push_line};
+use crate::digits::{write_last_iv, write_quote_and_iv};
+use crate::lines::{write_byte_range, write_line, write_line_feed};
 use playlist_model::{
     ByteRange, InitSection, KeyRef, KeysIter, KeysRef, are_same_keys, is_same_key,
 };
@@ -23,7 +23,7 @@ use std::alloc::AllocError;
 use stitcher::{is_new_key, keeps_formats};
 
 // Appends `name="value"`.
-fn push_quoted(out: &mut String, name: &str, value: &str) -> Result<(), AllocError>
+fn write_quoted_attribute(out: &mut String, name: &str, value: &str) -> Result<(), AllocError>
     ensures { Appends result out.old out.new (pair_spelling (in_quotes name.now value.now)) }
 {
     out.push_str(name)?;
@@ -33,38 +33,38 @@ fn push_quoted(out: &mut String, name: &str, value: &str) -> Result<(), AllocErr
 }
 
 // Appends the closing quote of a value, and then the initialisation vector if there is one.
-fn push_iv(out: &mut String, iv: Option<u128>) -> Result<(), AllocError>
+fn write_key_iv(out: &mut String, iv: Option<u128>) -> Result<(), AllocError>
     ensures { Appends result out.old out.new (quote ∷ after_commas (iv_pairs iv)) }
 {
     match iv {
-        Some(iv) => push_quote_and_iv(out, iv),
+        Some(iv) => write_quote_and_iv(out, iv),
         None => out.push('"'),
     }
 }
 
 // The same, and ends the line.
-fn push_iv_and_feed(out: &mut String, iv: Option<u128>) -> Result<(), AllocError>
+fn write_key_iv_and_line_feed(out: &mut String, iv: Option<u128>) -> Result<(), AllocError>
     ensures { Appends result out.old out.new
         (quote ∷ after_commas (iv_pairs iv) ++ line_feed ∷ []) }
 {
     match iv {
-        Some(iv) => push_last_iv(out, iv),
+        Some(iv) => write_last_iv(out, iv),
         None => out.push_str("\"\n"),
     }
 }
 
-fn push_format(out: &mut String, format: &str) -> Result<(), AllocError>
+fn write_key_format(out: &mut String, format: &str) -> Result<(), AllocError>
     ensures { Appends result out.old out.new (after_commas (format_pairs format.now)) }
 {
     if format == "identity" {
         return Ok(());
     }
-    push_quoted(out, ",KEYFORMAT", format)?;
+    write_quoted_attribute(out, ",KEYFORMAT", format)?;
     Ok(())
 }
 
 // Appends the front of a key tag, up to its URI.
-fn push_method(out: &mut String, method: &str) -> Result<(), AllocError>
+fn write_key_method(out: &mut String, method: &str) -> Result<(), AllocError>
     ensures { Appends result out.old out.new (codes "#EXT-X-KEY:METHOD="
         ++ (method.now ++ codes ",URI=\"")) }
 {
@@ -80,47 +80,47 @@ fn push_method(out: &mut String, method: &str) -> Result<(), AllocError>
 }
 
 // Appends what stands after the URI of a key.
-fn push_rest(out: &mut String, key: &KeyRef<'_>) -> Result<(), AllocError>
+fn write_rest_of_key_line(out: &mut String, key: &KeyRef<'_>) -> Result<(), AllocError>
     ensures { Appends result out.old out.new (text_after_uri key.now) }
 {
-    push_iv(out, key.iv())?;
-    push_format(out, key.format())?;
+    write_key_iv(out, key.iv())?;
+    write_key_format(out, key.format())?;
     out.push_str(key.other_attributes().as_str())?;
-    push_feed(out)?;
+    write_line_feed(out)?;
     Ok(())
 }
 
 // The same. Most keys have no other attributes.
-fn push_short_rest(out: &mut String, key: &KeyRef<'_>) -> Result<(), AllocError>
+fn write_short_rest_of_key_line(out: &mut String, key: &KeyRef<'_>) -> Result<(), AllocError>
     ensures { Appends result out.old out.new (text_after_uri key.now) }
 {
     if key.other_attributes().as_str().is_empty() && key.format() == "identity" {
-        push_iv_and_feed(out, key.iv())?;
+        write_key_iv_and_line_feed(out, key.iv())?;
         return Ok(());
     }
-    push_rest(out, key)
+    write_rest_of_key_line(out, key)
 }
 
-fn push_key(out: &mut String, key: &KeyRef<'_>) -> Result<(), AllocError>
+fn write_key_line(out: &mut String, key: &KeyRef<'_>) -> Result<(), AllocError>
     ensures { Appends result out.old out.new (key_line key.now) }
 {
-    push_method(out, key.method())?;
+    write_key_method(out, key.method())?;
     out.push_str(key.uri())?;
-    push_short_rest(out, key)?;
+    write_short_rest_of_key_line(out, key)?;
     Ok(())
 }
 
-fn push_keys(out: &mut String, keys: &KeysRef<'_>) -> Result<(), AllocError>
+fn write_key_lines(out: &mut String, keys: &KeysRef<'_>) -> Result<(), AllocError>
     ensures { Appends result out.old out.new (said_text (set_tags keys.now)) }
 {
     for key in keys.iter() {
-        push_key(out, &key)?;
+        write_key_line(out, &key)?;
     }
     Ok(())
 }
 
 // Whether `key` is the first of these keys, which is passed.
-fn passes_same(keys: &mut KeysIter<'_>, key: &KeyRef<'_>) -> bool
+fn passes_same_written_key(keys: &mut KeysIter<'_>, key: &KeyRef<'_>) -> bool
     ensures same { result ≡ true → list_any (same_key key.now) keys.old ≡ true }
     ensures rest { (holds : Key → Bool) → list_any holds keys.new ≡ true → list_any holds keys.old ≡ true }
 {
@@ -130,30 +130,38 @@ fn passes_same(keys: &mut KeysIter<'_>, key: &KeyRef<'_>) -> bool
     }
 }
 
-fn push_new_keys(out: &mut String, old: &KeysRef<'_>, new: &KeysRef<'_>) -> Result<(), AllocError>
+fn write_new_key_lines(
+    out: &mut String,
+    old: &KeysRef<'_>,
+    new: &KeysRef<'_>,
+) -> Result<(), AllocError>
     ensures { Appends result out.old out.new
         (said_text (set_tags (filter (is_new_key old.now) new.now))) }
 {
     let mut others = old.iter();
     for key in new.iter() {
         // Mostly a key is compared with the one at its place alone: long ones cost much.
-        if !passes_same(&mut others, &key) && is_new_key(old, &key) {
-            push_key(out, &key)?;
+        if !passes_same_written_key(&mut others, &key) && is_new_key(old, &key) {
+            write_key_line(out, &key)?;
         }
     }
     Ok(())
 }
 
 #[tactic(auto, unfolding(crate::specs::Owed::line_saying))]
-fn push_no_keys(out: &mut String) -> Result<(), AllocError>
+fn write_no_keys_line(out: &mut String) -> Result<(), AllocError>
     ensures { Appends result out.old out.new (line_saying Said.no_keys) }
 {
-    push_line(out, "#EXT-X-KEY:METHOD=NONE")
+    write_line(out, "#EXT-X-KEY:METHOD=NONE")
 }
 
 // Appends the key tags that lead from any keys to others.
 #[inline(never)]
-fn push_any_tags(out: &mut String, old: &KeysRef<'_>, new: &KeysRef<'_>) -> Result<(), AllocError>
+fn write_any_key_tag_lines(
+    out: &mut String,
+    old: &KeysRef<'_>,
+    new: &KeysRef<'_>,
+) -> Result<(), AllocError>
     ensures { Appends result out.old out.new (said_text (keys_owed old.now new.now)) }
 {
     // Mostly no tag stands between two segments: then each key is compared once.
@@ -161,35 +169,35 @@ fn push_any_tags(out: &mut String, old: &KeysRef<'_>, new: &KeysRef<'_>) -> Resu
         return Ok(());
     }
     if keeps_formats(old, new) {
-        return push_new_keys(out, old, new);
+        return write_new_key_lines(out, old, new);
     }
-    push_no_keys(out)?;
-    push_keys(out, new)
+    write_no_keys_line(out)?;
+    write_key_lines(out, new)
 }
 
-fn is_identity(key: &KeyRef<'_>) -> bool
-    ensures { result ≡ is_identity key.now }
+fn is_written_key_identity(key: &KeyRef<'_>) -> bool
+    ensures { result ≡ is_written_key_identity key.now }
 {
     key.format() == "identity"
 }
 
-fn has_same_iv(one: &KeyRef<'_>, other: &KeyRef<'_>) -> bool
+fn has_same_written_iv(one: &KeyRef<'_>, other: &KeyRef<'_>) -> bool
     ensures { result ≡ same_option same_number one.now.iv other.now.iv }
 {
     one.iv() == other.iv()
 }
 
 // Whether a key differs from the one before by its initialisation vector, and not by its format.
-fn has_next_iv(old: &KeyRef<'_>, new: &KeyRef<'_>) -> bool
+fn has_next_written_iv(old: &KeyRef<'_>, new: &KeyRef<'_>) -> bool
     ensures { result
-        ≡ (is_identity old.now
-        && (is_identity new.now && not (same_option same_number new.now.iv old.now.iv))) }
+        ≡ (is_written_key_identity old.now
+        && (is_written_key_identity new.now && not (same_option same_number new.now.iv old.now.iv))) }
 {
-    is_identity(old) && is_identity(new) && !has_same_iv(new, old)
+    is_written_key_identity(old) && is_written_key_identity(new) && !has_same_written_iv(new, old)
 }
 
 #[inline(always)]
-fn push_tags_between(
+fn write_key_tag_lines_between(
     out: &mut String,
     old: &KeysRef<'_>,
     new: &KeysRef<'_>,
@@ -199,19 +207,19 @@ fn push_tags_between(
     // Most segments have one key, with an initialisation vector of their own (RFC 8216, 5.2).
     if let Some(before) = old.only() {
         if let Some(after) = new.only() {
-            if has_next_iv(&before, &after) {
-                push_key(out, &after)?;
+            if has_next_written_iv(&before, &after) {
+                write_key_line(out, &after)?;
                 return Ok(());
             }
         }
     }
-    push_any_tags(out, old, new)
+    write_any_key_tag_lines(out, old, new)
 }
 
 /// Appends to `out` the key tags that lead from the keys `old` to the keys `new` (RFC 8216, section 4.3.2.4). Fails
 /// only if an allocation fails.
 #[inline(always)]
-pub fn push_key_tags(
+pub fn write_key_tag_lines(
     out: &mut String,
     old: &KeysRef<'_>,
     new: &KeysRef<'_>,
@@ -222,15 +230,15 @@ pub fn push_key_tags(
     if old.is_empty() && new.is_empty() {
         return Ok(());
     }
-    push_tags_between(out, old, new)
+    write_key_tag_lines_between(out, old, new)
 }
 
-fn push_part(out: &mut String, part: Option<ByteRange>) -> Result<(), AllocError>
+fn write_init_section_part(out: &mut String, part: Option<ByteRange>) -> Result<(), AllocError>
     ensures { Appends result out.old out.new (after_commas (part_pairs part)) }
 {
     if let Some(part) = part {
         out.push_str(",BYTERANGE=\"")?;
-        push_byte_range(out, part)?;
+        write_byte_range(out, part)?;
         out.push('"')?;
     }
     Ok(())
@@ -238,12 +246,15 @@ fn push_part(out: &mut String, part: Option<ByteRange>) -> Result<(), AllocError
 
 /// Appends to `out` the EXT-X-MAP `init_section` (RFC 8216, section 4.3.2.5). Fails only if
 /// an allocation fails.
-pub fn push_init_section(out: &mut String, init_section: &InitSection) -> Result<(), AllocError>
+pub fn write_init_section_line(
+    out: &mut String,
+    init_section: &InitSection,
+) -> Result<(), AllocError>
     ensures { Appends result out.old out.new (init_section_line init_section.now) }
 {
     out.push_str("#EXT-X-MAP:")?;
-    push_quoted(out, "URI", init_section.uri.as_str())?;
-    push_part(out, init_section.byte_range)?;
-    push_feed(out)?;
+    write_quoted_attribute(out, "URI", init_section.uri.as_str())?;
+    write_init_section_part(out, init_section.byte_range)?;
+    write_line_feed(out)?;
     Ok(())
 }

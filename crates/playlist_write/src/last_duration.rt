@@ -1,10 +1,10 @@
 //! The line of EXTINF that was written last, since most segments of a playlist state the same one.
-ghost use Rattle.std.specs.Prelude.{◌≡◌, IfOk, IsTrue, ◌↔◌, string_bytes};
+ghost use Rattle.std.specs.Prelude.{◌≡◌, IfOk, string_bytes};
 ghost use Rattle.playlist_model.specs.Said as Said;
 ghost use Rattle.playlist_write.specs.Owed.{line_saying};
 ghost use Rattle.fixed_duration.specs.Appended.{Appends};
 
-use crate::segments::push_duration;
+use crate::segments::write_segment_duration_line;
 use fixed_duration::Nanos;
 use std::alloc::{AllocError, Global};
 use std::marker::Model;
@@ -31,12 +31,12 @@ impl<'a> Model for LastDuration<'a> {
 }
 
 // The line of a duration and a title.
-fn line_with(alloc: Global, duration: Nanos, title: &str) -> Result<String, AllocError>
+fn written_duration_line(alloc: Global, duration: Nanos, title: &str) -> Result<String, AllocError>
     ensures { IfOk result
         (λ line. string_bytes line ≡ line_saying (Said.duration duration title.now)) }
 {
     let mut line = String::new(alloc);
-    push_duration(&mut line, duration, title)?;
+    write_segment_duration_line(&mut line, duration, title)?;
     Ok(line)
 }
 
@@ -69,7 +69,7 @@ impl<'a> LastDuration<'a> {
         ensures { Appends result out.old out.new
             (line_saying (Said.duration self.old.0 self.old.1)) }
     {
-        let line = line_with(self.alloc, self.duration, self.title)?;
+        let line = written_duration_line(self.alloc, self.duration, self.title)?;
         out.push_str(line.as_str())?;
         self.line = Some(line);
         Ok(())
@@ -88,7 +88,7 @@ impl<'a> LastDuration<'a> {
         self.line = None;
         self.duration = duration;
         self.title = title;
-        push_duration(out, duration, title)
+        write_segment_duration_line(out, duration, title)
     }
 
     /// Appends to `out` the line of EXTINF with `duration` and `title` (RFC 8216, section 4.3.2.1), which are kept as

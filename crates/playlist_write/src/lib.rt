@@ -11,11 +11,11 @@ ghost use Rattle.playlist_write.specs.WellFormed.{well_formed};
 ghost use Rattle.playlist_write.specs.Denoted.{denoted};
 ghost use Rattle.byte_streams.specs.Handed.{TookFront};
 
-use crate::header::{push_date_ranges, push_end, push_header};
+use crate::header::{write_end_line, write_header_lines};
 use crate::in_force::InForce;
-use crate::lines::push_line;
-use crate::pieces::{PIECE_ROOM, write_date_ranges, write_segments};
-use crate::room::room_for;
+use crate::lines::write_line;
+use crate::pieces::{PIECE_ROOM, write_pieces_of_date_ranges, write_pieces_of_segments};
+use crate::room::written_text_room_for;
 use byte_streams::{Sink, SinkFailed, hand_out};
 use playlist_model::{Items, Keys, PlaylistKind};
 use std::alloc::{AllocError, Global};
@@ -84,7 +84,7 @@ impl From<SinkFailed> for WriteFault {
 }
 
 // The lines before the date ranges, in a text with so much room.
-fn lines_before_date_ranges(
+fn written_lines_before_date_ranges(
     alloc: Global,
     room: usize,
     playlist: &OutPlaylist<'_>,
@@ -94,13 +94,17 @@ fn lines_before_date_ranges(
         ≡ with_feed (codes "#EXTM3U") ++ said_text (header_owed playlist.now)) }
 {
     let mut text = String::with_capacity(alloc, room)?;
-    push_line(&mut text, "#EXTM3U")?;
-    push_header(&mut text, playlist)?;
+    write_line(&mut text, "#EXTM3U")?;
+    write_header_lines(&mut text, playlist)?;
     Ok(text)
 }
 
 // Adds the end to what is held, and hands all of it out.
-fn write_end<S: Sink>(held: &mut String, ended: bool, sink: &mut S) -> Result<(), WriteFault>
+fn write_playlist_end<S: Sink>(
+    held: &mut String,
+    ended: bool,
+    sink: &mut S,
+) -> Result<(), WriteFault>
     ensures ok { OnOk result
         (Appends (S.stand sink.old).contents (S.stand sink.new).contents
         (string_bytes held.old ++ said_text (ended_owed ended))) }
@@ -114,12 +118,12 @@ fn write_end<S: Sink>(held: &mut String, ended: bool, sink: &mut S) -> Result<()
     ensures memory { IsErrOf result WriteFault.OutOfMemory
         → NoneFailed (S.stand sink.old).failed (S.stand sink.new).failed }
 {
-    push_end(held, ended)?;
+    write_end_line(held, ended)?;
     Ok(hand_out(held.as_bytes(), sink)?)
 }
 
 // Makes the text of a playlist, and hands it out in pieces.
-fn write_text<S: Sink>(
+fn write_playlist_text<S: Sink>(
     alloc: Global,
     playlist: &OutPlaylist<'_>,
     sink: &mut S,
@@ -137,12 +141,12 @@ fn write_text<S: Sink>(
     ensures memory { IsErrOf result WriteFault.OutOfMemory
         → NoneFailed (S.stand sink.old).failed (S.stand sink.new).failed }
 {
-    let mut held = lines_before_date_ranges(alloc, PIECE_ROOM, playlist)?;
-    write_date_ranges(&mut held, playlist.date_ranges.as_slice(), sink)?;
+    let mut held = written_lines_before_date_ranges(alloc, PIECE_ROOM, playlist)?;
+    write_pieces_of_date_ranges(&mut held, playlist.date_ranges.as_slice(), sink)?;
     let (no_keys, no_init_section) = (Keys::none(), None);
     let nothing = InForce::new(&no_keys, &no_init_section);
-    write_segments(alloc, &mut held, nothing, playlist.segments.items(), sink)?;
-    write_end(&mut held, playlist.end_list, sink)
+    write_pieces_of_segments(alloc, &mut held, nothing, playlist.segments.items(), sink)?;
+    write_playlist_end(&mut held, playlist.end_list, sink)
 }
 
 #[tactic(auto, using(crate::proofs::Whole::text_denotes))]
@@ -179,5 +183,5 @@ pub fn write<S: Sink>(
     ensures memory { IsErrOf result WriteFault.OutOfMemory
         → NoneFailed (S.stand sink.old).failed (S.stand sink.new).failed }
 {
-    write_text(alloc, playlist, sink)
+    write_playlist_text(alloc, playlist, sink)
 }

@@ -1,15 +1,15 @@
 //! The lines of date ranges and of segments, handed out in pieces while they are made.
-ghost use Rattle.std.specs.Prelude.{◌≡◌, ◌++◌, ◌<◌, length, OnOk, OnErr, IsErrOf, string_bytes};
+ghost use Rattle.std.specs.Prelude.{◌++◌, ◌<◌, length, OnOk, OnErr, IsErrOf, string_bytes};
 ghost use Rattle.byte_streams.specs.Devices.{FailedAtLast, NoneFailed};
 ghost use Rattle.byte_streams.specs.Handed.{TookFront};
 ghost use Rattle.playlist_write.specs.Owed.{said_text, segments_owed, date_ranges_text};
 ghost use Rattle.playlist_write.specs.Inner.Taken.{TookAllBut};
 
 use crate::WriteFault;
-use crate::header::push_date_range;
+use crate::header::write_date_range_line;
 use crate::in_force::InForce;
 use crate::last_duration::LastDuration;
-use crate::segments::push_next;
+use crate::segments::write_next_segment_lines;
 use byte_streams::{Sink, SinkFailed, hand_out};
 use date_times::TimeWriter;
 use std::alloc::Global;
@@ -22,7 +22,7 @@ const PIECE_BYTES: usize = 65_536;
 pub const PIECE_ROOM: usize = PIECE_BYTES + 4_096;
 
 // Hands out what is held, once it is a piece, and then holds nothing.
-fn hand_out_piece<S: Sink>(held: &mut String, sink: &mut S) -> Result<(), SinkFailed>
+fn hand_out_written_piece<S: Sink>(held: &mut String, sink: &mut S) -> Result<(), SinkFailed>
     ensures ok { OnOk result
         (TookAllBut (S.stand sink.old).contents (S.stand sink.new).contents (string_bytes held.new)
         (string_bytes held.old)) }
@@ -47,7 +47,7 @@ fn hand_out_piece<S: Sink>(held: &mut String, sink: &mut S) -> Result<(), SinkFa
 
 /// Appends the lines of `date_ranges`, word for word, to the text `held`, and hands its front to `sink` each time
 /// that a piece is full. The faults, and what `sink` has taken after one, are those of `write`.
-pub fn write_date_ranges<S: Sink>(
+pub fn write_pieces_of_date_ranges<S: Sink>(
     held: &mut String,
     date_ranges: &[TextRef<'_>],
     sink: &mut S,
@@ -66,15 +66,15 @@ pub fn write_date_ranges<S: Sink>(
         → NoneFailed (S.stand sink.old).failed (S.stand sink.new).failed }
 {
     for date_range in date_ranges {
-        push_date_range(held, date_range.as_str())?;
-        hand_out_piece(held, sink)?;
+        write_date_range_line(held, date_range.as_str())?;
+        hand_out_written_piece(held, sink)?;
     }
     Ok(())
 }
 
 /// Appends the lines of all `segments` to the text `held`, after lines with `before` in force, and hands its front to
 /// `sink` each time that a piece is full. The faults, and what `sink` has taken after one, are those of `write`.
-pub fn write_segments<'a, S: Sink>(
+pub fn write_pieces_of_segments<'a, S: Sink>(
     alloc: Global,
     held: &mut String,
     before: InForce<'a>,
@@ -99,8 +99,8 @@ pub fn write_segments<'a, S: Sink>(
     let mut last = LastDuration::new(alloc);
     let mut force = before;
     while let Some(next) = segments.next() {
-        force = push_next(held, &mut times, &mut last, force, &next)?;
-        hand_out_piece(held, sink)?;
+        force = write_next_segment_lines(held, &mut times, &mut last, force, &next)?;
+        hand_out_written_piece(held, sink)?;
     }
     Ok(())
 }

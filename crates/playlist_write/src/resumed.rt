@@ -3,15 +3,15 @@
 ghost use Rattle.std.specs.Prelude.{◌≡◌, ◌++◌, ◌+◌, List, drop, take, length, IfOk, OnOk, IfSome, string_bytes};
 ghost use Rattle.stitcher.specs.declared.OutSegment.{OutSegment};
 ghost use Rattle.playlist_write.specs.Owed.{none_yet, said_text, segments_owed, ended_owed, playlist_text};
-ghost use Rattle.playlist_write.specs.Laid.{after_segments, states_all, current_of, IsLaid, IsFrontLength, StandsAgain, HasEnds, IsTextWith};
+ghost use Rattle.playlist_write.specs.Laid.{after_segments, first_written_segment_states_all, current_of, IsLaid, IsFrontLength, StandsAgain, HasEnds, IsTextWith};
 ghost use Rattle.playlist_write.specs.Inner.Laid.{front_text};
 
-use crate::header::{push_date_ranges, push_end};
+use crate::header::{write_date_range_lines, write_end_line};
 use crate::in_force::InForce;
 use crate::last_duration::LastDuration;
-use crate::room::room_for;
-use crate::segments::push_next;
-use crate::{OutPlaylist, lines_before_date_ranges};
+use crate::room::written_text_room_for;
+use crate::segments::write_next_segment_lines;
+use crate::{OutPlaylist, written_lines_before_date_ranges};
 use date_times::TimeWriter;
 use playlist_model::{InitSection, Keys, Shared, Text};
 use std::alloc::{AllocError, Global};
@@ -36,7 +36,7 @@ pub struct WrittenText {
 }
 
 // Appends the lines of the first `most` segments, or of all, after lines with `before` in force. Answers what is in force then.
-fn push_first<'a>(
+fn write_first_segment_lines<'a>(
     alloc: Global,
     out: &mut String,
     before: InForce<'a>,
@@ -57,14 +57,14 @@ fn push_first<'a>(
         let Some(next) = segments.next() else {
             return Ok(force);
         };
-        force = push_next(out, &mut times, &mut last, force, &next)?;
+        force = write_next_segment_lines(out, &mut times, &mut last, force, &next)?;
         left -= 1;
     }
     Ok(force)
 }
 
 // Appends the lines of all these segments after lines with `before` in force. Answers what is in force then.
-fn push_all<'a>(
+fn write_all_segment_lines<'a>(
     alloc: Global,
     out: &mut String,
     before: InForce<'a>,
@@ -80,20 +80,20 @@ fn push_all<'a>(
     let mut last = LastDuration::new(alloc);
     let mut force = before;
     while let Some(next) = segments.next() {
-        force = push_next(out, &mut times, &mut last, force, &next)?;
+        force = write_next_segment_lines(out, &mut times, &mut last, force, &next)?;
     }
     Ok(force)
 }
 
 // The keys and the initialisation section that are in force at the end of a text that was written.
-fn force_at_end(last: &WrittenText) -> InForce<'_>
+fn written_in_force_at_end(last: &WrittenText) -> InForce<'_>
     ensures { result ≡ current_of last.now }
 {
     InForce::new(&last.keys, &last.init_section)
 }
 
 // A written text, the lines of whose `count` segments stand from `from` up to `till` with `end` in force after them.
-fn with_end(
+fn written_text_with_end(
     alloc: Global,
     text: String,
     from: usize,
@@ -118,7 +118,7 @@ fn with_end(
 }
 
 // How many bytes a text has so far.
-fn length_of(text: &String) -> usize
+fn written_text_length(text: &String) -> usize
     ensures { result ≡ length (string_bytes text.now) }
 {
     text.len()
@@ -126,11 +126,15 @@ fn length_of(text: &String) -> usize
 
 #[tactic(auto, unfolding(crate::specs::Inner::Laid::front_text))]
 // The lines before the segments, in a text with so much room.
-fn all_before(alloc: Global, room: usize, playlist: &OutPlaylist<'_>) -> Result<String, AllocError>
+fn written_lines_before_segments(
+    alloc: Global,
+    room: usize,
+    playlist: &OutPlaylist<'_>,
+) -> Result<String, AllocError>
     ensures { IfOk result (λ text. string_bytes text ≡ front_text playlist.now) }
 {
-    let mut text = lines_before_date_ranges(alloc, room, playlist)?;
-    push_date_ranges(&mut text, playlist.date_ranges.as_slice())?;
+    let mut text = written_lines_before_date_ranges(alloc, room, playlist)?;
+    write_date_range_lines(&mut text, playlist.date_ranges.as_slice())?;
     Ok(text)
 }
 
@@ -140,20 +144,20 @@ pub fn laid_out(alloc: Global, playlist: &OutPlaylist<'_>) -> Result<WrittenText
     ensures text { IfOk result (λ w. w.text ≡ playlist_text playlist.now) }
     ensures laid { IfOk result (IsLaid playlist.now.segments) }
 {
-    let mut text = all_before(alloc, room_for(playlist), playlist)?;
-    let from = length_of(&text);
+    let mut text = written_lines_before_segments(alloc, written_text_room_for(playlist), playlist)?;
+    let from = written_text_length(&text);
     let (no_keys, no_init_section) = (Keys::none(), None);
     let nothing = InForce::new(&no_keys, &no_init_section);
-    let end = push_all(alloc, &mut text, nothing, playlist.segments.items())?;
-    let till = length_of(&text);
-    push_end(&mut text, playlist.end_list)?;
+    let end = write_all_segment_lines(alloc, &mut text, nothing, playlist.segments.items())?;
+    let till = written_text_length(&text);
+    write_end_line(&mut text, playlist.end_list)?;
     let count = playlist.segments.count();
-    Ok(with_end(alloc, text, from, till, count, &end)?)
+    Ok(written_text_with_end(alloc, text, from, till, count, &end)?)
 }
 
 // Whether what is in force after the first of these is what it states itself, whatever stood before it.
-fn states_all(before: &InForce<'_>, segments: StitchedItems<'_>) -> bool
-    ensures { result ≡ states_all before.now segments.entry }
+fn first_written_segment_states_all(before: &InForce<'_>, segments: StitchedItems<'_>) -> bool
+    ensures { result ≡ first_written_segment_states_all before.now segments.entry }
 {
     let mut segments = segments;
     match segments.next() {
@@ -175,16 +179,16 @@ pub fn front_length(
     let mut lines = String::new(alloc);
     let (no_keys, no_init_section) = (Keys::none(), None);
     let nothing = InForce::new(&no_keys, &no_init_section);
-    let force = push_first(alloc, &mut lines, nothing, segments.items(), gone)?;
-    if !states_all(&force, segments.items_from(gone)) {
+    let force = write_first_segment_lines(alloc, &mut lines, nothing, segments.items(), gone)?;
+    if !first_written_segment_states_all(&force, segments.items_from(gone)) {
         return Ok(None);
     }
-    push_first(alloc, &mut lines, force, segments.items_from(gone), 1)?;
-    Ok(Some(length_of(&lines)))
+    write_first_segment_lines(alloc, &mut lines, force, segments.items_from(gone), 1)?;
+    Ok(Some(written_text_length(&lines)))
 }
 
 // The lines of a text's segments, less their first `length` bytes.
-fn lines_after(last: &WrittenText, length: usize) -> Option<&str>
+fn written_lines_after(last: &WrittenText, length: usize) -> Option<&str>
     ensures { IfSome result
         (λ lines. lines.now ≡ drop (last.now.from + length) (take last.now.till last.now.text)) }
 {
@@ -196,7 +200,7 @@ fn lines_after(last: &WrittenText, length: usize) -> Option<&str>
 
 // The text of a playlist in three parts: its first segment is written, `lines` are copied, and `fresh` is written, with what
 // was in force at the end of the last text. It has `count` segments, and is given so much room.
-fn join_parts(
+fn join_written_parts(
     alloc: Global,
     room: usize,
     playlist: &OutPlaylist<'_>,
@@ -219,16 +223,16 @@ fn join_parts(
     ensures end { IfOk result
         (λ w. current_of w ≡ after_segments (current_of last.now) fresh.entry) }
 {
-    let mut text = all_before(alloc, room, playlist)?;
-    let from = length_of(&text);
+    let mut text = written_lines_before_segments(alloc, room, playlist)?;
+    let from = written_text_length(&text);
     let (no_keys, no_init_section) = (Keys::none(), None);
     let nothing = InForce::new(&no_keys, &no_init_section);
-    push_first(alloc, &mut text, nothing, playlist.segments.items(), 1)?;
+    write_first_segment_lines(alloc, &mut text, nothing, playlist.segments.items(), 1)?;
     text.push_str(lines)?;
-    let end = push_all(alloc, &mut text, force_at_end(last), fresh)?;
-    let till = length_of(&text);
-    push_end(&mut text, playlist.end_list)?;
-    with_end(alloc, text, from, till, count, &end)
+    let end = write_all_segment_lines(alloc, &mut text, written_in_force_at_end(last), fresh)?;
+    let till = written_text_length(&text);
+    write_end_line(&mut text, playlist.end_list)?;
+    written_text_with_end(alloc, text, from, till, count, &end)
 }
 
 /// The text of `playlist` that `laid_out` makes, of which lines are copied from `last`, the text that was written
@@ -245,19 +249,19 @@ pub fn laid_after(
     ensures text { IfOk result (λ w. w.text ≡ playlist_text playlist.now) }
     ensures laid { IfOk result (IsLaid playlist.now.segments) }
 {
-    let Some(lines) = lines_after(last, length) else {
+    let Some(lines) = written_lines_after(last, length) else {
         return laid_out(alloc, playlist);
     };
     let fresh = playlist.segments.items_from(again);
-    let (room, count) = (room_for(playlist), playlist.segments.count());
-    Ok(join_parts(alloc, room, playlist, last, lines, fresh, count)?)
+    let (room, count) = (written_text_room_for(playlist), playlist.segments.count());
+    Ok(join_written_parts(alloc, room, playlist, last, lines, fresh, count)?)
 }
 
 /// The text of a playlist of `count` segments, of which lines are copied from `last`, the text that was written last. It is
 /// `playlist` with more segments: the first one is that of `playlist`, the first `again` are the last ones of `last`, and
 /// `fresh` come after these. `length` is what `front_length` gives for those in front of them, in bytes. None if `last`
 /// hasn't so many bytes. Fails only if an allocation fails.
-pub fn laid_on(
+pub fn text_laid_out_on(
     alloc: Global,
     playlist: &OutPlaylist<'_>,
     last: &WrittenText,
@@ -271,10 +275,14 @@ pub fn laid_on(
         → HasEnds playlist.now last.now length again fresh.now count segments
         → IsTextWith playlist.now segments w)) }
 {
-    let Some(lines) = lines_after(last, length) else {
+    let Some(lines) = written_lines_after(last, length) else {
         return Ok(None);
     };
-    let room = last.text.as_str().len().saturating_add(room_for(playlist));
-    let text = join_parts(alloc, room, playlist, last, lines, fresh.items(), count)?;
+    let room = last
+        .text
+        .as_str()
+        .len()
+        .saturating_add(written_text_room_for(playlist));
+    let text = join_written_parts(alloc, room, playlist, last, lines, fresh.items(), count)?;
     Ok(Some(text))
 }

@@ -12,7 +12,7 @@ const FEW: usize = 16;
 const MAX_ROOM: usize = 1024;
 
 // The room that a segment takes, generously.
-fn room_of(next: &OutSegment<'_>) -> usize {
+fn written_segment_room_of(next: &OutSegment<'_>) -> usize {
     let segment = &next.segment;
     let texts = segment.uri().len().saturating_add(segment.title().len());
     let keys = segment.keys().len().saturating_mul(160);
@@ -20,7 +20,7 @@ fn room_of(next: &OutSegment<'_>) -> usize {
 }
 
 // The room that each segment is given: the most that one of the first ones takes, as far as that goes.
-fn segment_room(segments: StitchedItems<'_>) -> usize
+fn written_segment_room(segments: StitchedItems<'_>) -> usize
     ensures { result ≤ most_room }
 {
     let mut segments = segments;
@@ -29,13 +29,13 @@ fn segment_room(segments: StitchedItems<'_>) -> usize
         let Some(next) = segments.next() else {
             break;
         };
-        most = most.max(room_of(&next));
+        most = most.max(written_segment_room_of(&next));
     }
     most.min(MAX_ROOM)
 }
 
 // The room that the lines of date ranges are given.
-fn date_ranges_room(date_ranges: &[TextRef<'_>]) -> usize
+fn written_date_ranges_room(date_ranges: &[TextRef<'_>]) -> usize
     ensures { result ≤ sum (map date_range_room date_ranges.now) }
 {
     let mut room: usize = 0;
@@ -49,13 +49,13 @@ fn date_ranges_room(date_ranges: &[TextRef<'_>]) -> usize
 
 /// How many bytes most texts of `playlist` take at most: a text that grows is held twice while it is moved, and room
 /// that isn't used takes no memory.
-pub(crate) fn room_for(playlist: &OutPlaylist<'_>) -> usize
+pub(crate) fn written_text_room_for(playlist: &OutPlaylist<'_>) -> usize
     ensures { result ≤ text_room playlist.now }
 {
-    let date_ranges = date_ranges_room(playlist.date_ranges.as_slice());
+    let date_ranges = written_date_ranges_room(playlist.date_ranges.as_slice());
     let segments = &playlist.segments;
     let room = segments
         .count()
-        .saturating_mul(segment_room(segments.items()));
+        .saturating_mul(written_segment_room(segments.items()));
     room.saturating_add(date_ranges).saturating_add(256)
 }

@@ -1,44 +1,43 @@
 //! The lines of segments (RFC 8216, section 4.3.2).
-ghost use Rattle.std.specs.Prelude.{◌≡◌, ◌++◌, ◌∷◌, [], IfOk, OnOk, string_bytes, replicate, Some, false, true};
+ghost use Rattle.std.specs.Prelude.{◌≡◌, ◌++◌, ◌∷◌, IfOk, OnOk, string_bytes, replicate, Some, false, true};
 ghost use Rattle.std.specs.Option.{option_copied};
 ghost use Rattle.spec_words.specs.Bytes.{comma};
 ghost use Rattle.playlist_model.specs.Said as Said;
 ghost use Rattle.playlist_model.specs.Same.{same_option, same_init_section};
-ghost use Rattle.playlist_write.specs.Inner.Changes.{changes_nothing, changes_owed};
-ghost use Rattle.playlist_write.specs.Owed.{none_yet, line_saying, with_feed, said_text, changed_init_section, init_section_owed, keys_then, time_owed, byte_range_owed, media_owed, segment_owed, after_segment};
-ghost use Rattle.fixed_duration.specs.Duration.{duration_text};
+ghost use Rattle.playlist_write.specs.Inner.Changes.{written_segment_changes_nothing, changes_owed};
+ghost use Rattle.playlist_write.specs.Owed.{line_saying, with_feed, said_text, changed_written_init_section, init_section_owed, written_keys_then, time_owed, byte_range_owed, media_owed, segment_owed, after_segment};
 ghost use Rattle.fixed_duration.specs.Appended.{Appends};
 
 use crate::in_force::InForce;
-use crate::keys::{push_init_section, push_key_tags};
+use crate::keys::{write_init_section_line, write_key_tag_lines};
 use crate::last_duration::LastDuration;
-use crate::lines::{push_byte_range, push_feed, push_line};
+use crate::lines::{write_byte_range, write_line, write_line_feed};
 use date_times::TimeWriter;
 use fixed_duration::Nanos;
 use playlist_model::{
     ByteRange, InitSection, Instant, KeysRef, SegmentRef, Shared, is_same_init_section,
 };
-use std::alloc::{AllocError, Global};
-use stitcher::{OutSegment, StitchedItems};
+use std::alloc::AllocError;
+use stitcher::OutSegment;
 
 #[tactic(auto, unfolding(crate::specs::Owed::line_saying))]
-fn push_discontinuity(out: &mut String) -> Result<(), AllocError>
+fn write_discontinuity_line(out: &mut String) -> Result<(), AllocError>
     ensures { Appends result out.old out.new (line_saying Said.discontinuity) }
 {
-    push_line(out, "#EXT-X-DISCONTINUITY")
+    write_line(out, "#EXT-X-DISCONTINUITY")
 }
 
-fn push_steps(out: &mut String, steps: u64) -> Result<(), AllocError>
+fn write_discontinuity_lines(out: &mut String, steps: u64) -> Result<(), AllocError>
     ensures { Appends result out.old out.new (said_text (replicate steps Said.discontinuity)) }
 {
     for _ in 0..steps {
-        push_discontinuity(out)?;
+        write_discontinuity_line(out)?;
     }
     Ok(())
 }
 
 // Whether an initialisation section is the one in force.
-fn is_current(current: Option<&InitSection>, new: &InitSection) -> bool
+fn is_written_init_section_current(current: Option<&InitSection>, new: &InitSection) -> bool
     ensures { result ≡ same_option same_init_section (Some new.now) (option_copied current.entry) }
 {
     match current {
@@ -48,16 +47,16 @@ fn is_current(current: Option<&InitSection>, new: &InitSection) -> bool
 }
 
 // The initialisation section, if it is another than the one in force.
-fn changed_init_section<'a>(
+fn changed_written_init_section<'a>(
     current: Option<&InitSection>,
     init_section: &'a Option<Shared<InitSection>>,
 ) -> Option<&'a InitSection>
     ensures { option_copied result
-        ≡ changed_init_section (option_copied current.entry) init_section.now }
+        ≡ changed_written_init_section (option_copied current.entry) init_section.now }
 {
     match init_section {
         Some(new) => {
-            if is_current(current, new) {
+            if is_written_init_section_current(current, new) {
                 None
             } else {
                 Some(new)
@@ -68,8 +67,8 @@ fn changed_init_section<'a>(
 }
 
 // The keys in force after a changed initialisation section.
-fn keys_then<'a>(keys: &KeysRef<'a>, changed: Option<&'a InitSection>) -> KeysRef<'a>
-    ensures { result ≡ keys_then keys.now (option_copied changed.entry) }
+fn written_keys_then<'a>(keys: &KeysRef<'a>, changed: Option<&'a InitSection>) -> KeysRef<'a>
+    ensures { result ≡ written_keys_then keys.now (option_copied changed.entry) }
 {
     match changed {
         Some(init_section) => init_section.keys.lent(),
@@ -80,8 +79,8 @@ fn keys_then<'a>(keys: &KeysRef<'a>, changed: Option<&'a InitSection>) -> KeysRe
 // Whether the segment `next` says nothing before its time, after lines at whose end `keys` are in force: it has no
 // discontinuity and no initialisation section, and there are no keys.
 #[inline(always)]
-fn changes_nothing(keys: &KeysRef<'_>, next: &OutSegment<'_>) -> bool
-    ensures { result ≡ changes_nothing keys.now next.now }
+fn written_segment_changes_nothing(keys: &KeysRef<'_>, next: &OutSegment<'_>) -> bool
+    ensures { result ≡ written_segment_changes_nothing keys.now next.now }
 {
     next.discontinuities == 0
         && keys.is_empty()
@@ -91,7 +90,7 @@ fn changes_nothing(keys: &KeysRef<'_>, next: &OutSegment<'_>) -> bool
 
 // Appends the EXT-X-MAP of the initialisation section that changed, if one did, under its keys (RFC 8216, section
 // 4.3.2.5).
-fn push_changed_init_section(
+fn write_changed_init_section_line(
     out: &mut String,
     keys: &KeysRef<'_>,
     changed: Option<&InitSection>,
@@ -100,23 +99,27 @@ fn push_changed_init_section(
         (said_text (init_section_owed keys.now (option_copied changed.entry))) }
 {
     if let Some(init_section) = changed {
-        push_key_tags(out, keys, &init_section.keys.lent())?;
-        push_init_section(out, init_section)?;
+        write_key_tag_lines(out, keys, &init_section.keys.lent())?;
+        write_init_section_line(out, init_section)?;
     }
     Ok(())
 }
 
 #[inline(never)]
-fn push_instant(out: &mut String, times: &mut TimeWriter, time: Instant) -> Result<(), AllocError>
+fn write_instant_line(
+    out: &mut String,
+    times: &mut TimeWriter,
+    time: Instant,
+) -> Result<(), AllocError>
     ensures { Appends result out.old out.new (line_saying (Said.time time)) }
 {
     out.push_str("#EXT-X-PROGRAM-DATE-TIME:")?;
     times.write(time, out)?;
-    push_feed(out)?;
+    write_line_feed(out)?;
     Ok(())
 }
 
-fn push_time_tag(
+fn write_optional_instant_line(
     out: &mut String,
     times: &mut TimeWriter,
     time: Option<Instant>,
@@ -124,13 +127,13 @@ fn push_time_tag(
     ensures { Appends result out.old out.new (said_text (time_owed time)) }
 {
     if let Some(time) = time {
-        push_instant(out, times, time)?;
+        write_instant_line(out, times, time)?;
     }
     Ok(())
 }
 
 // Ends the line of a duration with the title.
-fn push_title(out: &mut String, title: &str) -> Result<(), AllocError>
+fn write_segment_title(out: &mut String, title: &str) -> Result<(), AllocError>
     ensures { Appends result out.old out.new (comma ∷ with_feed title.now) }
 {
     // Most segments have none.
@@ -138,49 +141,56 @@ fn push_title(out: &mut String, title: &str) -> Result<(), AllocError>
         return out.push_str(",\n");
     }
     out.push_str(",")?;
-    push_line(out, title)
+    write_line(out, title)
 }
 
 /// Appends to `out` the line of EXTINF with `duration` and `title` (RFC 8216, section 4.3.2.1). Fails only if an
 /// allocation fails.
-pub fn push_duration(out: &mut String, duration: Nanos, title: &str) -> Result<(), AllocError>
+pub fn write_segment_duration_line(
+    out: &mut String,
+    duration: Nanos,
+    title: &str,
+) -> Result<(), AllocError>
     ensures { Appends result out.old out.new (line_saying (Said.duration duration title.now)) }
 {
     out.push_str("#EXTINF:")?;
     duration.write_to(out)?;
-    push_title(out, title)?;
+    write_segment_title(out, title)?;
     Ok(())
 }
 
 #[inline(never)]
-fn push_byte_range_line(out: &mut String, byte_range: ByteRange) -> Result<(), AllocError>
+fn write_byte_range_line(out: &mut String, byte_range: ByteRange) -> Result<(), AllocError>
     ensures { Appends result out.old out.new
         (line_saying (Said.byte_range byte_range.length (Some byte_range.offset))) }
 {
     out.push_str("#EXT-X-BYTERANGE:")?;
-    push_byte_range(out, byte_range)?;
-    push_feed(out)?;
+    write_byte_range(out, byte_range)?;
+    write_line_feed(out)?;
     Ok(())
 }
 
-fn push_byte_range_tag(out: &mut String, byte_range: Option<ByteRange>) -> Result<(), AllocError>
+fn write_optional_byte_range_line(
+    out: &mut String,
+    byte_range: Option<ByteRange>,
+) -> Result<(), AllocError>
     ensures { Appends result out.old out.new (said_text (byte_range_owed byte_range)) }
 {
     if let Some(byte_range) = byte_range {
-        push_byte_range_line(out, byte_range)?;
+        write_byte_range_line(out, byte_range)?;
     }
     Ok(())
 }
 
 #[tactic(auto, unfolding(crate::specs::Owed::line_saying))]
-fn push_uri(out: &mut String, uri: &str) -> Result<(), AllocError>
+fn write_segment_uri_line(out: &mut String, uri: &str) -> Result<(), AllocError>
     ensures { Appends result out.old out.new (line_saying (Said.media uri.now)) }
 {
-    push_line(out, uri)
+    write_line(out, uri)
 }
 
 #[inline(always)]
-fn push_media<'a>(
+fn write_segment_media_lines<'a>(
     out: &mut String,
     last: &mut LastDuration<'a>,
     segment: &SegmentRef<'a>,
@@ -188,15 +198,15 @@ fn push_media<'a>(
     ensures { Appends result out.old out.new (said_text (media_owed segment.now)) }
 {
     last.push(out, segment.duration(), segment.title())?;
-    push_byte_range_tag(out, segment.byte_range())?;
-    push_uri(out, segment.uri())?;
+    write_optional_byte_range_line(out, segment.byte_range())?;
+    write_segment_uri_line(out, segment.uri())?;
     Ok(())
 }
 
 // Appends what the segment `next` changes: its discontinuities, and the tags of its initialisation section and its
 // keys. It is out of line, as is all that few segments have, so that the loop over segments stays small.
 #[inline(never)]
-fn push_each_change(
+fn write_each_change_before_segment(
     out: &mut String,
     keys: &KeysRef<'_>,
     init_section: Option<&InitSection>,
@@ -206,16 +216,16 @@ fn push_each_change(
         (said_text (changes_owed
         (record { keys = keys.now; init_section = option_copied init_section.entry }) next.now)) }
 {
-    let changed = changed_init_section(init_section, next.segment.init_section());
-    push_steps(out, next.discontinuities)?;
-    push_changed_init_section(out, keys, changed)?;
-    push_key_tags(out, &keys_then(keys, changed), &next.segment.keys())?;
+    let changed = changed_written_init_section(init_section, next.segment.init_section());
+    write_discontinuity_lines(out, next.discontinuities)?;
+    write_changed_init_section_line(out, keys, changed)?;
+    write_key_tag_lines(out, &written_keys_then(keys, changed), &next.segment.keys())?;
     Ok(())
 }
 
 // The same, and answers whether the segment changes anything. Most change nothing.
 #[inline(always)]
-fn push_changes(
+fn write_changes_before_segment(
     out: &mut String,
     keys: &KeysRef<'_>,
     init_section: Option<&InitSection>,
@@ -226,17 +236,17 @@ fn push_changes(
         ++ said_text (changes_owed
         (record { keys = keys.now; init_section = option_copied init_section.entry }) next.now)) }
     ensures nothing { IfOk result
-        (λ changes. changes ≡ false → changes_nothing keys.now next.now ≡ true) }
+        (λ changes. changes ≡ false → written_segment_changes_nothing keys.now next.now ≡ true) }
 {
-    if changes_nothing(keys, next) {
+    if written_segment_changes_nothing(keys, next) {
         return Ok(false);
     }
-    push_each_change(out, keys, init_section, next)?;
+    write_each_change_before_segment(out, keys, init_section, next)?;
     Ok(true)
 }
 
 // What a segment's initialisation section holds, if it has one.
-fn init_section_in(init_section: &Option<Shared<InitSection>>) -> Option<&InitSection>
+fn written_init_section_in(init_section: &Option<Shared<InitSection>>) -> Option<&InitSection>
     ensures { option_copied result ≡ init_section.now }
 {
     match init_section {
@@ -250,7 +260,7 @@ fn init_section_in(init_section: &Option<Shared<InitSection>>) -> Option<&InitSe
 /// equal ones are copied. Fails only if an allocation fails.
 #[tactic(auto, using(crate::proofs::Changes::nothing_after))]
 #[inline(always)]
-pub fn push_next<'a>(
+pub fn write_next_segment_lines<'a>(
     out: &mut String,
     times: &mut TimeWriter,
     last: &mut LastDuration<'a>,
@@ -262,10 +272,10 @@ pub fn push_next<'a>(
         ++ said_text (segment_owed before.entry next.now)) }
     ensures force { IfOk result (λ f. f ≡ after_segment before.entry next.now) }
 {
-    let init_section = init_section_in(before.init_section);
-    let changes = push_changes(out, &before.keys, init_section, next)?;
-    push_time_tag(out, times, next.program_date_time)?;
-    push_media(out, last, &next.segment)?;
+    let init_section = written_init_section_in(before.init_section);
+    let changes = write_changes_before_segment(out, &before.keys, init_section, next)?;
+    write_optional_instant_line(out, times, next.program_date_time)?;
+    write_segment_media_lines(out, last, &next.segment)?;
     if changes {
         return Ok(before.after(&next.segment));
     }

@@ -4,10 +4,10 @@ ghost use Rattle.std.specs.List.{list_all, list_any};
 ghost use Rattle.date_times.specs.Instant.{in_range};
 ghost use Rattle.writable.specs.Fitting.{if_some, init_section_fits};
 ghost use Rattle.playlist_model.specs.Numbering.{follows, all_follow};
-ghost use Rattle.playlist_write.specs.WellFormed.{well_formed, fits_without_date_ranges, numbers_are_words, resource_fits, segment_fits, out_numbers, out_numbers_rise, out_has_init_section, init_sections_agree, version_fits, is_word};
+ghost use Rattle.playlist_write.specs.WellFormed.{well_formed, well_formed_without_date_ranges, well_formed_numbers_are_words, well_formed_resource_fits, well_formed_segment_fits, out_numbers, out_numbers_rise, written_segment_has_init_section, written_init_sections_agree, written_version_fits, is_well_formed_number};
 
 use crate::OutPlaylist;
-use crate::date_ranges::date_ranges_fit;
+use crate::date_ranges::written_date_ranges_fit;
 use playlist_model::{InitSection, Instant, SegmentRef, Shared};
 use std::alloc::{AllocError, Global};
 use stitcher::{OutSegment, StitchedItems, StitchedList};
@@ -16,25 +16,25 @@ use writable::{
 };
 
 // A number of 64 bits is one by its type.
-fn is_word(number: u64) -> bool
-    ensures { result ≡ is_word number }
+fn is_well_formed_number(number: u64) -> bool
+    ensures { result ≡ is_well_formed_number number }
 {
     number <= u64::MAX
 }
 
-fn numbers_are_words(out: &OutSegment<'_>) -> bool
-    ensures { result ≡ numbers_are_words out.now }
+fn well_formed_numbers_are_words(out: &OutSegment<'_>) -> bool
+    ensures { result ≡ well_formed_numbers_are_words out.now }
 {
-    is_word(out.media_sequence) && is_word(out.discontinuity_sequence)
+    is_well_formed_number(out.media_sequence) && is_well_formed_number(out.discontinuity_sequence)
 }
 
-fn resource_fits(segment: &SegmentRef<'_>) -> bool
-    ensures { result ≡ resource_fits segment.now }
+fn well_formed_resource_fits(segment: &SegmentRef<'_>) -> bool
+    ensures { result ≡ well_formed_resource_fits segment.now }
 {
     uri_fits(segment.uri()) && byte_range_fits(segment.byte_range())
 }
 
-fn optional_init_section_fits(init_section: &Option<Shared<InitSection>>) -> bool
+fn well_formed_init_section_fits(init_section: &Option<Shared<InitSection>>) -> bool
     ensures { result ≡ if_some init_section_fits init_section.now }
 {
     match init_section {
@@ -43,7 +43,7 @@ fn optional_init_section_fits(init_section: &Option<Shared<InitSection>>) -> boo
     }
 }
 
-fn optional_time_fits(time: Option<Instant>) -> bool
+fn well_formed_time_fits(time: Option<Instant>) -> bool
     ensures { result ≡ if_some in_range time }
 {
     match time {
@@ -53,32 +53,32 @@ fn optional_time_fits(time: Option<Instant>) -> bool
 }
 
 // Whether a segment can be written, apart from how its numbers follow.
-fn segment_fits(out: &OutSegment<'_>) -> bool
-    ensures { result ≡ segment_fits out.now }
+fn well_formed_segment_fits(out: &OutSegment<'_>) -> bool
+    ensures { result ≡ well_formed_segment_fits out.now }
 {
     let segment = &out.segment;
-    numbers_are_words(out)
-        && resource_fits(segment)
+    well_formed_numbers_are_words(out)
+        && well_formed_resource_fits(segment)
         && effective_keys_fit(&segment.keys())
-        && optional_init_section_fits(segment.init_section())
+        && well_formed_init_section_fits(segment.init_section())
         && duration_fits(segment.duration())
         && is_clean(segment.title())
-        && optional_time_fits(out.program_date_time)
+        && well_formed_time_fits(out.program_date_time)
 }
 
-fn segments_fit(segments: StitchedItems<'_>) -> bool
-    ensures { result ≡ list_all segment_fits segments.entry }
+fn well_formed_segments_fit(segments: StitchedItems<'_>) -> bool
+    ensures { result ≡ list_all well_formed_segment_fits segments.entry }
 {
     let mut segments = segments;
     while let Some(out) = segments.next() {
-        if !segment_fits(&out) {
+        if !well_formed_segment_fits(&out) {
             return false;
         }
     }
     true
 }
 
-fn is_sum(sum: u64, one: u64, other: u64) -> bool
+fn is_well_formed_sum(sum: u64, one: u64, other: u64) -> bool
     ensures { result ≡ (sum == one + other) }
 {
     match one.checked_add(other) {
@@ -88,24 +88,24 @@ fn is_sum(sum: u64, one: u64, other: u64) -> bool
 }
 
 // Whether the media number goes up by one, and the discontinuity number by the steps.
-fn follows(previous: &OutSegment<'_>, next: &OutSegment<'_>) -> bool
+fn well_formed_numbers_follow(previous: &OutSegment<'_>, next: &OutSegment<'_>) -> bool
     ensures { result ≡ follows (out_numbers previous.now) (out_numbers next.now) }
 {
-    is_sum(next.media_sequence, previous.media_sequence, 1)
-        && is_sum(
+    is_well_formed_sum(next.media_sequence, previous.media_sequence, 1)
+        && is_well_formed_sum(
             next.discontinuity_sequence,
             previous.discontinuity_sequence,
             next.discontinuities,
         )
 }
 
-fn all_follow<'a>(first: OutSegment<'a>, later: StitchedItems<'a>) -> bool
+fn well_formed_numbers_all_follow<'a>(first: OutSegment<'a>, later: StitchedItems<'a>) -> bool
     ensures { result ≡ all_follow out_numbers first.entry later.entry }
 {
     let mut previous = first;
     let mut later = later;
     while let Some(next) = later.next() {
-        if !follows(&previous, &next) {
+        if !well_formed_numbers_follow(&previous, &next) {
             return false;
         }
         previous = next;
@@ -113,68 +113,70 @@ fn all_follow<'a>(first: OutSegment<'a>, later: StitchedItems<'a>) -> bool
     true
 }
 
-fn numbers_fit(segments: StitchedItems<'_>) -> bool
+fn well_formed_numbers_fit(segments: StitchedItems<'_>) -> bool
     ensures { result ≡ out_numbers_rise segments.entry }
 {
     let mut later = segments;
     let Some(first) = later.next() else {
         return false;
     };
-    first.discontinuities <= first.discontinuity_sequence && all_follow(first, later)
+    first.discontinuities <= first.discontinuity_sequence
+        && well_formed_numbers_all_follow(first, later)
 }
 
-fn out_has_init_section(out: &OutSegment<'_>) -> bool
-    ensures { result ≡ out_has_init_section out.now }
+fn written_segment_has_init_section(out: &OutSegment<'_>) -> bool
+    ensures { result ≡ written_segment_has_init_section out.now }
 {
     out.segment.init_section().is_some()
 }
 
-fn all_have_init_sections(segments: StitchedItems<'_>) -> bool
-    ensures { result ≡ list_all out_has_init_section segments.entry }
+fn all_written_have_init_sections(segments: StitchedItems<'_>) -> bool
+    ensures { result ≡ list_all written_segment_has_init_section segments.entry }
 {
     let mut segments = segments;
     while let Some(out) = segments.next() {
-        if !out_has_init_section(&out) {
+        if !written_segment_has_init_section(&out) {
             return false;
         }
     }
     true
 }
 
-fn one_has_init_section(segments: StitchedItems<'_>) -> bool
-    ensures { result ≡ list_any out_has_init_section segments.entry }
+fn one_written_has_init_section(segments: StitchedItems<'_>) -> bool
+    ensures { result ≡ list_any written_segment_has_init_section segments.entry }
 {
     let mut segments = segments;
     while let Some(out) = segments.next() {
-        if out_has_init_section(&out) {
+        if written_segment_has_init_section(&out) {
             return true;
         }
     }
     false
 }
 
-fn init_sections_agree(segments: &StitchedList<'_>) -> bool
-    ensures { result ≡ init_sections_agree segments.now }
+fn written_init_sections_agree(segments: &StitchedList<'_>) -> bool
+    ensures { result ≡ written_init_sections_agree segments.now }
 {
-    all_have_init_sections(segments.items()) || !one_has_init_section(segments.items())
+    all_written_have_init_sections(segments.items())
+        || !one_written_has_init_section(segments.items())
 }
 
-fn version_fits(version: u64) -> bool
-    ensures { result ≡ version_fits version }
+fn written_version_fits(version: u64) -> bool
+    ensures { result ≡ written_version_fits version }
 {
     version == 6 || version == 7
 }
 
 // Whether a playlist can be written, apart from its date ranges.
-fn fits_without_date_ranges(playlist: &OutPlaylist<'_>) -> bool
-    ensures { result ≡ fits_without_date_ranges playlist.now }
+fn well_formed_without_date_ranges(playlist: &OutPlaylist<'_>) -> bool
+    ensures { result ≡ well_formed_without_date_ranges playlist.now }
 {
     let segments = &playlist.segments;
-    version_fits(playlist.version)
-        && is_word(playlist.target_duration)
-        && numbers_fit(segments.items())
-        && segments_fit(segments.items())
-        && init_sections_agree(segments)
+    written_version_fits(playlist.version)
+        && is_well_formed_number(playlist.target_duration)
+        && well_formed_numbers_fit(segments.items())
+        && well_formed_segments_fit(segments.items())
+        && written_init_sections_agree(segments)
 }
 
 impl<'a> OutPlaylist<'a> {
@@ -191,9 +193,9 @@ impl<'a> OutPlaylist<'a> {
     pub fn well_formed(&self, alloc: Global) -> Result<bool, AllocError>
         ensures { IfOk result (λ b. b ≡ well_formed self.now) }
     {
-        if !fits_without_date_ranges(self) {
+        if !well_formed_without_date_ranges(self) {
             return Ok(false);
         }
-        date_ranges_fit(alloc, self.date_ranges.as_slice())
+        written_date_ranges_fit(alloc, self.date_ranges.as_slice())
     }
 }

@@ -6,7 +6,7 @@ use Rattle.playlist_model.specs.declared.InitSection.{InitSection}
 use Rattle.playlist_model.specs.declared.Key.{Key}
 use Rattle.pod_store.specs.Limits.{most_pod_segments}
 use Rattle.pod_store.specs.Pods.{PodSegment, Ad, is_uri, is_key_method, is_format, segment_count}
-use Rattle.writable.specs.Fitting.{iv_fits, duration_fits}
+use Rattle.writable.specs.Fitting.{iv_is_writable, duration_fits}
 
 abbrev pub byte_range_fits : Option ByteRange → Bool
 byte_range_fits None = true
@@ -19,7 +19,7 @@ segment_keeps s = is_uri s.uri && byte_range_fits s.byte_range && duration_fits 
 -- an IV of 128 bits
 abbrev pub iv_keeps : Option ℕ → Bool
 iv_keeps None = false
-iv_keeps (Some iv) = iv_fits iv
+iv_keeps (Some iv) = iv_is_writable iv
 
 abbrev pub key_keeps : Key → Bool
 key_keeps k = is_key_method k.method && is_uri k.uri && iv_keeps k.iv && is_format k.format && length k.other_attributes == 0

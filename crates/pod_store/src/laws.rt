@@ -6,7 +6,7 @@ ghost use Rattle.pod_store.specs.Laws.{PodsCanBeWritten, StaysSmall, UsedPodsSta
 use crate::limits::{MAX_BREAKS, MAX_POD_SEGMENTS};
 
 /// The limits are these constants.
-pub fn limits_are_the_stores()
+pub fn pod_limits_are_the_stores()
     ensures segments { most_pod_segments ≡ MAX_POD_SEGMENTS }
     ensures breaks { most_breaks ≡ MAX_BREAKS }
 {}

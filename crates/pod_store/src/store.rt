@@ -2,7 +2,7 @@
 ghost use Rattle.std.specs.Prelude.{◌≡◌, ◌+◌, ◌==◌, ◌≤◌, ◌<◌, map, filter, fold, length, is_some, true, false, OnOk, OnErr, IfOk, IfErr};
 ghost use Rattle.std.specs.List.{list_all, list_any};
 ghost use Rattle.std.specs.Option.{option_copied};
-ghost use Rattle.pod_store.specs.Pods.{init_section_fits, segment_fits, ad_fits, pod_fits};
+ghost use Rattle.pod_store.specs.Pods.{ad_init_section_fits, pod_segment_fits, pod_ad_fits, pod_fits};
 ghost use Rattle.pod_store.specs.Store.{nothing_decided, with_entries, names_used, put, entry_for, has_own, own_pod, pod_for, has_fitting_pod, has_no_pod, is_used, is_named_if_any, with_all, withdrawn, decided, with_copy, with_copies, adopted, kept_in_use, is_new_decision, Changes, ChangesExactly};
 ghost use Rattle.pod_store.specs.Inner.Store.{GrowsBy};
 ghost use Rattle.pod_store.specs.Outcome.{no_memory};
@@ -10,7 +10,8 @@ ghost use Rattle.spec_words.specs.Outcomes.{Tells};
 
 use crate::fault::{DecisionFault, DecisionKind, Place};
 use crate::kept::{
-    Pods, SharedDecision, are_used, copy, count_named, keep_in_use, kept_for, mark, put_all, remove,
+    Pods, SharedDecision, are_used_pods, count_named_pods, keep_in_use, mark_stored_pod_used,
+    put_all_stored_pods, put_pod_copy, remove_stored_pod, stored_pod_for,
 };
 use crate::limits::MAX_BREAKS;
 use crate::{Ad, Decision, Decisions, IdSet, Pod, PodSegment};
@@ -41,22 +42,22 @@ impl Model for PodStore {
 
 // Whether the duration of `segment`, rounded to whole seconds, is at most the target duration (RFC 8216, section
 // 4.3.3.1).
-fn segment_fits(segment: &PodSegment, target: u64) -> bool
-    ensures { result ≡ segment_fits target segment.now }
+fn pod_segment_fits(segment: &PodSegment, target: u64) -> bool
+    ensures { result ≡ pod_segment_fits target segment.now }
 {
     segment.duration.rounded_seconds() <= target
 }
 
-fn segments_fit(segments: &[PodSegment], target: u64) -> bool
-    ensures { result ≡ list_all (segment_fits target) segments.now }
+fn pod_segments_fit(segments: &[PodSegment], target: u64) -> bool
+    ensures { result ≡ list_all (pod_segment_fits target) segments.now }
 {
     segments
         .iter()
-        .all(|s: &PodSegment| segment_fits(s, target))
+        .all(|s: &PodSegment| pod_segment_fits(s, target))
 }
 
-fn init_section_fits(init_section: &Option<InitSection>, with_init_sections: bool) -> bool
-    ensures { result ≡ init_section_fits with_init_sections init_section.now }
+fn ad_init_section_fits(init_section: &Option<InitSection>, with_init_sections: bool) -> bool
+    ensures { result ≡ ad_init_section_fits with_init_sections init_section.now }
 {
     if with_init_sections {
         init_section.is_some()
@@ -65,11 +66,11 @@ fn init_section_fits(init_section: &Option<InitSection>, with_init_sections: boo
     }
 }
 
-fn ad_fits(ad: &Ad, target: u64, with_init_sections: bool) -> bool
-    ensures { result ≡ ad_fits target with_init_sections ad.now }
+fn pod_ad_fits(ad: &Ad, target: u64, with_init_sections: bool) -> bool
+    ensures { result ≡ pod_ad_fits target with_init_sections ad.now }
 {
-    init_section_fits(&ad.init_section, with_init_sections)
-        && segments_fit(ad.segments.as_slice(), target)
+    ad_init_section_fits(&ad.init_section, with_init_sections)
+        && pod_segments_fit(ad.segments.as_slice(), target)
 }
 
 impl Pod {
@@ -81,12 +82,12 @@ impl Pod {
     {
         self.ads()
             .iter()
-            .all(|ad: &Ad| ad_fits(ad, target, with_init_sections))
+            .all(|ad: &Ad| pod_ad_fits(ad, target, with_init_sections))
     }
 }
 
 // The decisions, whose pods can be shared.
-fn shared_decisions(
+fn decisions_with_shared_pods(
     alloc: Global,
     decisions: Vec<Decision>,
 ) -> Result<Vec<SharedDecision>, AllocError>
@@ -128,7 +129,7 @@ impl PodStore {
     pub fn get(&self, id: &str) -> Option<&Pod>
         ensures { option_copied result ≡ own_pod self.now id.now }
     {
-        match kept_for(&self.kept, id) {
+        match stored_pod_for(&self.kept, id) {
             Some(kept) => Some(&kept.pod),
             None => None,
         }
@@ -169,7 +170,7 @@ impl PodStore {
     pub fn is_used(&self, id: &str) -> bool
         ensures { result ≡ is_used self.now id.now }
     {
-        match kept_for(&self.kept, id) {
+        match stored_pod_for(&self.kept, id) {
             Some(kept) => kept.used,
             None => false,
         }
@@ -178,13 +179,13 @@ impl PodStore {
     fn has_own(&self, id: &str) -> bool
         ensures { result ≡ has_own self.now id.now }
     {
-        kept_for(&self.kept, id).is_some()
+        stored_pod_for(&self.kept, id).is_some()
     }
 
     fn is_named(&self, id: &str) -> bool
         ensures { result ≡ is_named_if_any (entry_for self.now id.now) }
     {
-        match kept_for(&self.kept, id) {
+        match stored_pod_for(&self.kept, id) {
             Some(kept) => !kept.copied,
             None => false,
         }
@@ -225,9 +226,9 @@ impl PodStore {
             ≡ with_entries self.old (fold put self.old.entries decisions.items)) }
         ensures err { OnErr result (self.new ≡ self.old) }
     {
-        let shared = shared_decisions(self.alloc, decisions)?;
+        let shared = decisions_with_shared_pods(self.alloc, decisions)?;
         self.kept.reserve(shared.len())?;
-        put_all(&mut self.kept, shared);
+        put_all_stored_pods(&mut self.kept, shared);
         Ok(())
     }
 
@@ -239,7 +240,7 @@ impl PodStore {
         if self.is_any_used(decisions.as_slice()) {
             return Err(Place::nowhere().fault(DecisionKind::Used));
         }
-        if self.count_new(decisions.as_slice()) + count_named(&self.kept) > MAX_BREAKS {
+        if self.count_new(decisions.as_slice()) + count_named_pods(&self.kept) > MAX_BREAKS {
             return Err(Place::nowhere().fault(DecisionKind::Full));
         }
         self.put_all(decisions)?;
@@ -294,7 +295,7 @@ impl PodStore {
         if self.is_used(id) {
             return Err(Place::nowhere().fault(DecisionKind::Used));
         }
-        remove(&mut self.kept, id);
+        remove_stored_pod(&mut self.kept, id);
         Ok(())
     }
 
@@ -307,7 +308,7 @@ impl PodStore {
             return Ok(());
         }
         match &self.fallback {
-            Some(pod) => copy(self.alloc, &mut self.kept, id, pod),
+            Some(pod) => put_pod_copy(self.alloc, &mut self.kept, id, pod),
             None => Ok(()),
         }
     }
@@ -322,7 +323,7 @@ impl PodStore {
         ensures err { IfErr result (λ e. (e ≡ no_memory) × (self.new ≡ self.old)) }
     {
         if self.has_own(id) {
-            mark(&mut self.kept, id);
+            mark_stored_pod_used(&mut self.kept, id);
             return Ok(true);
         }
         let there = self.fallback().is_some();
@@ -365,7 +366,7 @@ impl PodStore {
         ensures ok { OnOk result (self.new ≡ kept_in_use ids.now self.old) }
         ensures err { OnErr result (self.new ≡ self.old) }
     {
-        if are_used(&self.kept, ids) {
+        if are_used_pods(&self.kept, ids) {
             return Ok(());
         }
         let set = IdSet::of(self.alloc, *self.kept.hasher(), ids)?;

@@ -4,16 +4,16 @@ use Rattle.std.specs.Prelude.{Ok, Err, Option, Some, None, ◌&&◌}
 use Rattle.std.specs.List.{list_any, list_all, find, AllByRecursion}
 use Rattle.std.proofs.lemmas.Bool.{and_from, and_parts}
 use Rattle.std.proofs.lemmas.Bool.Decides.{nat_tests}
-use Rattle.attr_list.specs.Attributes.{Pair, is_named, is_name, is_name_byte, is_pair, are_apart, attribute, attributes_of, pieces, pair_spelling, value_spelling}
+use Rattle.attr_list.specs.Attributes.{Pair, is_named, is_name, is_attribute_name_byte, is_pair, are_apart, attribute, attributes_of, pieces, pair_spelling, value_spelling}
 use Rattle.attr_list.proofs.Elements.{all_from}
 use Rattle.attr_list.proofs.Grammar.{pairs_are, pieces_joined}
 use Rattle.spec_words.specs.Outcomes.{optional, some_value}
 use Rattle.playlist_model.specs.Said.{Outcome, attributes, required, value_if, quoted_of}
 use Rattle.playlist_model.specs.Carried.{after_commas, carried, is_key_attribute}
-use Rattle.playlist_model.specs.Inner.Lines.{is_printable}
+use Rattle.playlist_model.specs.Inner.Lines.{is_printable_playlist_byte}
 use Rattle.playlist_model.proofs.Carried.{others_are}
 use Rattle.playlist_model.specs.Reading.{unlimited}
-use Rattle.writable.specs.Fitting.{if_some, value_fits, others_fit}
+use Rattle.writable.specs.Fitting.{if_some, value_fits, other_attributes_are_writable}
 use Rattle.playlist_write.proofs.CleanTexts.{Clean, clean-append, clean_printable}
 use Rattle.read_is_writable.proofs.Gives.{Gives, answers, fails, told}
 use Rattle.read_is_writable.proofs.CleanCuts.{clean_is, is_is_clean, clean_cut, clean_parts}
@@ -89,11 +89,11 @@ optional_fits p read (Some pair) h f = some_fits p (read pair) (f pair h)
 
 -- ---- a key's other attributes (4.3.2.4)
 
-name_byte_printable : (b : ℕ) → is_name_byte b ≡ true → is_printable b ≡ true
+name_byte_printable : (b : ℕ) → is_attribute_name_byte b ≡ true → is_printable_playlist_byte b ≡ true
 name_byte_printable b h = grind (arith, nat_tests)
 
 name_is_clean : (name : List ℕ) → is_name name ≡ true → Clean name
-name_is_clean name h = clean_printable name (all_from is_name_byte is_printable name (and_parts _ _ h).1 name_byte_printable)
+name_is_clean name h = clean_printable name (all_from is_attribute_name_byte is_printable_playlist_byte name (and_parts _ _ h).1 name_byte_printable)
 
 value_is_clean : (quoted : Bool) (value : List ℕ) → value_fits quoted value ≡ true → Clean (value_spelling quoted value)
 value_is_clean true value h = clean-append (34 ∷ []) (value ++ 34 ∷ []) (clean_printable _ refl) (clean-append value (34 ∷ []) (is_is_clean value (and_parts _ _ h).0) (clean_printable _ refl))
@@ -115,5 +115,5 @@ carried_clean (pair ∷ pairs) h =
     step true kept c g = clean-append (44 ∷ pair_spelling pair) (after_commas kept) c g
     step false kept c g = g
 
-pub carried_fit : (pairs : List Pair) → pairs_fit pairs ≡ true → others_fit (after_commas (carried pairs)) ≡ true
+pub carried_fit : (pairs : List Pair) → pairs_fit pairs ≡ true → other_attributes_are_writable (after_commas (carried pairs)) ≡ true
 carried_fit pairs h = grind (arith, and_parts, and_from, clean_is, carried_clean, others_are)

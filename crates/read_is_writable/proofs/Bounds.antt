@@ -13,7 +13,7 @@ use Rattle.fixed_duration.specs.declared.DurationFault.{DurationFault}
 use Rattle.fixed_duration.specs.Text.{nine_digits}
 use Rattle.fixed_duration.proofs.Digits.{length-filled}
 use Rattle.attr_list.specs.Numbers.{decimal_of}
-use Rattle.playlist_write.specs.WellFormed.{is_word, duration_fits}
+use Rattle.playlist_write.specs.WellFormed.{is_well_formed_number, duration_fits}
 
 -- what is answered only if a test holds
 pub where_some : {A : Type 0} (b : Bool) (x y : A) → cond b (Some x) None ≡ Some y → (b ≡ true) × (x ≡ y)
@@ -25,7 +25,7 @@ not_refused true e o x h = cc
 not_refused false e o x h = (refl, h)
 
 -- a decimal is below 2 ^ 64
-pub decimal_is_word : (text : List ℕ) (n : ℕ) → decimal_of text ≡ Some n → is_word n ≡ true
+pub decimal_is_word : (text : List ℕ) (n : ℕ) → decimal_of text ≡ Some n → is_well_formed_number n ≡ true
 decimal_is_word text n h = grind arith
 
 -- ---- durations

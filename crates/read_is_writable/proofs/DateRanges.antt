@@ -9,7 +9,7 @@ use Rattle.playlist_model.specs.declared.DateRange.{DateRange}
 use Rattle.playlist_model.specs.declared.FaultKind.{FaultKind}
 use Rattle.playlist_model.specs.Lines.{Kind, ignored, uri, tag, kind_of, has_control}
 use Rattle.spec_words.specs.Outcomes.{refuse_if, optional}
-use Rattle.playlist_model.specs.Said.{Name, date_range_tag, unknown_tag, Said, nothing, date_range, Outcome, Reader, attributes, required, time_of, length_of, date_range_said}
+use Rattle.playlist_model.specs.Said.{Name, date_range_tag, unknown_tag, Said, nothing, date_range, Outcome, Reader, attributes, required, time_of, attribute_duration_of, date_range_said}
 use Rattle.playlist_model.specs.LookBack.{is_media, date_ranges_of}
 use Rattle.playlist_model.specs.Reading.{name_of, said_by_tag, said_by_kind, said_by, said_from}
 use Rattle.read_is_writable.specs.Read.{IsSaidBy}
@@ -55,7 +55,7 @@ module _ (reader : Reader) (base : Parts) where
   text_kept rest =
       after _ (attributes reader rest) _ (λ pairs. after _ (required true (attribute pairs (codes "ID"))) _ (λ id.
       after _ (optional time_of (attribute pairs (codes "START-DATE"))) _ (λ start. after _ (optional time_of (attribute pairs (codes "END-DATE"))) _ (λ end.
-      after _ (optional length_of (attribute pairs (codes "DURATION"))) _ (λ length. after _ (optional length_of (attribute pairs (codes "PLANNED-DURATION"))) _ (λ planned. answers (has_text rest) _ (same rest)))))))
+      after _ (optional attribute_duration_of (attribute pairs (codes "DURATION"))) _ (λ length. after _ (optional attribute_duration_of (attribute pairs (codes "PLANNED-DURATION"))) _ (λ planned. answers (has_text rest) _ (same rest)))))))
     where
       same : (rest : List ℕ) → bytes_eq rest rest ≡ true
       same rest = (bytes_eq-Decides rest rest).1 refl

@@ -10,9 +10,8 @@ use Rattle.playlist_model.specs.EffectiveKeys.{effective_key}
 use Rattle.playlist_model.specs.LookBack.{without_format, is_before, insert_key, keys_at, are_sorted, init_section_at}
 use Rattle.playlist_model.proofs.ListTests.{all_filter}
 use Rattle.playlist_model.proofs.KeyOrder.{keys_are_sorted}
-use Rattle.writable.specs.Fitting.{if_some, iv_fits, states_iv}
-use Rattle.playlist_write.specs.WellFormed.{is_word}
-use Rattle.read_is_writable.specs.Read.{key_reads, keys_read, init_section_reads, effective_keys_read}
+use Rattle.writable.specs.Fitting.{if_some, iv_is_writable, key_is_writable, keys_are_writable, writable_key_states_iv, effective_keys_fit, init_section_fits}
+use Rattle.playlist_write.specs.WellFormed.{is_well_formed_number}
 use Rattle.read_is_writable.proofs.Lines.{is_fit, all_good, all_parts, good_parts, all_fit}
 
 module _ (p : Key → Bool) where
@@ -34,11 +33,11 @@ module _ (p : Key → Bool) where
       inserted k (without_format k.format (keys_at before)) (f k a.0) (all_filter p _ (keys_at before) (keys_pass q before f a.1))
   keys_pass q (said ∷ before) f h = keys_pass q before f (and_parts (q said) (list_all q before) h).1
 
-keys_fit : (said : List Said) → list_all is_fit said ≡ true → list_all key_reads (keys_at said) ≡ true
-keys_fit said h = keys_pass key_reads is_fit said (λ k g. g) h
+all_fit_keys : (said : List Said) → list_all is_fit said ≡ true → list_all key_is_writable (keys_at said) ≡ true
+all_fit_keys said h = keys_pass key_is_writable is_fit said (λ k g. g) h
 
-pub keys_are : (said : List Said) → list_all is_fit said ≡ true → keys_read (keys_at said) ≡ true
-keys_are said h = and_from _ _ (keys_fit said h) (keys_are_sorted said)
+pub keys_are : (said : List Said) → list_all is_fit said ≡ true → keys_are_writable (keys_at said) ≡ true
+keys_are said h = and_from _ _ (all_fit_keys said h) (keys_are_sorted said)
 
 -- ---- keys that take effect
 
@@ -58,29 +57,29 @@ sorted_same : (n : ℕ) (keys : List Key) → are_sorted keys ≡ true → are_s
 sorted_same n [] h = refl
 sorted_same n (k ∷ keys) h = let a = and_parts (list_all (is_before k) keys) (are_sorted keys) h in and_from _ _ (before_same n k keys a.0) (sorted_same n keys a.1)
 
-effective_reads : (n : ℕ) (k : Key) → iv_fits n ≡ true → key_reads k ≡ true → key_reads (effective_key n k) ≡ true
-effective_reads n k i h = grind (arith, and_parts, and_from)
+effective_fits : (n : ℕ) (k : Key) → iv_is_writable n ≡ true → key_is_writable k ≡ true → key_is_writable (effective_key n k) ≡ true
+effective_fits n k i h = grind (arith, and_parts, and_from)
 
-effective_states : (n : ℕ) (k : Key) → states_iv (effective_key n k) ≡ true
+effective_states : (n : ℕ) (k : Key) → writable_key_states_iv (effective_key n k) ≡ true
 effective_states n k = grind arith
 
-word_is_iv : (n : ℕ) → is_word n ≡ true → iv_fits n ≡ true
+word_is_iv : (n : ℕ) → is_well_formed_number n ≡ true → iv_is_writable n ≡ true
 word_is_iv n h = grind arith
 
-all_effective : (n : ℕ) (keys : List Key) → iv_fits n ≡ true → list_all key_reads keys ≡ true → list_all key_reads (map (effective_key n) keys) ≡ true
+all_effective : (n : ℕ) (keys : List Key) → iv_is_writable n ≡ true → list_all key_is_writable keys ≡ true → list_all key_is_writable (map (effective_key n) keys) ≡ true
 all_effective n [] i h = refl
-all_effective n (k ∷ keys) i h = let a = and_parts (key_reads k) (list_all key_reads keys) h in and_from _ _ (effective_reads n k i a.0) (all_effective n keys i a.1)
+all_effective n (k ∷ keys) i h = let a = and_parts (key_is_writable k) (list_all key_is_writable keys) h in and_from _ _ (effective_fits n k i a.0) (all_effective n keys i a.1)
 
-all_state : (n : ℕ) (keys : List Key) → list_all states_iv (map (effective_key n) keys) ≡ true
+all_state : (n : ℕ) (keys : List Key) → list_all writable_key_states_iv (map (effective_key n) keys) ≡ true
 all_state n [] = refl
 all_state n (k ∷ keys) = and_from _ _ (effective_states n k) (all_state n keys)
 
-pub effective_fit : (n : ℕ) (said : List Said) → list_all is_fit said ≡ true → is_word n ≡ true → effective_keys_read (map (effective_key n) (keys_at said)) ≡ true
-effective_fit n said h w = grind (arith, and_from, all_effective, word_is_iv, keys_fit, sorted_same, keys_are_sorted, all_state)
+pub effective_fit : (n : ℕ) (said : List Said) → list_all is_fit said ≡ true → is_well_formed_number n ≡ true → effective_keys_fit (map (effective_key n) (keys_at said)) ≡ true
+effective_fit n said h w = grind (arith, and_from, all_effective, word_is_iv, all_fit_keys, sorted_same, keys_are_sorted, all_state)
 
 -- ---- the initialisation section
 
-pub init_section_fits : (said : List Said) → all_good said ≡ true → if_some init_section_reads (init_section_at said) ≡ true
-init_section_fits [] h = refl
-init_section_fits (init_section uri part ∷ before) h = grind (arith, all_parts, good_parts, and_from, keys_are, all_fit)
-init_section_fits (said ∷ before) h = init_section_fits before (all_parts said before h).1
+pub init_section_is_fit : (said : List Said) → all_good said ≡ true → if_some init_section_fits (init_section_at said) ≡ true
+init_section_is_fit [] h = refl
+init_section_is_fit (init_section uri part ∷ before) h = grind (arith, all_parts, good_parts, and_from, keys_are, all_fit)
+init_section_is_fit (said ∷ before) h = init_section_is_fit before (all_parts said before h).1

@@ -9,7 +9,6 @@ pub mod Keys
 pub mod Numbers
 pub mod Segments
 pub mod DateRanges
-pub mod Texts
 pub mod Whole
 pub mod LineLimits
 pub mod WithinLimits

@@ -7,7 +7,7 @@ use Rattle.playlist_model.specs.Said.{Said, sequence, discontinuity_sequence, di
 use Rattle.playlist_model.specs.LookBack.{latest, the_sequence, the_discontinuity_sequence, is_media, is_discontinuity, count, segments_of, segment_at, discontinuity_at, steps_at}
 use Rattle.playlist_model.specs.Reading.{has}
 use Rattle.playlist_model.proofs.SaidCounts.{none_counted, some_counted}
-use Rattle.playlist_write.specs.WellFormed.{is_word}
+use Rattle.playlist_write.specs.WellFormed.{is_well_formed_number}
 use Rattle.playlist_model.specs.Numbering.{segment_numbers, all_follow}
 use Rattle.read_is_writable.specs.Read.{numbers_read}
 use Rattle.read_is_writable.proofs.Lines.{is_good, all_good}
@@ -98,9 +98,9 @@ numbers_rise said h some =
 -- ---- words
 
 -- a discontinuity number is a word
-step_word : (before : List Said) (said : Said) → is_good before said ≡ true → is_word (discontinuity_at before) ≡ true → is_word (discontinuity_at (said ∷ before)) ≡ true
+step_word : (before : List Said) (said : Said) → is_good before said ≡ true → is_well_formed_number (discontinuity_at before) ≡ true → is_well_formed_number (discontinuity_at (said ∷ before)) ≡ true
 step_word before said h w = grind (arith, and_parts, none_counted, not-true, ltb-true, lt-ltb)
 
-pub discontinuity_word : (said : List Said) → all_good said ≡ true → is_word (discontinuity_at said) ≡ true
+pub discontinuity_word : (said : List Said) → all_good said ≡ true → is_well_formed_number (discontinuity_at said) ≡ true
 discontinuity_word [] h = refl
 discontinuity_word (said ∷ before) h = let a = and_parts _ _ h in step_word before said a.0 (discontinuity_word before a.1)

@@ -8,9 +8,9 @@ use Rattle.attr_list.specs.Attributes.{attribute}
 use Rattle.date_times.specs.Instant.{instant_of}
 use Rattle.playlist_model.specs.declared.FaultKind.TheVariants as fault
 use Rattle.spec_words.specs.Outcomes.{or_fault, mended, optional}
-use Rattle.playlist_model.specs.Said.{Name, sequence_tag, version_tag, target_tag, discontinuity_sequence_tag, type_tag, ended_tag, independent_tag, frames_tag, master_tag, duration_tag, byte_range_tag, discontinuity_tag, key_tag, init_section_tag, time_tag, date_range_tag, unknown_tag, Said, nothing, version, target, sequence, discontinuity_sequence, playlist_type, ended, independent, duration, byte_range, discontinuity, no_keys, key, init_section, time, date_range, media, Reader, over, number_said, version_of, playlist_type_of, byte_range_of, attributes, required, iv_of, quoted_of, uri_of, init_section_byte_range, time_of, length_of, key_said, init_section_said, date_range_said}
+use Rattle.playlist_model.specs.Said.{Name, sequence_tag, version_tag, target_tag, discontinuity_sequence_tag, type_tag, ended_tag, independent_tag, frames_tag, master_tag, duration_tag, byte_range_tag, discontinuity_tag, key_tag, init_section_tag, time_tag, date_range_tag, unknown_tag, Said, nothing, version, target, sequence, discontinuity_sequence, playlist_type, ended, independent, duration, byte_range, discontinuity, no_keys, key, init_section, time, date_range, media, Reader, over, number_said, version_of, playlist_type_of, byte_range_of, attributes, required, iv_of, quoted_of, uri_of, init_section_byte_range, time_of, attribute_duration_of, key_said, init_section_said, date_range_said}
 use Rattle.playlist_model.specs.LookBack.{the_version, the_target, the_sequence, the_discontinuity_sequence, the_type, is_media, is_discontinuity, is_ended, count, own_duration, byte_range_at, keys_at, discontinuity_at, media_sequence_at}
-use Rattle.playlist_model.specs.Reading.{has, is_set, passes, needs_iv, said_by_tag, said_by_uri}
+use Rattle.playlist_model.specs.Reading.{has, is_set, passes, key_needs_iv, said_by_tag, said_by_uri}
 use Rattle.read_is_writable.proofs.Gives.{Gives, answers, fails, refused, chosen, bound, after}
 
 -- what is said is of the tag's kind
@@ -50,7 +50,7 @@ module _ (reader : Reader) (base : Parts) where
   date_range_kind rest =
       after _ (attributes reader rest) _ (λ pairs. after _ (required true (attribute pairs (codes "ID"))) _ (λ id.
       after _ (optional time_of (attribute pairs (codes "START-DATE"))) _ (λ start. after _ (optional time_of (attribute pairs (codes "END-DATE"))) _ (λ end.
-      after _ (optional length_of (attribute pairs (codes "DURATION"))) _ (λ length. after _ (optional length_of (attribute pairs (codes "PLANNED-DURATION"))) _ (λ planned. answers (is_of date_range_tag) _ refl))))))
+      after _ (optional attribute_duration_of (attribute pairs (codes "DURATION"))) _ (λ length. after _ (optional attribute_duration_of (attribute pairs (codes "PLANNED-DURATION"))) _ (λ planned. answers (is_of date_range_tag) _ refl))))))
 
   pub tag_kind : (before : List Said) (name : Name) (rest : List ℕ) → Gives (is_of name) (said_by_tag reader base before name rest)
   tag_kind before version_tag rest = refused _ (is_set the_version before) _ _ (after _ (version_of rest) _ (λ n. answers (is_of version_tag) (version n) refl))
@@ -70,7 +70,7 @@ module _ (reader : Reader) (base : Parts) where
   tag_kind before key_tag rest =
       bound (is_of key_tag) _ (key_said reader base rest) _ (key_kind rest) (λ x h. refused _ (over reader.formats (length (keys_at (x ∷ before)))) _ _ (answers (is_of key_tag) x h))
   tag_kind before init_section_tag rest =
-      bound (is_of init_section_tag) _ (init_section_said reader base rest) _ (init_section_kind rest) (λ x h. refused _ (list_any needs_iv (keys_at before)) _ _ (answers (is_of init_section_tag) x h))
+      bound (is_of init_section_tag) _ (init_section_said reader base rest) _ (init_section_kind rest) (λ x h. refused _ (list_any key_needs_iv (keys_at before)) _ _ (answers (is_of init_section_tag) x h))
   tag_kind before time_tag rest = after _ (or_fault fault.BadTime (instant_of rest)) _ (λ t. answers (is_of time_tag) (time t) refl)
   tag_kind before date_range_tag rest = date_range_kind rest
   tag_kind before unknown_tag rest = answers (is_of unknown_tag) nothing refl

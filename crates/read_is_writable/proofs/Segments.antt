@@ -12,10 +12,10 @@ use Rattle.playlist_model.specs.LookBack.{or_earlier, latest, the_duration, the_
 use Rattle.playlist_model.specs.declared.FaultKind.TheVariants as fault
 use Rattle.writable.specs.Fitting.{if_some, is_clean, byte_range_fits}
 use Rattle.playlist_write.specs.WellFormed.{duration_fits}
-use Rattle.read_is_writable.specs.Read.{segment_reads, text_is_clean}
+use Rattle.read_is_writable.specs.Read.{segment_can_be_written, text_is_clean}
 use Rattle.read_is_writable.proofs.CleanCuts.{clean_is, clean_nil}
 use Rattle.read_is_writable.proofs.Values.{byte_range_is_fit}
-use Rattle.read_is_writable.proofs.Keys.{effective_fit, init_section_fits}
+use Rattle.read_is_writable.proofs.Keys.{effective_fit, init_section_is_fit}
 use Rattle.read_is_writable.proofs.Lines.{is_fit, all_good, good_parts, all_parts, all_fit}
 use Rattle.read_is_writable.proofs.Numbers.{discontinuity_word}
 
@@ -68,7 +68,7 @@ byte_range_is own uri previous h = grind arith
 
 -- ---- one segment
 
-segment_fits : (before : List Said) (u : List ℕ) → all_good (media u ∷ before) ≡ true → segment_reads (segment_at before u) ≡ true
+segment_fits : (before : List Said) (u : List ℕ) → all_good (media u ∷ before) ≡ true → segment_can_be_written (segment_at before u) ≡ true
 segment_fits before u h =
     let a = all_parts (media u) before h in
     let here = good_parts before (media u) a.0 in
@@ -83,12 +83,12 @@ segment_fits before u h =
     (and_from _ _ number (discontinuity_word before a.1))
     (and_from _ _ here.0 part))
     (effective_fit (media_sequence_at before) before fit number))
-    (init_section_fits before a.1))
+    (init_section_is_fit before a.1))
     parts.0)
     parts.1)
     (latest_fits in_range the_time (since_media before) says_time since)
 
-pub segments_fit : (said : List Said) → all_good said ≡ true → list_all segment_reads (segments_of said) ≡ true
+pub segments_fit : (said : List Said) → all_good said ≡ true → list_all segment_can_be_written (segments_of said) ≡ true
 segments_fit [] h = refl
 segments_fit (media u ∷ before) h = grind (arith, list_all-append, and_from, all_parts, segment_fits, segments_fit before (all_parts (media u) before h).1)
 segments_fit (said ∷ before) h = segments_fit before (all_parts said before h).1

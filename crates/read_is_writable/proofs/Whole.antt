@@ -11,9 +11,9 @@ use Rattle.playlist_model.specs.Said.{Said, nothing, version, target, Reader}
 use Rattle.playlist_model.specs.LookBack.{latest, the_version, the_target, is_media, segments_of}
 use Rattle.playlist_model.specs.Reading.{has, has_init_section, are_mixed, is_set, said_by, said_from, whole_fault, playlist_of, reading, unlimited}
 use Rattle.playlist_model.proofs.LimitLaws.{reads_what_is_denoted}
-use Rattle.playlist_write.specs.WellFormed.{is_word}
+use Rattle.playlist_write.specs.WellFormed.{is_well_formed_number}
 use Rattle.writable.specs.Fitting.{if_some}
-use Rattle.read_is_writable.specs.Read.{version_reads, init_sections_agree, IsSaidBy, AreRead, numbers_read, segment_reads, text_is_clean}
+use Rattle.read_is_writable.specs.Read.{version_reads, init_sections_agree, IsSaidBy, AreRead, numbers_read, segment_can_be_written, text_is_clean}
 use Rattle.read_is_writable.proofs.Lines.{is_fit, all_good, good_from, all_fit}
 use Rattle.read_is_writable.proofs.Numbers.{numbers_rise}
 use Rattle.read_is_writable.proofs.Segments.{latest_fits, or_default, segments_fit, texts_clean}
@@ -24,7 +24,7 @@ says_version : (x : Said) → is_fit x ≡ true → if_some version_reads (the_v
 says_version (version n) h = h
 says_version _ h = refl
 
-says_target : (x : Said) → is_fit x ≡ true → if_some is_word (the_target x) ≡ true
+says_target : (x : Said) → is_fit x ≡ true → if_some is_well_formed_number (the_target x) ≡ true
 says_target (target n) h = h
 says_target _ h = refl
 
@@ -74,9 +74,9 @@ can_be_written reader base bytes p h =
     let t = three (is_set the_target l.said) (has is_media l.said) (are_mixed (segments_of l.said)) _ _ _ l.faultless in
     record {
       version = subst (λ (q : Playlist). version_reads q.version ≡ true) l.whole (or_default version_reads (latest the_version l.said) 1 (latest_fits version_reads the_version l.said says_version fit) refl);
-      target_duration = subst (λ (q : Playlist). is_word q.target_duration ≡ true) l.whole (or_default is_word (latest the_target l.said) 0 (latest_fits is_word the_target l.said says_target fit) refl);
+      target_duration = subst (λ (q : Playlist). is_well_formed_number q.target_duration ≡ true) l.whole (or_default is_well_formed_number (latest the_target l.said) 0 (latest_fits is_well_formed_number the_target l.said says_target fit) refl);
       numbers = subst (λ (q : Playlist). numbers_read q.segments ≡ true) l.whole (numbers_rise l.said good t.0);
-      segments = subst (λ (q : Playlist). list_all segment_reads q.segments ≡ true) l.whole (segments_fit l.said good);
+      segments = subst (λ (q : Playlist). list_all segment_can_be_written q.segments ≡ true) l.whole (segments_fit l.said good);
       init_sections = subst (λ (q : Playlist). init_sections_agree q.segments ≡ true) l.whole (agreed (list_any has_init_section (segments_of l.said)) (list_all has_init_section (segments_of l.said)) t.1);
       date_range_texts = subst (λ (q : Playlist). list_all text_is_clean q.date_ranges ≡ true) l.whole (texts_clean l.said fit);
       date_ranges = date_ranges_are reader base (lines bytes) p (text_was reader base bytes p h).1;

@@ -1,20 +1,15 @@
 -- What holds of whatever is read.
-use Rattle.std.specs.Prelude.{◌≡◌, ◌↔◌, ℕ, true, List, Ok}
+use Rattle.std.specs.Prelude.{◌≡◌, ◌↔◌, ℕ, List, Ok}
 use Rattle.url.specs.Parts.{Parts}
 use Rattle.playlist_model.specs.declared.Playlist.{Playlist}
-use Rattle.playlist_model.specs.Segments.{Segment}
 use Rattle.playlist_model.specs.Said.{Reader}
 use Rattle.playlist_model.specs.Reading.{reading, limited, Denotes}
 use Rattle.read_is_writable.specs.Limits.{KeepsLimits}
-use Rattle.read_is_writable.specs.Read.{segment_reads, uris_are_text, segment_can_be_written, AreRead}
+use Rattle.read_is_writable.specs.Read.{AreRead}
 
 -- what is read, by whatever reader, can be written again
 abbrev pub ReadCanBeWritten : Type 0
 ReadCanBeWritten = (reader : Reader) (base : Parts) (bytes : List ℕ) (p : Playlist) → reading reader base bytes ≡ Ok p → AreRead reader p
-
--- a segment that is read can be written if its URIs are UTF-8
-abbrev pub TextSegmentsCanBeWritten : Type 0
-TextSegmentsCanBeWritten = (s : Segment) → segment_reads s ≡ true → uris_are_text s ≡ true → segment_can_be_written s ≡ true
 
 -- the reader with limits reads exactly what is denoted, if that is within them
 abbrev pub ReadsWithinLimits : Type 0

@@ -1,16 +1,11 @@
 //! Laws of what is read. Each function's contract is its law; calling it does nothing.
 #![tactic(auto)]
 
-ghost use Rattle.read_is_writable.specs.Laws.{ReadCanBeWritten, TextSegmentsCanBeWritten, ReadsWithinLimits};
+ghost use Rattle.read_is_writable.specs.Laws.{ReadCanBeWritten, ReadsWithinLimits};
 
 /// What is read, by whatever reader and under whatever base, can be written again.
 pub fn read_can_be_written()
     ensures { ReadCanBeWritten }
-{}
-
-/// A segment that is read can be written with its own numbers and time if its URIs are UTF-8.
-pub fn text_segments_can_be_written()
-    ensures { TextSegmentsCanBeWritten }
 {}
 
 /// A playlist is read within the limits exactly if it is denoted and keeps them: at most 4,194,304 bytes, 64

@@ -4,11 +4,11 @@ use Rattle.std.specs.Prelude.{OnOk, Bool, true, Option, is_none, is_some, not}
 use Rattle.std.specs.List.{flat_map}
 use Rattle.std.specs.Int.{byte_at, bytes_high_first}
 use Rattle.std.proofs.lemmas.List.{take_all}
-use Rattle.scte35_codec.specs.Layout.{Is, Reserved, BitField, width, bytes_of, IsBytes, big_endian_number, Splits, HoldsFields, IsRead, IsWritten}
+use Rattle.scte35_codec.specs.Layout.{Is, Reserved, BitField, width, bytes_of, IsBytes, big_endian_splice_number, Splits, HoldsFields, IsRead, IsWritten}
 use Rattle.scte35_codec.specs.declared.info.SpliceTime.{SpliceTime}
 use Rattle.scte35_codec.specs.declared.info.InsertBody.{InsertBody}
-use Rattle.scte35_codec.specs.Section.{bodies_of, cancel_fields, Command, Insert, Other, Section, command_fields, StatesLength, section, IsSection, Target, Components, component, target_fields}
-use Rattle.scte35_codec.specs.Writing.{command_length, written_fields, has_section}
+use Rattle.scte35_codec.specs.Section.{bodies_of, cancel_fields, Command, Insert, Other, Section, command_fields, StatesLength, splice_section_fields, IsSection, Target, Components, component, target_fields}
+use Rattle.scte35_codec.specs.Writing.{command_length, written_fields, has_splice_section}
 use Rattle.scte35_codec.specs.Inner.Writing.{Appends}
 use Rattle.scte35_codec.proofs.Fields.{Holds-join}
 use Rattle.scte35_codec.proofs.Takes.{IsBytes-append}
@@ -86,7 +86,7 @@ Splits-read ((w, Is v) ∷ fs) n split = (split.0, Splits-read fs (n % 2 ^ width
 Splits-read ((w, Reserved v) ∷ fs) n split = (tt, Splits-read fs (n % 2 ^ width fs) split.1)
 
 pub Holds-read : (fs : List BitField) (bytes : List ℕ) → HoldsFields IsWritten fs bytes → HoldsFields IsRead fs bytes
-Holds-read fs bytes h = record { count = h.count; split = Splits-read fs (big_endian_number bytes) h.split }
+Holds-read fs bytes h = record { count = h.count; split = Splits-read fs (big_endian_splice_number bytes) h.split }
 
 -- what is written from nothing on
 pub record Made (s : Section) (bytes : List ℕ) : Type 0 where
@@ -101,7 +101,7 @@ stated : (c : Command) (m : ℕ) → 8 * m ≡ width (command_fields c) → Stat
 stated (Insert i) m size = inl (omega arith)
 stated (Other kind bytes) m size = omega (arith, width_of_bytes bytes)
 
-pub made_is : (s : Section) (bytes : List ℕ) → has_section s ≡ true → Made s bytes → IsSection s bytes
+pub made_is : (s : Section) (bytes : List ℕ) → has_splice_section s ≡ true → Made s bytes → IsSection s bytes
 made_is s bytes fit h =
     let n = command_length s in
     let m = length bytes - 20 - length s.descriptors - length s.stuffing in
@@ -110,8 +110,8 @@ made_is s bytes fit h =
       command_length = n;
       stated = stated s.command m size;
       proper = is_proper s.command (kept s fit).command;
-      fields = Holds-read (section s n) bytes h.holds;
+      fields = Holds-read (splice_section_fields s n) bytes h.holds;
     }
 
-pub made_again : (s : Section) (bytes : List ℕ) → has_section s ≡ true → Made s bytes → reading bytes ≡ Ok s
+pub made_again : (s : Section) (bytes : List ℕ) → has_splice_section s ≡ true → Made s bytes → reading bytes ≡ Ok s
 made_again s bytes fit h = is_read bytes s h.fits (made_is s bytes fit h)

@@ -4,7 +4,7 @@ use Rattle.std.proofs.Math.Nat.{div-eq_of_lt, mod-eq_of_lt, pow-suc, mul_comm}
 use Rattle.std.proofs.Math.Pow.{mod-mod-pow}
 use Rattle.std.proofs.lemmas.Nat.{pow-add, shr-shr, field_of, div-mul-add, mod-mul-add, mod_below, pow_pos, mul-add-lt}
 use Rattle.std.proofs.lemmas.List.{length-append}
-use Rattle.scte35_codec.specs.Layout.{Content, BitField, width, big_endian_number, Splits, HoldsFields}
+use Rattle.scte35_codec.specs.Layout.{Content, BitField, width, big_endian_splice_number, Splits, HoldsFields}
 use Rattle.scte35_codec.specs.Layout.{IsBytes}
 use Rattle.scte35_codec.proofs.Numbers.{number-append, number_below}
 
@@ -50,10 +50,10 @@ bytes-bits (suc k) =
     pow-suc 256 k ∙ ap (λ (m : ℕ). m * 256) (bytes-bits k) ∙ sym (pow-add 2 (8 * k) 8) ∙ ap (λ (m : ℕ). 2 ^ m) (sym more)
 
 -- the number of some bytes, in front of others of so many bits
-pub number-two : (xs ys : List ℕ) (w : ℕ) → 8 * length ys ≡ w → big_endian_number (xs ++ ys) ≡ big_endian_number xs * 2 ^ w + big_endian_number ys
+pub number-two : (xs ys : List ℕ) (w : ℕ) → 8 * length ys ≡ w → big_endian_splice_number (xs ++ ys) ≡ big_endian_splice_number xs * 2 ^ w + big_endian_splice_number ys
 number-two xs ys w e = grind (arith, number-append, bytes-bits)
 
-pub number_fits : (xs : List ℕ) (w : ℕ) → IsBytes xs → 8 * length xs ≡ w → big_endian_number xs < 2 ^ w
+pub number_fits : (xs : List ℕ) (w : ℕ) → IsBytes xs → 8 * length xs ≡ w → big_endian_splice_number xs < 2 ^ w
 number_fits xs w fits e = grind (arith, bytes-bits, number_below)
 
 pub Holds-join : (Has : Content → ℕ → Type 0) (fs gs : List BitField) (xs ys : List ℕ) → IsBytes xs → IsBytes ys → HoldsFields Has fs xs → HoldsFields Has gs ys → HoldsFields Has (fs ++ gs) (xs ++ ys)
@@ -61,12 +61,12 @@ Holds-join Has fs gs xs ys x-fits y-fits front back =
     let two = number-two xs ys (width gs) back.count in
     let low = number_fits ys (width gs) y-fits back.count in
     let high = number_fits xs (width fs) x-fits front.count in
-    let quotient : big_endian_number (xs ++ ys) / 2 ^ width gs ≡ big_endian_number xs = rw two (div-mul-add (big_endian_number xs) (2 ^ width gs) (big_endian_number ys) low) in
-    let remainder : big_endian_number (xs ++ ys) % 2 ^ width gs ≡ big_endian_number ys = rw two (mod-mul-add (big_endian_number xs) (2 ^ width gs) (big_endian_number ys) low) in
-    let below : big_endian_number (xs ++ ys) < 2 ^ (width fs + width gs) = rw (two, pow-add 2 (width fs) (width gs), mul_comm (2 ^ width fs) (2 ^ width gs)) (mul-add-lt (big_endian_number xs) (2 ^ width gs) (big_endian_number ys) (2 ^ width fs) high low) in
+    let quotient : big_endian_splice_number (xs ++ ys) / 2 ^ width gs ≡ big_endian_splice_number xs = rw two (div-mul-add (big_endian_splice_number xs) (2 ^ width gs) (big_endian_splice_number ys) low) in
+    let remainder : big_endian_splice_number (xs ++ ys) % 2 ^ width gs ≡ big_endian_splice_number ys = rw two (mod-mul-add (big_endian_splice_number xs) (2 ^ width gs) (big_endian_splice_number ys) low) in
+    let below : big_endian_splice_number (xs ++ ys) < 2 ^ (width fs + width gs) = rw (two, pow-add 2 (width fs) (width gs), mul_comm (2 ^ width fs) (2 ^ width gs)) (mul-add-lt (big_endian_splice_number xs) (2 ^ width gs) (big_endian_splice_number ys) (2 ^ width fs) high low) in
     record {
       count = omega (arith, front.count, back.count, length-append xs ys, width-append fs gs);
-      split = Splits-join Has fs gs (big_endian_number (xs ++ ys)) (subst (λ (k : ℕ). Splits Has fs k) (sym quotient) front.split) (subst (λ (k : ℕ). Splits Has gs k) (sym remainder) back.split) below;
+      split = Splits-join Has fs gs (big_endian_splice_number (xs ++ ys)) (subst (λ (k : ℕ). Splits Has fs k) (sym quotient) front.split) (subst (λ (k : ℕ). Splits Has gs k) (sym remainder) back.split) below;
     }
 
 pub Holds-parts : (Has : Content → ℕ → Type 0) (fs gs : List BitField) (xs ys : List ℕ) → IsBytes xs → IsBytes ys → 8 * length xs ≡ width fs → HoldsFields Has (fs ++ gs) (xs ++ ys) → HoldsFields Has fs xs × HoldsFields Has gs ys
@@ -75,8 +75,8 @@ Holds-parts Has fs gs xs ys x-fits y-fits len whole =
     let two = number-two xs ys (width gs) len-ys in
     let low = number_fits ys (width gs) y-fits len-ys in
     let high = number_fits xs (width fs) x-fits len in
-    let quotient : big_endian_number (xs ++ ys) / 2 ^ width gs ≡ big_endian_number xs = rw two (div-mul-add (big_endian_number xs) (2 ^ width gs) (big_endian_number ys) low) in
-    let remainder : big_endian_number (xs ++ ys) % 2 ^ width gs ≡ big_endian_number ys = rw two (mod-mul-add (big_endian_number xs) (2 ^ width gs) (big_endian_number ys) low) in
-    let below : big_endian_number (xs ++ ys) < 2 ^ (width fs + width gs) = rw (two, pow-add 2 (width fs) (width gs), mul_comm (2 ^ width fs) (2 ^ width gs)) (mul-add-lt (big_endian_number xs) (2 ^ width gs) (big_endian_number ys) (2 ^ width fs) high low) in
-    let parts = Splits-parts Has fs gs (big_endian_number (xs ++ ys)) below whole.split in
+    let quotient : big_endian_splice_number (xs ++ ys) / 2 ^ width gs ≡ big_endian_splice_number xs = rw two (div-mul-add (big_endian_splice_number xs) (2 ^ width gs) (big_endian_splice_number ys) low) in
+    let remainder : big_endian_splice_number (xs ++ ys) % 2 ^ width gs ≡ big_endian_splice_number ys = rw two (mod-mul-add (big_endian_splice_number xs) (2 ^ width gs) (big_endian_splice_number ys) low) in
+    let below : big_endian_splice_number (xs ++ ys) < 2 ^ (width fs + width gs) = rw (two, pow-add 2 (width fs) (width gs), mul_comm (2 ^ width fs) (2 ^ width gs)) (mul-add-lt (big_endian_splice_number xs) (2 ^ width gs) (big_endian_splice_number ys) (2 ^ width fs) high low) in
+    let parts = Splits-parts Has fs gs (big_endian_splice_number (xs ++ ys)) below whole.split in
     (record { count = len; split = subst (λ (k : ℕ). Splits Has fs k) quotient parts.0 }, record { count = len-ys; split = subst (λ (k : ℕ). Splits Has gs k) remainder parts.1 })

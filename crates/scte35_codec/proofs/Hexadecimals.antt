@@ -18,7 +18,7 @@ use Rattle.scte35_codec.specs.Section.{Section, section_of, IsSection}
 use Rattle.scte35_codec.proofs.Takes.{bind_ok}
 use Rattle.scte35_codec.proofs.Whole.{reading_is, is_read}
 use Rattle.scte35_codec.specs.Layout.{IsBytes}
-use Rattle.scte35_codec.specs.Reading.{GivesOrSpliceFault, number_in, reading}
+use Rattle.scte35_codec.specs.Reading.{GivesOrSpliceFault, splice_number_in, reading}
 use Rattle.scte35_codec.specs.Hexadecimal.{are_pairs, hex_bytes, reading_hex}
 use Rattle.scte35_codec.specs.Inner.Hexadecimal.{reading_digits}
 
@@ -33,7 +33,7 @@ all_digits (c ∷ cs) h =
     and_from (is_hex_digit c) (list_all is_hex_digit cs) (digit-same c both.0) (all_digits cs both.1)
 
 -- more bytes than a section can have are refused for what is in the first three
-long_reading : (xs : List ℕ) → 4099 ≤ length xs → reading xs ≡ cond (not (eqb (number_in 0 1 xs) 0xFC)) (Err TableId) (Err Length)
+long_reading : (xs : List ℕ) → 4099 ≤ length xs → reading xs ≡ cond (not (eqb (splice_number_in 0 1 xs) 0xFC)) (Err TableId) (Err Length)
 unfolding reading
 long_reading xs long = grind arith
 

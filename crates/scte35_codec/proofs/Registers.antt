@@ -7,40 +7,40 @@ use Rattle.std.proofs.lemmas.Nat.{shr-shr, shl-shr, field_of, mod_below, xor_lt}
 use Rattle.std.proofs.lemmas.Grind.{flat_map-append}
 use Rattle.std.proofs.Math.Nat.{mod-eq_of_lt}
 use Rattle.std.proofs.Math.Pow.{mod-mod-pow}
-use Rattle.scte35_codec.specs.Reading.{bit}
+use Rattle.scte35_codec.specs.Reading.{splice_bit}
 use Rattle.scte35_codec.proofs.Fields.{bytes-bits}
 use Rattle.scte35_codec.proofs.Appends.{byte_is}
-use Rattle.scte35_codec.specs.Crc.{lowest_bits, bits_of, polynomial, moved_up, differ, after_bit, crc_of}
+use Rattle.scte35_codec.specs.Crc.{lowest_bits, bits_of, polynomial, moved_up, differ, crc_after_bit, crc_of}
 
 -- the register after bytes, each of them with its bits
 abbrev after_byte : ℕ → ℕ → ℕ
-after_byte register b = fold after_bit register (lowest_bits 8 b)
+after_byte register b = fold crc_after_bit register (lowest_bits 8 b)
 
-after_all : (register : ℕ) (bytes : List ℕ) → fold after_byte register bytes ≡ fold after_bit register (bits_of bytes)
+after_all : (register : ℕ) (bytes : List ℕ) → fold after_byte register bytes ≡ fold crc_after_bit register (bits_of bytes)
 unfolding bits_of
 after_all register [] = refl
 after_all register (b ∷ bytes) = grind (arith, after_all (after_byte register b) bytes, fold-append)
 
-pub crc_by_bytes : (bytes : List ℕ) → crc_of bytes ≡ fold (λ register b. fold after_bit register (lowest_bits 8 b)) 0xFFFFFFFF bytes
+pub crc_by_bytes : (bytes : List ℕ) → crc_of bytes ≡ fold (λ register b. fold crc_after_bit register (lowest_bits 8 b)) 0xFFFFFFFF bytes
 unfolding crc_of
 crc_by_bytes bytes = sym (after_all 0xFFFFFFFF bytes)
 
 -- one bit more
 pub bit_goes : (register left b : ℕ) → 0 < left
-    → fold after_bit register (lowest_bits left b) ≡ fold after_bit (after_bit register (bit (left - 1) b)) (lowest_bits (left - 1) b)
+    → fold crc_after_bit register (lowest_bits left b) ≡ fold crc_after_bit (crc_after_bit register (splice_bit (left - 1) b)) (lowest_bits (left - 1) b)
 unfolding lowest_bits
 bit_goes register left b some = grind arith
 
-pub no_bits : (register left b : ℕ) → left ≡ 0 → fold after_bit register (lowest_bits left b) ≡ register
+pub no_bits : (register left b : ℕ) → left ≡ 0 → fold crc_after_bit register (lowest_bits left b) ≡ register
 unfolding lowest_bits
 no_bits register zero b none = refl
 no_bits register (suc k) b none = absurd (omega arith)
 
 -- ---- The register has 32 bits
 
-bit_below : (register : ℕ) (comes : Bool) → after_bit register comes < 2 ^ 32
-unfolding after_bit
-bit_below register comes = by_cases (differ comes (bit 31 register))
+bit_below : (register : ℕ) (comes : Bool) → crc_after_bit register comes < 2 ^ 32
+unfolding crc_after_bit
+bit_below register comes = by_cases (differ comes (splice_bit 31 register))
   where
     below : moved_up register < 2 ^ 32
     below = mod_below (register * 2) (2 ^ 32) (omega arith)
@@ -49,9 +49,9 @@ bit_below register comes = by_cases (differ comes (bit 31 register))
     by_cases true = xor_lt 32 (moved_up register) polynomial below (lit< tt)
     by_cases false = below
 
-fold_below : (register : ℕ) (bits : List Bool) → register < 2 ^ 32 → fold after_bit register bits < 2 ^ 32
+fold_below : (register : ℕ) (bits : List Bool) → register < 2 ^ 32 → fold crc_after_bit register bits < 2 ^ 32
 fold_below register [] below = below
-fold_below register (b ∷ bits) below = fold_below (after_bit register b) bits (bit_below register b)
+fold_below register (b ∷ bits) below = fold_below (crc_after_bit register b) bits (bit_below register b)
 
 pub crc_below : (bytes : List ℕ) → crc_of bytes < 2 ^ 32
 unfolding crc_of
@@ -59,7 +59,7 @@ crc_below bytes = fold_below 0xFFFFFFFF (bits_of bytes) (lit< tt)
 
 -- ---- The bits of a number's bytes are its own
 
-bit_mod : (p d t n : ℕ) → suc d + p ≡ t → bit p (n % 2 ^ t) ≡ bit p n
+bit_mod : (p d t n : ℕ) → suc d + p ≡ t → splice_bit p (n % 2 ^ t) ≡ splice_bit p n
 bit_mod p d t n e =
     let wide : n % 2 ^ t ≡ n % 2 ^ (suc d + p) = ap (λ (k : ℕ). n % 2 ^ k) (sym e) in
     let part : n % 2 ^ (suc d + p) / 2 ^ p ≡ n / 2 ^ p % 2 ^ suc d = field_of n (suc d) p in
@@ -72,7 +72,7 @@ lowest_mod : (a d t n : ℕ) → a + d ≡ t → lowest_bits a (n % 2 ^ t) ≡ l
 unfolding lowest_bits
 lowest_mod zero d t n e = refl
 lowest_mod (suc a) d t n e =
-    let first : bit a (n % 2 ^ t) ≡ bit a n = bit_mod a d t n (omega arith) in
+    let first : splice_bit a (n % 2 ^ t) ≡ splice_bit a n = bit_mod a d t n (omega arith) in
     let others : lowest_bits a (n % 2 ^ t) ≡ lowest_bits a n = lowest_mod a (suc d) t n (omega arith) in
     rw (first, others) refl
 
@@ -83,7 +83,7 @@ lowest_parts (suc a) k n =
     let more : suc a + k ≡ suc (a + k) = omega arith in
     let turned : k + a ≡ a + k = omega arith in
     let place : n / 2 ^ k / 2 ^ a ≡ n / 2 ^ (a + k) = shr-shr n k a ∙ ap (λ (m : ℕ). n / 2 ^ m) turned in
-    let first : bit (a + k) n ≡ bit a (n / 2 ^ k) = ap (λ (m : ℕ). m % 2 == 1) (sym place) in
+    let first : splice_bit (a + k) n ≡ splice_bit a (n / 2 ^ k) = ap (λ (m : ℕ). m % 2 == 1) (sym place) in
     rw (more, first, lowest_parts a k n) refl
 
 bits_high : (k n : ℕ) → bits_of (bytes_high_first k n) ≡ lowest_bits (8 * k) n
@@ -104,12 +104,12 @@ same_bit true = refl
 same_bit false = refl
 
 -- the bit that comes is the one that leaves
-just_moves : (register : ℕ) (b : Bool) → bit 31 register ≡ b → after_bit register b ≡ moved_up register
-unfolding after_bit
+just_moves : (register : ℕ) (b : Bool) → splice_bit 31 register ≡ b → crc_after_bit register b ≡ moved_up register
+unfolding crc_after_bit
 just_moves register b e = rw (e, same_bit b) refl
 
 -- a number of 32 bits, moved up by some, has the next one as its highest
-highest : (n j k : ℕ) → j + suc k ≡ 32 → bit 31 (n * 2 ^ j % 2 ^ 32) ≡ bit k n
+highest : (n j k : ℕ) → j + suc k ≡ 32 → splice_bit 31 (n * 2 ^ j % 2 ^ 32) ≡ splice_bit k n
 highest n j k e =
     let place : j + k ≡ 31 = omega arith in
     let back : n * 2 ^ j / 2 ^ 31 ≡ n / 2 ^ k = ap (λ (m : ℕ). n * 2 ^ j / 2 ^ m) (sym place) ∙ sym (shr-shr (n * 2 ^ j) j k) ∙ ap (λ (m : ℕ). m / 2 ^ k) (shl-shr n j) in
@@ -119,15 +119,15 @@ goes_up : (n j : ℕ) → moved_up (n * 2 ^ j % 2 ^ 32) ≡ n * 2 ^ suc j % 2 ^ 
 goes_up n j = grind arith
 
 -- the bits of the register itself push it out
-pushed_out : (n j k : ℕ) → j + k ≡ 32 → fold after_bit (n * 2 ^ j % 2 ^ 32) (lowest_bits k n) ≡ 0
+pushed_out : (n j k : ℕ) → j + k ≡ 32 → fold crc_after_bit (n * 2 ^ j % 2 ^ 32) (lowest_bits k n) ≡ 0
 unfolding lowest_bits
 pushed_out n j zero e = grind arith
 pushed_out n j (suc k) e = grind (arith, pushed_out n (suc j) k (omega arith), goes_up, highest, just_moves)
 
-its_bits : (n : ℕ) → n < 2 ^ 32 → fold after_bit n (bits_of (bytes_high_first 4 n)) ≡ 0
+its_bits : (n : ℕ) → n < 2 ^ 32 → fold crc_after_bit n (bits_of (bytes_high_first 4 n)) ≡ 0
 its_bits n below =
     let whole : n * 2 ^ 0 % 2 ^ 32 ≡ n = ap (λ (m : ℕ). m % 2 ^ 32) (omega arith) ∙ mod-eq_of_lt below in
-    ap (fold after_bit n) (bits_high 4 n) ∙ ap (λ (r : ℕ). fold after_bit r (lowest_bits 32 n)) (sym whole) ∙ pushed_out n 0 32 refl
+    ap (fold crc_after_bit n) (bits_high 4 n) ∙ ap (λ (r : ℕ). fold crc_after_bit r (lowest_bits 32 n)) (sym whole) ∙ pushed_out n 0 32 refl
 
 pub crc_is_zero : (bytes : List ℕ) → crc_of (bytes ++ bytes_high_first 4 (crc_of bytes)) ≡ 0
 unfolding crc_of bits_of

@@ -5,8 +5,8 @@ use Rattle.std.proofs.lemmas.List.{length-append, length-take, take-append-drop,
 use Rattle.scte35_codec.specs.declared.fault.SpliceFault.{SpliceFault}
 use Rattle.scte35_codec.specs.declared.fault.SpliceFault.TheVariants.{CommandLength}
 use Rattle.scte35_codec.specs.Layout.{Content, BitField, Is, width, bytes_of, HoldsFields, IsRead}
-use Rattle.scte35_codec.specs.Section.{SpliceEvent, Command, Insert, Other, splice_insert, command_fields, command_type, IsProper, StatesLength}
-use Rattle.scte35_codec.specs.Writing.{command_fits}
+use Rattle.scte35_codec.specs.Section.{SpliceEvent, Command, Insert, Other, splice_insert, command_fields, type_of_splice_command, IsProper, StatesLength}
+use Rattle.scte35_codec.specs.Writing.{splice_command_fits}
 use Rattle.spec_words.specs.Outcomes.{◌>>=◌}
 use Rattle.scte35_codec.specs.Reading.{bytes_at, insert_at, whole_insert_at, unmeasured_at, measured_of, command_at}
 use Rattle.scte35_codec.specs.Layout.{IsBytes}
@@ -50,9 +50,9 @@ bytes_taken count bytes fits = record {
 
 pub record TakesCommand (command_length kind : ℕ) (c : Command) (bytes rest : List ℕ) : Type 0 where
   pub takes : Takes (command_fields c) bytes rest
-  pub type_is : command_type c ≡ kind
+  pub type_is : type_of_splice_command c ≡ kind
   pub stated : StatesLength c command_length
-  pub small : command_fits c ≡ true
+  pub small : splice_command_fits c ≡ true
 
 pub passed : {A : Type 0} (b : Bool) (d : SpliceFault) (r : Result A SpliceFault) (y : A) → cond b (Err d) r ≡ Ok y → (b ≡ false) × (r ≡ Ok y)
 passed true d r y e = absurd cc
@@ -146,7 +146,7 @@ measured_insert_again false i command_length after bytes is proper size lies =
     record { rest = drop command_length bytes; is = rw (is, short, w) refl; lies = p.1.1 }
 
 pub command_again : (c : Command) (command_length : ℕ) (after : List BitField) (bytes : List ℕ) → StatesLength c command_length → IsProper c → width (command_fields c) < 32760 → Lies (command_fields c ++ after) bytes
-    → Again (command_at command_length (command_type c) bytes) c after
+    → Again (command_at command_length (type_of_splice_command c) bytes) c after
 unfolding command_at measured_of
 command_again (Insert i) command_length after bytes (inl size) proper small lies = measured_insert_again (eqb command_length 0xFFF) i command_length after bytes refl proper size lies
 command_again (Insert i) command_length after bytes (inr said) proper small lies = grind (arith, unmeasured_again)

@@ -4,8 +4,8 @@ use Rattle.std.proofs.lemmas.Bool.{cases_lt, ltb-false, le-ltb}
 use Rattle.std.proofs.lemmas.List.{length-take, length-drop, take-append-drop, take-take, get_or_append_left, get_or-append_right}
 use Rattle.scte35_codec.specs.declared.fault.SpliceFault.{SpliceFault}
 use Rattle.scte35_codec.specs.declared.fault.SpliceFault.TheVariants.{CommandLength}
-use Rattle.scte35_codec.specs.Layout.{BitField, width, big_endian_number, Splits, HoldsFields, IsRead}
-use Rattle.scte35_codec.specs.Section.{flag}
+use Rattle.scte35_codec.specs.Layout.{BitField, width, big_endian_splice_number, Splits, HoldsFields, IsRead}
+use Rattle.scte35_codec.specs.Section.{splice_flag}
 use Rattle.spec_words.specs.Outcomes.{◌>>=◌}
 use Rattle.scte35_codec.specs.Reading.{number_at}
 use Rattle.scte35_codec.specs.Layout.{IsBytes}
@@ -30,14 +30,14 @@ ok_is x y e = cc
 
 -- ---- Flags
 
-flag_by : (m k : ℕ) (b : Bool) → eqb (k % 2) 1 ≡ b → m < 2 → k % 2 ≡ m → m ≡ flag b
+flag_by : (m k : ℕ) (b : Bool) → eqb (k % 2) 1 ≡ b → m < 2 → k % 2 ≡ m → m ≡ splice_flag b
 flag_by m k b e lt same = grind arith
 
 -- a bit as the test of it
-pub flag-test : (m k : ℕ) → m < 2 → k % 2 ≡ m → m ≡ flag (eqb (k % 2) 1)
+pub flag-test : (m k : ℕ) → m < 2 → k % 2 ≡ m → m ≡ splice_flag (eqb (k % 2) 1)
 flag-test m k lt same = flag_by m k (eqb (k % 2) 1) refl lt same
 
-pub test-flag : (k : ℕ) (b : Bool) → k % 2 ≡ flag b → eqb (k % 2) 1 ≡ b
+pub test-flag : (k : ℕ) (b : Bool) → k % 2 ≡ splice_flag b → eqb (k % 2) 1 ≡ b
 test-flag k true e = rw e refl
 test-flag k false e = rw e refl
 
@@ -68,7 +68,7 @@ pub record IsNumber (count : ℕ) (bytes : List ℕ) (n : ℕ) (rest : List ℕ)
   pub front : List ℕ
   pub whole : bytes ≡ front ++ rest
   pub len : length front ≡ count
-  pub value : big_endian_number front ≡ n
+  pub value : big_endian_splice_number front ≡ n
   pub below : n < 2 ^ (8 * count)
   pub front_fits : IsBytes front
   pub rest_fits : IsBytes rest
@@ -115,7 +115,7 @@ group_again count fields after bytes size lies =
     let p = parts count fields after bytes size lies in
     let short : ltb (length bytes) count ≡ false = le-ltb _ _ p.0 in
     record {
-      value = big_endian_number (take count bytes);
+      value = big_endian_splice_number (take count bytes);
       split = p.1.0.holds.split;
       below = number_fits (take count bytes) (8 * count) p.1.0.fits (p.1.0.holds.count ∙ sym size);
       long = p.0;
@@ -125,16 +125,16 @@ group_again count fields after bytes size lies =
 -- the highest of five bytes
 pub first_of_five : (bytes : List ℕ) (n : ℕ) (rest : List ℕ) → IsBytes bytes → number_at 5 bytes ≡ Ok (n, rest) → (after : List ℕ) × (number_at 1 bytes ≡ Ok (n / 2 ^ 32, after))
 first_of_five bytes n rest fits e =
-    let g = guard_ok (ltb (length bytes) 5) CommandLength (big_endian_number (take 5 bytes), drop 5 bytes) (n, rest) e in
+    let g = guard_ok (ltb (length bytes) 5) CommandLength (big_endian_splice_number (take 5 bytes), drop 5 bytes) (n, rest) e in
     let long : 5 ≤ length bytes = ltb-false _ _ g.0 in
-    let n-is : big_endian_number (take 5 bytes) ≡ n = ap (λ (p : ℕ × List ℕ). p.0) g.1 in
+    let n-is : big_endian_splice_number (take 5 bytes) ≡ n = ap (λ (p : ℕ × List ℕ). p.0) g.1 in
     let short : ltb (length bytes) 1 ≡ false = le-ltb _ _ (omega arith) in
     let front = take 5 bytes in
     let fits5 = IsBytes-take 5 bytes fits in
     let len : length front ≡ 5 = omega (arith, length-take 5 bytes) in
     let len4 : 8 * length (drop 1 front) ≡ 32 = omega (arith, length-drop 1 front) in
-    let two : big_endian_number front ≡ big_endian_number (take 1 front) * 2 ^ 32 + big_endian_number (drop 1 front) = ap big_endian_number (sym (take-append-drop 1 front)) ∙ number-two (take 1 front) (drop 1 front) 32 len4 in
+    let two : big_endian_splice_number front ≡ big_endian_splice_number (take 1 front) * 2 ^ 32 + big_endian_splice_number (drop 1 front) = ap big_endian_splice_number (sym (take-append-drop 1 front)) ∙ number-two (take 1 front) (drop 1 front) 32 len4 in
     let low = number_fits (drop 1 front) 32 (IsBytes-drop 1 front fits5) len4 in
-    let high : big_endian_number (take 1 front) ≡ n / 2 ^ 32 = omega arith in
-    let same : big_endian_number (take 1 bytes) ≡ big_endian_number (take 1 front) = ap big_endian_number (sym (take-take 1 5 bytes (omega arith))) in
+    let high : big_endian_splice_number (take 1 front) ≡ n / 2 ^ 32 = omega arith in
+    let same : big_endian_splice_number (take 1 bytes) ≡ big_endian_splice_number (take 1 front) = ap big_endian_splice_number (sym (take-take 1 5 bytes (omega arith))) in
     (drop 1 bytes, rw short (ap (λ (k : ℕ). Ok (k, drop 1 bytes)) (same ∙ high)))

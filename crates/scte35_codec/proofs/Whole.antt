@@ -4,17 +4,17 @@ use Rattle.std.proofs.lemmas.Bool.{ltb-false, le-ltb, eqb-true, eqb-false, not-f
 use Rattle.std.proofs.lemmas.List.{length-take, length-drop, take-append-drop, drop-drop, append-nil}
 use Rattle.scte35_codec.specs.declared.fault.SpliceFault.{SpliceFault}
 use Rattle.scte35_codec.specs.declared.fault.SpliceFault.TheVariants.{CommandLength}
-use Rattle.scte35_codec.specs.Layout.{BitField, Is, Reserved, width, bytes_of, big_endian_number, Splits, HoldsFields, IsRead}
-use Rattle.scte35_codec.specs.Section.{Command, Section, command_fields, command_type, after_length, section, IsProper, StatesLength, IsSection}
+use Rattle.scte35_codec.specs.Layout.{BitField, Is, Reserved, width, bytes_of, big_endian_splice_number, Splits, HoldsFields, IsRead}
+use Rattle.scte35_codec.specs.Section.{Command, Section, command_fields, type_of_splice_command, after_length, splice_section_fields, IsProper, StatesLength, IsSection}
 use Rattle.std.specs.Prelude.{IfOk, ◌&&◌, nat_le}
 use Rattle.std.proofs.lemmas.Grind.{common_steps}
 use Rattle.std.proofs.lemmas.Bool.Decides.{nat_tests}
 use Rattle.scte35_codec.specs.declared.info.SpliceInfo.{SpliceInfo}
 use Rattle.scte35_codec.specs.Section.{section_of}
-use Rattle.scte35_codec.specs.Writing.{fits_bits, command_fits, command_length, section_length, has_section}
+use Rattle.scte35_codec.specs.Writing.{fits_bits, splice_command_fits, command_length, splice_section_length, has_splice_section}
 use Rattle.scte35_codec.proofs.Fits.{is_proper}
 use Rattle.spec_words.specs.Outcomes.{◌>>=◌}
-use Rattle.scte35_codec.specs.Reading.{GivesOrSpliceFault, number_in, bit, bytes_at, number_at, command_at, ending_at, tail_at, contents_of, reading}
+use Rattle.scte35_codec.specs.Reading.{GivesOrSpliceFault, splice_number_in, splice_bit, bytes_at, number_at, command_at, ending_at, tail_at, contents_of, reading}
 use Rattle.scte35_codec.specs.Layout.{IsBytes}
 use Rattle.scte35_codec.proofs.Numbers.{IsBytes-drop, IsBytes-take}
 use Rattle.scte35_codec.proofs.Fields.{width-append, number_fits}
@@ -36,13 +36,13 @@ ending_takes : (bytes st : List ℕ) (crc : ℕ) → IsBytes bytes → ending_at
 unfolding ending_at
 ending_takes bytes st crc fits e =
     let n = length bytes - 4 in
-    let g = guard_ok (ltb (length bytes) 4) CommandLength (take n bytes, big_endian_number (drop n bytes)) (st, crc) e in
+    let g = guard_ok (ltb (length bytes) 4) CommandLength (take n bytes, big_endian_splice_number (drop n bytes)) (st, crc) e in
     let long : 4 ≤ length bytes = ltb-false _ _ g.0 in
     let rest = drop n bytes in
     let rest_fits = IsBytes-drop n bytes fits in
     let len : 8 * length rest ≡ 32 = omega (arith, length-drop n bytes) in
-    let below : big_endian_number rest < 2 ^ 32 = number_fits rest 32 rest_fits len in
-    let last : Takes (crc_fields (big_endian_number rest)) rest [] = record {
+    let below : big_endian_splice_number rest < 2 ^ 32 = number_fits rest 32 rest_fits len in
+    let last : Takes (crc_fields (big_endian_splice_number rest)) rest [] = record {
       front = rest;
       whole = sym (append-nil rest);
       front_fits = rest_fits;
@@ -50,7 +50,7 @@ ending_takes bytes st crc fits e =
       holds = record { count = len; split = (omega arith, omega arith) };
     } in
     subst (λ (p : List ℕ × ℕ). Takes (bytes_of p.0 ++ crc_fields p.1) bytes []) g.1
-    (Takes-then (bytes_of (take n bytes)) (crc_fields (big_endian_number rest)) bytes rest [] (bytes_taken n bytes fits) last)
+    (Takes-then (bytes_of (take n bytes)) (crc_fields (big_endian_splice_number rest)) bytes rest [] (bytes_taken n bytes fits) last)
 
 abbrev Tail : Type 0
 Tail = List ℕ × List ℕ × ℕ
@@ -88,7 +88,7 @@ ending_again st crc bytes lies =
     let n : length bytes - 4 ≡ length st = omega arith in
     let p = parts (length st) (bytes_of st) (crc_fields crc) bytes (sym (width_of_bytes st)) lies in
     let front : take (length st) bytes ≡ st = bytes_are st (take (length st) bytes) p.1.0 in
-    let last : big_endian_number (drop (length st) bytes) ≡ crc = omega (arith, p.1.1.holds.split.0) in
+    let last : big_endian_splice_number (drop (length st) bytes) ≡ crc = omega (arith, p.1.1.holds.split.0) in
     rw (short, n, front, last) refl
 
 tail_again : (ds st : List ℕ) (crc : ℕ) (bytes : List ℕ) → Lies (tail_fields ds st crc) bytes → tail_at bytes ≡ Ok (ds, st, crc)
@@ -105,7 +105,7 @@ tail_again ds st crc bytes lies =
 
 -- ---- Fields at a place
 
-at_takes : (start count : ℕ) (fields : List BitField) (bytes : List ℕ) → IsBytes bytes → start + count ≤ length bytes → 8 * count ≡ width fields → Splits IsRead fields (number_in start count bytes) → Takes fields (drop start bytes) (drop (start + count) bytes)
+at_takes : (start count : ℕ) (fields : List BitField) (bytes : List ℕ) → IsBytes bytes → start + count ≤ length bytes → 8 * count ≡ width fields → Splits IsRead fields (splice_number_in start count bytes) → Takes fields (drop start bytes) (drop (start + count) bytes)
 at_takes start count fields bytes fits long size split =
     let here = drop start bytes in
     let here_fits = IsBytes-drop start bytes fits in
@@ -119,8 +119,8 @@ at_takes start count fields bytes fits long size split =
     }
 
 record At (start count : ℕ) (fields after : List BitField) (bytes : List ℕ) : Type 0 where
-  pub split : Splits IsRead fields (number_in start count bytes)
-  pub below : number_in start count bytes < 2 ^ (8 * count)
+  pub split : Splits IsRead fields (splice_number_in start count bytes)
+  pub below : splice_number_in start count bytes < 2 ^ (8 * count)
   pub lies : Lies after (drop (start + count) bytes)
 
 at_again : (start count : ℕ) (fields after : List BitField) (bytes : List ℕ) → 8 * count ≡ width fields → Lies (fields ++ after) (drop start bytes) → At start count fields after bytes
@@ -153,7 +153,7 @@ abbrev tier_fields : ℕ → ℕ → List BitField
 tier_fields tier n = (12, Is tier) ∷ (12, Is n) ∷ []
 
 abbrev begins : Section → ℕ → List BitField
-begins s n = protocol_fields ++ adjustment_fields s.pts_adjustment ++ byte_fields s.cw_index ++ tier_fields s.tier n ++ byte_fields (command_type s.command)
+begins s n = protocol_fields ++ adjustment_fields s.pts_adjustment ++ byte_fields s.cw_index ++ tier_fields s.tier n ++ byte_fields (type_of_splice_command s.command)
 
 after-regrouped : (s : Section) (n : ℕ) → begins s n ++ command_fields s.command ++ tail_fields s.descriptors s.stuffing s.crc ≡ after_length s n
 unfolding after_length
@@ -163,14 +163,14 @@ pub width-after : (s : Section) (n : ℕ) → width (after_length s n) ≡ 136 +
 unfolding after_length
 width-after s n = grind (arith, width-append, width_of_bytes)
 
-below_at : (start count : ℕ) (bytes : List ℕ) → IsBytes bytes → start + count ≤ length bytes → number_in start count bytes < 2 ^ (8 * count)
+below_at : (start count : ℕ) (bytes : List ℕ) → IsBytes bytes → start + count ≤ length bytes → splice_number_in start count bytes < 2 ^ (8 * count)
 below_at start count bytes fits long = grind (arith, common_steps, nat_tests, length-drop, length-take, number_fits)
 
 abbrev made_of : List ℕ → Command → Tail → Section
 made_of bytes command tail = record {
-  pts_adjustment = number_in 4 5 bytes % 2 ^ 33;
-  cw_index = number_in 9 1 bytes;
-  tier = number_in 10 3 bytes / 2 ^ 12;
+  pts_adjustment = splice_number_in 4 5 bytes % 2 ^ 33;
+  cw_index = splice_number_in 9 1 bytes;
+  tier = splice_number_in 10 3 bytes / 2 ^ 12;
   command = command;
   descriptors = tail.0;
   stuffing = tail.1;
@@ -178,46 +178,46 @@ made_of bytes command tail = record {
 }
 
 -- the bytes from the fourth to the command
-head_takes : (bytes : List ℕ) (s : Section) → IsBytes bytes → 20 ≤ length bytes → number_in 3 1 bytes ≡ 0 → bit 39 (number_in 4 5 bytes) ≡ false
-    → s.pts_adjustment ≡ number_in 4 5 bytes % 2 ^ 33 → s.cw_index ≡ number_in 9 1 bytes → s.tier ≡ number_in 10 3 bytes / 2 ^ 12 → command_type s.command ≡ number_in 13 1 bytes
-    → Takes (begins s (number_in 10 3 bytes % 2 ^ 12)) (drop 3 bytes) (drop 14 bytes)
+head_takes : (bytes : List ℕ) (s : Section) → IsBytes bytes → 20 ≤ length bytes → splice_number_in 3 1 bytes ≡ 0 → splice_bit 39 (splice_number_in 4 5 bytes) ≡ false
+    → s.pts_adjustment ≡ splice_number_in 4 5 bytes % 2 ^ 33 → s.cw_index ≡ splice_number_in 9 1 bytes → s.tier ≡ splice_number_in 10 3 bytes / 2 ^ 12 → type_of_splice_command s.command ≡ splice_number_in 13 1 bytes
+    → Takes (begins s (splice_number_in 10 3 bytes % 2 ^ 12)) (drop 3 bytes) (drop 14 bytes)
 head_takes bytes s fits long protocol clear pts cw tier kind =
-    let n5 = number_in 4 5 bytes in
+    let n5 = splice_number_in 4 5 bytes in
     let below5 : n5 < 2 ^ 40 = below_at 4 5 bytes fits (omega arith) in
     let not_one = eqb-false (n5 / 2 ^ 39 % 2) 1 clear in
     let high : n5 / 2 ^ 39 ≡ 0 = elim (cases_lt (n5 / 2 ^ 39) 1) [ inl lt ↦ omega arith | inr ge ↦ absurd (not_one (omega arith)) ] in
-    let n3 = number_in 10 3 bytes in
+    let n3 = splice_number_in 10 3 bytes in
     let below3 : n3 < 2 ^ 24 = below_at 10 3 bytes fits (omega arith) in
     let a1 = at_takes 3 1 protocol_fields bytes fits (omega arith) refl (omega arith, omega arith) in
     let a2 = at_takes 4 5 (adjustment_fields s.pts_adjustment) bytes fits (omega arith) refl (high, (tt, (omega arith, omega arith))) in
     let a3 = at_takes 9 1 (byte_fields s.cw_index) bytes fits (omega arith) refl (omega arith, omega arith) in
     let a4 = at_takes 10 3 (tier_fields s.tier (n3 % 2 ^ 12)) bytes fits (omega arith) refl (sym tier, (omega arith, omega arith)) in
-    let a5 = at_takes 13 1 (byte_fields (command_type s.command)) bytes fits (omega arith) refl (omega arith, omega arith) in
+    let a5 = at_takes 13 1 (byte_fields (type_of_splice_command s.command)) bytes fits (omega arith) refl (omega arith, omega arith) in
     let b2 = Takes-then protocol_fields (adjustment_fields s.pts_adjustment) (drop 3 bytes) (drop 4 bytes) (drop 9 bytes) a1 a2 in
     let b3 = Takes-then (protocol_fields ++ adjustment_fields s.pts_adjustment) (byte_fields s.cw_index) (drop 3 bytes) (drop 9 bytes) (drop 10 bytes) b2 a3 in
     let b4 = Takes-then (protocol_fields ++ adjustment_fields s.pts_adjustment ++ byte_fields s.cw_index) (tier_fields s.tier (n3 % 2 ^ 12)) (drop 3 bytes) (drop 10 bytes) (drop 13 bytes) b3 a4 in
-    Takes-then (protocol_fields ++ adjustment_fields s.pts_adjustment ++ byte_fields s.cw_index ++ tier_fields s.tier (n3 % 2 ^ 12)) (byte_fields (command_type s.command)) (drop 3 bytes) (drop 13 bytes) (drop 14 bytes) b4 a5
+    Takes-then (protocol_fields ++ adjustment_fields s.pts_adjustment ++ byte_fields s.cw_index ++ tier_fields s.tier (n3 % 2 ^ 12)) (byte_fields (type_of_splice_command s.command)) (drop 3 bytes) (drop 13 bytes) (drop 14 bytes) b4 a5
 
 -- the whole, if all after section_length is there
-whole_is : (s : Section) (n : ℕ) (bytes : List ℕ) → IsBytes bytes → 20 ≤ length bytes → number_in 0 1 bytes ≡ 0xFC → number_in 1 2 bytes % 2 ^ 12 + 3 ≡ length bytes
-    → Takes (after_length s n) (drop 3 bytes) [] → HoldsFields IsRead (section s n) bytes
-unfolding section
+whole_is : (s : Section) (n : ℕ) (bytes : List ℕ) → IsBytes bytes → 20 ≤ length bytes → splice_number_in 0 1 bytes ≡ 0xFC → splice_number_in 1 2 bytes % 2 ^ 12 + 3 ≡ length bytes
+    → Takes (after_length s n) (drop 3 bytes) [] → HoldsFields IsRead (splice_section_fields s n) bytes
+unfolding splice_section_fields
 whole_is s n bytes fits long table said after =
     let size : 8 * length (drop 3 bytes) ≡ width (after_length s n) = whole_width (after_length s n) (drop 3 bytes) after in
     let counted = width (after_length s n) / 8 in
-    let is : number_in 1 2 bytes % 2 ^ 12 ≡ counted = omega (arith, length-drop 3 bytes) in
+    let is : splice_number_in 1 2 bytes % 2 ^ 12 ≡ counted = omega (arith, length-drop 3 bytes) in
     let a1 = at_takes 0 1 table_fields bytes fits (omega arith) refl (omega arith, omega arith) in
     let a2 = at_takes 1 2 (length_fields counted) bytes fits (omega arith) refl (tt, (tt, (tt, (omega arith, omega arith)))) in
     let b2 = Takes-then table_fields (length_fields counted) bytes (drop 1 bytes) (drop 3 bytes) a1 a2 in
     let all = Takes-then (table_fields ++ length_fields counted) (after_length s n) bytes (drop 3 bytes) [] b2 after in
-    subst (λ (x : List ℕ). HoldsFields IsRead (section s n) x) (sym (all.whole ∙ append-nil all.front)) all.holds
+    subst (λ (x : List ℕ). HoldsFields IsRead (splice_section_fields s n) x) (sym (all.whole ∙ append-nil all.front)) all.holds
 
-contents_are : (bytes : List ℕ) (s : Section) → IsBytes bytes → 20 ≤ length bytes → number_in 0 1 bytes ≡ 0xFC → number_in 1 2 bytes % 2 ^ 12 + 3 ≡ length bytes
-    → number_in 3 1 bytes ≡ 0 → bit 39 (number_in 4 5 bytes) ≡ false → contents_of bytes ≡ Ok s → IsSection s bytes × (command_fits s.command ≡ true)
+contents_are : (bytes : List ℕ) (s : Section) → IsBytes bytes → 20 ≤ length bytes → splice_number_in 0 1 bytes ≡ 0xFC → splice_number_in 1 2 bytes % 2 ^ 12 + 3 ≡ length bytes
+    → splice_number_in 3 1 bytes ≡ 0 → splice_bit 39 (splice_number_in 4 5 bytes) ≡ false → contents_of bytes ≡ Ok s → IsSection s bytes × (splice_command_fits s.command ≡ true)
 unfolding contents_of
 contents_are bytes s fits long table said protocol clear e =
-    let n = number_in 10 3 bytes % 2 ^ 12 in
-    let kind = number_in 13 1 bytes in
+    let n = splice_number_in 10 3 bytes % 2 ^ 12 in
+    let kind = splice_number_in 13 1 bytes in
     let c = bind_ok (command_at n kind (drop 14 bytes)) (λ command. tail_at command.1 >>= λ tail. Ok (made_of bytes command.0 tail)) s e in
     let t = bind_ok (tail_at c.0.1) (λ tail. Ok (made_of bytes c.0.0 tail)) s c.2 in
     let made = made_of bytes c.0.0 t.0 in
@@ -227,17 +227,17 @@ contents_are bytes s fits long table said protocol clear e =
     let two = Takes-then (begins made n) (command_fields c.0.0) (drop 3 bytes) (drop 14 bytes) c.0.1 head command.takes in
     let all = Takes-then (begins made n ++ command_fields c.0.0) (tail_fields t.0.0 t.0.1 t.0.2) (drop 3 bytes) c.0.1 [] two tail in
     let after : Takes (after_length made n) (drop 3 bytes) [] = subst (λ (fs : List BitField). Takes fs (drop 3 bytes) []) (after-regrouped made n) all in
-    subst (λ (x : Section). IsSection x bytes × (command_fits x.command ≡ true)) {x = made} (ok_is made s t.2)
+    subst (λ (x : Section). IsSection x bytes × (splice_command_fits x.command ≡ true)) {x = made} (ok_is made s t.2)
     (record { command_length = n; stated = command.stated; proper = is_proper c.0.0 command.small; fields = whole_is made n bytes fits long table said after }, command.small)
 
-reading_says : (bytes : List ℕ) (s : Section) → IsBytes bytes → reading bytes ≡ Ok s → IsSection s bytes × (command_fits s.command ≡ true)
+reading_says : (bytes : List ℕ) (s : Section) → IsBytes bytes → reading bytes ≡ Ok s → IsSection s bytes × (splice_command_fits s.command ≡ true)
 unfolding reading
 reading_says bytes s fits e =
     let p1 = passed (ltb (length bytes) 20) _ _ s e in
-    let p2 = passed (not (eqb (number_in 0 1 bytes) 0xFC)) _ _ s p1.1 in
-    let p3 = passed (not (eqb (number_in 1 2 bytes % 2 ^ 12 + 3) (length bytes))) _ _ s p2.1 in
-    let p4 = passed (not (eqb (number_in 3 1 bytes) 0)) _ _ s p3.1 in
-    let p5 = passed (bit 39 (number_in 4 5 bytes)) _ _ s p4.1 in
+    let p2 = passed (not (eqb (splice_number_in 0 1 bytes) 0xFC)) _ _ s p1.1 in
+    let p3 = passed (not (eqb (splice_number_in 1 2 bytes % 2 ^ 12 + 3) (length bytes))) _ _ s p2.1 in
+    let p4 = passed (not (eqb (splice_number_in 3 1 bytes) 0)) _ _ s p3.1 in
+    let p5 = passed (splice_bit 39 (splice_number_in 4 5 bytes)) _ _ s p4.1 in
     contents_are bytes s fits (ltb-false _ _ p1.0) (eqb-true _ _ (not-false _ p2.0)) (eqb-true _ _ (not-false _ p3.0)) (eqb-true _ _ (not-false _ p4.0)) p5.0 p5.1
 
 pub reading_is : (bytes : List ℕ) (s : Section) → IsBytes bytes → reading bytes ≡ Ok s → IsSection s bytes
@@ -249,30 +249,30 @@ reading_is bytes s fits e = (reading_says bytes s fits e).0
 abbrev what_follows : Section → ℕ → List BitField
 what_follows s n = begins s n ++ (command_fields s.command ++ tail_fields s.descriptors s.stuffing s.crc)
 
-section-regrouped : (s : Section) (n : ℕ) → section s n ≡ table_fields ++ (length_fields (width (after_length s n) / 8) ++ what_follows s n)
-unfolding section
+section-regrouped : (s : Section) (n : ℕ) → splice_section_fields s n ≡ table_fields ++ (length_fields (width (after_length s n) / 8) ++ what_follows s n)
+unfolding splice_section_fields
 section-regrouped s n = grind (arith, after-regrouped)
 
-pub width-section : (s : Section) (n : ℕ) → width (section s n) ≡ 24 + width (after_length s n)
-unfolding section
+pub width-section : (s : Section) (n : ℕ) → width (splice_section_fields s n) ≡ 24 + width (after_length s n)
+unfolding splice_section_fields
 width-section s n = omega arith
 
 -- what the first 14 bytes say
 record Heads (s : Section) (n : ℕ) (bytes : List ℕ) : Type 0 where
   pub long : 20 ≤ length bytes
-  pub table : number_in 0 1 bytes ≡ 0xFC
-  pub said : number_in 1 2 bytes % 2 ^ 12 + 3 ≡ length bytes
-  pub protocol : number_in 3 1 bytes ≡ 0
-  pub clear : bit 39 (number_in 4 5 bytes) ≡ false
-  pub adjustment : number_in 4 5 bytes % 2 ^ 33 ≡ s.pts_adjustment
-  pub word : number_in 9 1 bytes ≡ s.cw_index
-  pub tier : number_in 10 3 bytes / 2 ^ 12 ≡ s.tier
-  pub command_length : number_in 10 3 bytes % 2 ^ 12 ≡ n
-  pub kind : number_in 13 1 bytes ≡ command_type s.command
+  pub table : splice_number_in 0 1 bytes ≡ 0xFC
+  pub said : splice_number_in 1 2 bytes % 2 ^ 12 + 3 ≡ length bytes
+  pub protocol : splice_number_in 3 1 bytes ≡ 0
+  pub clear : splice_bit 39 (splice_number_in 4 5 bytes) ≡ false
+  pub adjustment : splice_number_in 4 5 bytes % 2 ^ 33 ≡ s.pts_adjustment
+  pub word : splice_number_in 9 1 bytes ≡ s.cw_index
+  pub tier : splice_number_in 10 3 bytes / 2 ^ 12 ≡ s.tier
+  pub command_length : splice_number_in 10 3 bytes % 2 ^ 12 ≡ n
+  pub kind : splice_number_in 13 1 bytes ≡ type_of_splice_command s.command
   pub small : width (command_fields s.command) < 32760
   pub lies : Lies (command_fields s.command ++ tail_fields s.descriptors s.stuffing s.crc) (drop 14 bytes)
 
-heads_are : (s : Section) (n : ℕ) (bytes : List ℕ) → Lies (section s n) bytes → Heads s n bytes
+heads_are : (s : Section) (n : ℕ) (bytes : List ℕ) → Lies (splice_section_fields s n) bytes → Heads s n bytes
 heads_are s n bytes lies =
     let contents = command_fields s.command ++ tail_fields s.descriptors s.stuffing s.crc in
     let counted = width (after_length s n) / 8 in
@@ -282,7 +282,7 @@ heads_are s n bytes lies =
     let pts = adjustment_fields s.pts_adjustment in
     let cw = byte_fields s.cw_index in
     let tier = tier_fields s.tier n in
-    let kind = byte_fields (command_type s.command) in
+    let kind = byte_fields (type_of_splice_command s.command) in
     let a3 = at_again 3 1 protocol_fields (pts ++ (cw ++ (tier ++ (kind ++ contents)))) bytes refl a2.lies in
     let a4 = at_again 4 5 pts (cw ++ (tier ++ (kind ++ contents))) bytes refl a3.lies in
     let a5 = at_again 9 1 cw (tier ++ (kind ++ contents)) bytes refl a4.lies in
@@ -290,9 +290,9 @@ heads_are s n bytes lies =
     let a7 = at_again 13 1 kind contents bytes refl a6.lies in
     let total : 8 * length bytes ≡ 24 + width (after_length s n) = lies.holds.count ∙ width-section s n in
     let parts_of = width-after s n in
-    let n5 = number_in 4 5 bytes in
-    let below2 : number_in 1 2 bytes < 2 ^ 16 = a2.below in
-    let is_counted : number_in 1 2 bytes % 2 ^ 12 ≡ counted = omega (arith, a2.split.1.1.1.0) in
+    let n5 = splice_number_in 4 5 bytes in
+    let below2 : splice_number_in 1 2 bytes < 2 ^ 16 = a2.below in
+    let is_counted : splice_number_in 1 2 bytes % 2 ^ 12 ≡ counted = omega (arith, a2.split.1.1.1.0) in
     record {
       long = omega arith;
       table = omega (arith, a1.split.0);
@@ -329,18 +329,18 @@ is_found bytes (Err fault) fits gives = tt
 
 -- ---- What has a section may be written
 
-pub has_one : (s : Section) (bytes : List ℕ) → IsBytes bytes → length bytes ≤ 4096 → IsSection s bytes → has_section s ≡ true
-unfolding has_section
+pub has_one : (s : Section) (bytes : List ℕ) → IsBytes bytes → length bytes ≤ 4096 → IsSection s bytes → has_splice_section s ≡ true
+unfolding has_splice_section
 has_one s bytes small_bytes short is =
     let n = is.command_length in
-    let lies : Lies (section s n) bytes = record { fits = small_bytes; holds = is.fields } in
+    let lies : Lies (splice_section_fields s n) bytes = record { fits = small_bytes; holds = is.fields } in
     let h = heads_are s n bytes lies in
-    let below : number_in 10 3 bytes < 2 ^ 24 = below_at 10 3 bytes small_bytes (omega (arith, h.long)) in
+    let below : splice_number_in 10 3 bytes < 2 ^ 24 = below_at 10 3 bytes small_bytes (omega (arith, h.long)) in
     let adjustment : fits_bits 33 s.pts_adjustment ≡ true = lt-ltb s.pts_adjustment (2 ^ 33) (omega (arith, h.adjustment)) in
     let tier : fits_bits 12 s.tier ≡ true = lt-ltb s.tier (2 ^ 12) (omega (arith, h.tier)) in
     let command = (reading_says bytes s small_bytes (is_read bytes s small_bytes is)).1 in
     let total : 8 * length bytes ≡ 24 + width (after_length s n) = is.fields.count ∙ width-section s n in
-    let counted : section_length s ≤ 4093 = omega (arith, width-after s n, width-after s (command_length s)) in
-    and_from (fits_bits 33 s.pts_adjustment && fits_bits 12 s.tier && command_fits s.command) (nat_le (section_length s) 4093)
-    (and_from (fits_bits 33 s.pts_adjustment && fits_bits 12 s.tier) (command_fits s.command) (and_from (fits_bits 33 s.pts_adjustment) (fits_bits 12 s.tier) adjustment tier) command)
-    (le-leb (section_length s) 4093 counted)
+    let counted : splice_section_length s ≤ 4093 = omega (arith, width-after s n, width-after s (command_length s)) in
+    and_from (fits_bits 33 s.pts_adjustment && fits_bits 12 s.tier && splice_command_fits s.command) (nat_le (splice_section_length s) 4093)
+    (and_from (fits_bits 33 s.pts_adjustment && fits_bits 12 s.tier) (splice_command_fits s.command) (and_from (fits_bits 33 s.pts_adjustment) (fits_bits 12 s.tier) adjustment tier) command)
+    (le-leb (splice_section_length s) 4093 counted)

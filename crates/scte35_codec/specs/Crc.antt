@@ -2,7 +2,7 @@
 use Rattle.std.specs.Prelude.{◌≡◌, ℕ, zero, suc, ◌*◌, ◌%◌, ◌^◌, Bool, not, List, [], ◌∷◌, ◌++◌, fold, bit_xor, Ok, if◌then◌else◌}
 use Rattle.std.specs.List.{flat_map}
 use Rattle.std.specs.Int.{bytes_high_first}
-use Rattle.scte35_codec.specs.Reading.{bit, reading}
+use Rattle.scte35_codec.specs.Reading.{splice_bit, reading}
 use Rattle.scte35_codec.specs.Layout.{HoldsFields, IsWritten}
 use Rattle.scte35_codec.specs.Section.{Section, IsSection}
 use Rattle.scte35_codec.specs.Writing.{written_fields}
@@ -10,7 +10,7 @@ use Rattle.scte35_codec.specs.Writing.{written_fields}
 -- the lowest bits of a number, the highest of them first
 unfoldable pub lowest_bits : ℕ → ℕ → List Bool
 lowest_bits zero n = []
-lowest_bits (suc k) n = bit k n ∷ lowest_bits k n
+lowest_bits (suc k) n = splice_bit k n ∷ lowest_bits k n
 
 -- the bits of some bytes
 unfoldable pub bits_of : List ℕ → List Bool
@@ -31,13 +31,13 @@ differ a b = if a then not b else b
 
 -- The register after one bit more: it moves up, and if the bit that leaves it differs from the one that comes, the
 -- polynomial is added to it, without carry.
-unfoldable pub after_bit : ℕ → Bool → ℕ
-after_bit register comes =
-    if differ comes (bit 31 register) then bit_xor (moved_up register) polynomial else moved_up register
+unfoldable pub crc_after_bit : ℕ → Bool → ℕ
+crc_after_bit register comes =
+    if differ comes (splice_bit 31 register) then bit_xor (moved_up register) polynomial else moved_up register
 
 -- the register after all bits, if it was all ones at first
 unfoldable pub crc_of : List ℕ → ℕ
-crc_of bytes = fold after_bit 0xFFFFFFFF (bits_of bytes)
+crc_of bytes = fold crc_after_bit 0xFFFFFFFF (bits_of bytes)
 
 -- the same section with another CRC_32
 abbrev pub with_crc : Section → ℕ → Section

@@ -25,8 +25,8 @@ abbrev pub is_hex_text : List ℕ → Bool
 is_hex_text text = begins_with_0x text && are_pairs (drop 2 text)
 
 -- the digits after `0x` or `0X`
-abbrev pub digits_of : List ℕ → Result (List ℕ) SpliceFault
-digits_of text = if is_hex_text text then Ok (drop 2 text) else Err NotHex
+abbrev pub section_digits_of : List ℕ → Result (List ℕ) SpliceFault
+section_digits_of text = if is_hex_text text then Ok (drop 2 text) else Err NotHex
 
 abbrev pub decoded : Result (List ℕ) FromHexError → Result (List ℕ) SpliceFault
 decoded (Ok bytes) = Ok bytes
@@ -34,7 +34,7 @@ decoded (Err e) = Err NotHex
 
 -- the bytes that a text stands for
 unfoldable pub hex_bytes : List ℕ → Result (List ℕ) SpliceFault
-hex_bytes text = digits_of text >>= λ digits. decoded (decode_of digits)
+hex_bytes text = section_digits_of text >>= λ digits. decoded (decode_of digits)
 
 -- what a text says, or its first fault
 unfoldable pub reading_hex : List ℕ → Result Section SpliceFault

@@ -25,9 +25,9 @@ abbrev pub IsBytes : List ℕ → Type 0
 IsBytes bytes = (i : ℕ) → slice_index bytes i < 256
 
 -- the number of some bytes, the first byte the highest
-abbrev pub big_endian_number : List ℕ → ℕ
-big_endian_number [] = 0
-big_endian_number (b ∷ bs) = b * 256 ^ length bs + big_endian_number bs
+abbrev pub big_endian_splice_number : List ℕ → ℕ
+big_endian_splice_number [] = 0
+big_endian_splice_number (b ∷ bs) = b * 256 ^ length bs + big_endian_splice_number bs
 
 -- The fields take a number's bits apart, from the highest on. Has says which numbers a content allows.
 abbrev pub Splits : (Content → ℕ → Type 0) → List BitField → ℕ → Type 0
@@ -37,7 +37,7 @@ Splits Has (f ∷ fs) n = Has f.1 (n / 2 ^ width fs) × Splits Has fs (n % 2 ^ w
 -- The fields take some bytes apart, each bit of them.
 pub record HoldsFields (Has : Content → ℕ → Type 0) (fields : List BitField) (bytes : List ℕ) : Type 0 where
   pub count : 8 * length bytes ≡ width fields
-  pub split : Splits Has fields (big_endian_number bytes)
+  pub split : Splits Has fields (big_endian_splice_number bytes)
 
 -- what a reader accepts: any bits where they are reserved
 abbrev pub IsRead : Content → ℕ → Type 0

@@ -6,7 +6,7 @@ use Rattle.scte35_codec.specs.declared.fault.SpliceFault.{SpliceFault}
 use Rattle.scte35_codec.specs.declared.fault.SpliceFault.TheVariants.{TooShort, TableId, Length, Protocol, Encrypted, CommandLength, OutOfMemory}
 use Rattle.scte35_codec.specs.declared.info.SpliceTime.{SpliceTime}
 use Rattle.scte35_codec.specs.declared.info.BreakDuration.{BreakDuration}
-use Rattle.scte35_codec.specs.Layout.{big_endian_number}
+use Rattle.scte35_codec.specs.Layout.{big_endian_splice_number}
 use Rattle.scte35_codec.specs.Section.{Target, Program, Components, Body, SpliceEvent, Command, Insert, Other, Section}
 
 -- what a function answered, seen by view, is what reading gives, a failed allocation apart
@@ -16,12 +16,12 @@ GivesOrSpliceFault view result read = outcomes.Gives OutOfMemory view result rea
 -- ---- Numbers of some bytes
 
 -- the number in `count` bytes from `start` on
-abbrev pub number_in : ℕ → ℕ → List ℕ → ℕ
-number_in start count bytes = big_endian_number (take count (drop start bytes))
+abbrev pub splice_number_in : ℕ → ℕ → List ℕ → ℕ
+splice_number_in start count bytes = big_endian_splice_number (take count (drop start bytes))
 
 -- whether the bit at a place is set, where the lowest is at place 0
-abbrev pub bit : ℕ → ℕ → Bool
-bit place n = n / 2 ^ place % 2 == 1
+abbrev pub splice_bit : ℕ → ℕ → Bool
+splice_bit place n = n / 2 ^ place % 2 == 1
 
 -- the first bytes, and the bytes after them
 abbrev pub bytes_at : ℕ → List ℕ → Result (List ℕ × List ℕ) SpliceFault
@@ -29,7 +29,7 @@ bytes_at count bytes = if nat_lt (length bytes) count then Err CommandLength els
 
 -- the number in the first bytes, and the bytes after them
 abbrev pub number_at : ℕ → List ℕ → Result (ℕ × List ℕ) SpliceFault
-number_at count bytes = if nat_lt (length bytes) count then Err CommandLength else Ok (big_endian_number (take count bytes), drop count bytes)
+number_at count bytes = if nat_lt (length bytes) count then Err CommandLength else Ok (big_endian_splice_number (take count bytes), drop count bytes)
 
 -- ---- The parts of splice_insert
 
@@ -41,7 +41,7 @@ specified_time_at bytes = do
 unfoldable pub time_at : List ℕ → Result (SpliceTime × List ℕ) SpliceFault
 time_at bytes = do
   flags ← number_at 1 bytes
-  if bit 7 flags.0 then specified_time_at bytes else Ok (record { pts = None }, flags.1)
+  if splice_bit 7 flags.0 then specified_time_at bytes else Ok (record { pts = None }, flags.1)
 
 -- no time if the splice is immediate
 unfoldable pub optional_time_at : Bool → List ℕ → Result (Option SpliceTime × List ℕ) SpliceFault
@@ -76,18 +76,18 @@ unfoldable pub optional_duration_at : Bool → List ℕ → Result (Option Break
 optional_duration_at false bytes = Ok (None, bytes)
 optional_duration_at true bytes = do
   duration ← number_at 5 bytes
-  Ok (Some (record { auto_return = bit 39 duration.0; ticks = duration.0 % 2 ^ 33 }), duration.1)
+  Ok (Some (record { auto_return = splice_bit 39 duration.0; ticks = duration.0 % 2 ^ 33 }), duration.1)
 
 unfoldable pub body_at : List ℕ → Result (Body × List ℕ) SpliceFault
 body_at bytes = do
   flags ← number_at 1 bytes
-  target ← target_at (bit 6 flags.0) (bit 4 flags.0) flags.1
-  duration ← optional_duration_at (bit 5 flags.0) target.1
+  target ← target_at (splice_bit 6 flags.0) (splice_bit 4 flags.0) flags.1
+  duration ← optional_duration_at (splice_bit 5 flags.0) target.1
   ids ← number_at 4 duration.1
   Ok (
     record {
-      out_of_network = bit 7 flags.0;
-      immediate = bit 4 flags.0;
+      out_of_network = splice_bit 7 flags.0;
+      immediate = splice_bit 4 flags.0;
       target = target.0;
       duration = duration.0;
       unique_program_id = ids.0 / 2 ^ 16;
@@ -108,7 +108,7 @@ unfoldable pub insert_at : List ℕ → Result (SpliceEvent × List ℕ) SpliceF
 insert_at bytes = do
   event ← number_at 4 bytes
   flags ← number_at 1 event.1
-  body ← optional_body_at (bit 7 flags.0) flags.1
+  body ← optional_body_at (splice_bit 7 flags.0) flags.1
   Ok (record { event_id = event.0; body = body.0 }, body.1)
 
 -- ---- The section
@@ -139,7 +139,7 @@ command_at command_length kind bytes =
 unfoldable pub ending_at : List ℕ → Result (List ℕ × ℕ) SpliceFault
 ending_at bytes =
     if nat_lt (length bytes) 4 then Err CommandLength
-    else Ok (take (length bytes - 4) bytes, big_endian_number (drop (length bytes - 4) bytes))
+    else Ok (take (length bytes - 4) bytes, big_endian_splice_number (drop (length bytes - 4) bytes))
 
 -- the descriptors, the stuffing and the CRC, which stand after the command
 unfoldable pub tail_at : List ℕ → Result (List ℕ × List ℕ × ℕ) SpliceFault
@@ -152,12 +152,12 @@ tail_at bytes = do
 -- what follows the first 14 bytes
 unfoldable pub contents_of : List ℕ → Result Section SpliceFault
 contents_of bytes = do
-  command ← command_at (number_in 10 3 bytes % 2 ^ 12) (number_in 13 1 bytes) (drop 14 bytes)
+  command ← command_at (splice_number_in 10 3 bytes % 2 ^ 12) (splice_number_in 13 1 bytes) (drop 14 bytes)
   tail ← tail_at command.1
   Ok (record {
-    pts_adjustment = number_in 4 5 bytes % 2 ^ 33;
-    cw_index = number_in 9 1 bytes;
-    tier = number_in 10 3 bytes / 2 ^ 12;
+    pts_adjustment = splice_number_in 4 5 bytes % 2 ^ 33;
+    cw_index = splice_number_in 9 1 bytes;
+    tier = splice_number_in 10 3 bytes / 2 ^ 12;
     command = command.0;
     descriptors = tail.0;
     stuffing = tail.1;
@@ -168,8 +168,8 @@ contents_of bytes = do
 unfoldable pub reading : List ℕ → Result Section SpliceFault
 reading bytes =
     if nat_lt (length bytes) 20 then Err TooShort
-    else if not (number_in 0 1 bytes == 0xFC) then Err TableId
-    else if not (number_in 1 2 bytes % 2 ^ 12 + 3 == length bytes) then Err Length
-    else if not (number_in 3 1 bytes == 0) then Err Protocol
-    else if bit 39 (number_in 4 5 bytes) then Err Encrypted
+    else if not (splice_number_in 0 1 bytes == 0xFC) then Err TableId
+    else if not (splice_number_in 1 2 bytes % 2 ^ 12 + 3 == length bytes) then Err Length
+    else if not (splice_number_in 3 1 bytes == 0) then Err Protocol
+    else if splice_bit 39 (splice_number_in 4 5 bytes) then Err Encrypted
     else contents_of bytes

@@ -84,9 +84,9 @@ section_of s = record {
 
 -- ---- The tables
 
-abbrev pub flag : Bool → ℕ
-flag true = 1
-flag false = 0
+abbrev pub splice_flag : Bool → ℕ
+splice_flag true = 1
+splice_flag false = 0
 
 abbrev pub optional_fields : {A : Type 0} → (A → List BitField) → Option A → List BitField
 optional_fields fields None = []
@@ -109,20 +109,20 @@ abbrev pub target_fields : Target → List BitField
 target_fields (Program time) = optional_fields splice_time time
 target_fields (Components components) = (8, Is (length components)) ∷ flat_map component components
 
-abbrev pub is_program : Target → Bool
-is_program (Program time) = true
-is_program (Components components) = false
+abbrev pub is_program_splice : Target → Bool
+is_program_splice (Program time) = true
+is_program_splice (Components components) = false
 
 -- auto_return, reserved bits, duration
 abbrev pub break_duration : BreakDuration → List BitField
-break_duration d = (1, Is (flag d.auto_return)) ∷ (6, Reserved 63) ∷ (33, Is d.ticks) ∷ []
+break_duration d = (1, Is (splice_flag d.auto_return)) ∷ (6, Reserved 63) ∷ (33, Is d.ticks) ∷ []
 
 abbrev pub body_flags : Body → List BitField
 body_flags b =
-    (1, Is (flag b.out_of_network))
-    ∷ (1, Is (flag (is_program b.target)))
-    ∷ (1, Is (flag (is_some b.duration)))
-    ∷ (1, Is (flag b.immediate))
+    (1, Is (splice_flag b.out_of_network))
+    ∷ (1, Is (splice_flag (is_program_splice b.target)))
+    ∷ (1, Is (splice_flag (is_some b.duration)))
+    ∷ (1, Is (splice_flag b.immediate))
     ∷ (4, Reserved 15)
     ∷ []
 
@@ -134,7 +134,7 @@ body_fields b = body_flags b ++ target_fields b.target ++ optional_fields break_
 
 -- splice_event_cancel_indicator, reserved bits
 abbrev pub cancel_fields : Bool → List BitField
-cancel_fields is_cancelled = (1, Is (flag is_cancelled)) ∷ (7, Reserved 127) ∷ []
+cancel_fields is_cancelled = (1, Is (splice_flag is_cancelled)) ∷ (7, Reserved 127) ∷ []
 
 -- splice_event_id, splice_event_cancel_indicator, and what follows unless the event is cancelled
 unfoldable pub splice_insert : SpliceEvent → List BitField
@@ -145,9 +145,9 @@ command_fields (Insert i) = splice_insert i
 command_fields (Other kind bytes) = bytes_of bytes
 
 -- splice_command_type
-abbrev pub command_type : Command → ℕ
-command_type (Insert i) = 5
-command_type (Other kind bytes) = kind
+abbrev pub type_of_splice_command : Command → ℕ
+type_of_splice_command (Insert i) = 5
+type_of_splice_command (Other kind bytes) = kind
 
 -- the fields up to section_length, which is this
 abbrev pub start_fields : ℕ → List BitField
@@ -169,7 +169,7 @@ heading_fields s command_length =
     ∷ (8, Is s.cw_index)
     ∷ (12, Is s.tier)
     ∷ (12, Is command_length)
-    ∷ (8, Is (command_type s.command))
+    ∷ (8, Is (type_of_splice_command s.command))
     ∷ []
 
 -- descriptor_loop_length, the descriptors, the stuffing, CRC_32
@@ -181,8 +181,8 @@ unfoldable pub after_length : Section → ℕ → List BitField
 after_length s command_length = heading_fields s command_length ++ command_fields s.command ++ ending_fields s
 
 -- the section, if splice_command_length is this: section_length counts the bytes that follow it
-unfoldable pub section : Section → ℕ → List BitField
-section s command_length = start_fields (width (after_length s command_length) / 8) ++ after_length s command_length
+unfoldable pub splice_section_fields : Section → ℕ → List BitField
+splice_section_fields s command_length = start_fields (width (after_length s command_length) / 8) ++ after_length s command_length
 
 -- ---- What a value of these fields keeps
 
@@ -213,4 +213,4 @@ pub record IsSection (s : Section) (bytes : List ℕ) : Type 0 where
   pub command_length : ℕ
   pub stated : StatesLength s.command command_length
   pub proper : IsProper s.command
-  pub fields : HoldsFields IsRead (section s command_length) bytes
+  pub fields : HoldsFields IsRead (splice_section_fields s command_length) bytes

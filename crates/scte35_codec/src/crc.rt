@@ -1,8 +1,7 @@
 //! CRC_32, the check of a section's bytes.
 
-ghost use Rattle.std.specs.Prelude.{◌≡◌, ◌≤◌, fold};
-ghost use Rattle.scte35_codec.specs.Reading.{bit};
-ghost use Rattle.scte35_codec.specs.Crc.{after_bit, crc_of, lowest_bits};
+ghost use Rattle.std.specs.Prelude.{◌≡◌, fold};
+ghost use Rattle.scte35_codec.specs.Crc.{crc_after_bit, crc_of, lowest_bits};
 
 // The powers of the polynomial below the highest, a bit for each.
 const POLYNOMIAL: u32 = 0x04C1_1DB7;
@@ -16,27 +15,27 @@ pub fn crc_of(bytes: &[u8]) -> u32
 {
     bytes
         .iter()
-        .fold(u32::MAX, |register, byte| after_byte(register, *byte))
+        .fold(u32::MAX, |register, byte| crc_after_byte(register, *byte))
 }
 
 // The register after the bits of a byte.
 #[tactic(auto, using(crate::proofs::Registers::bit_goes, crate::proofs::Registers::no_bits))]
-fn after_byte(register: u32, byte: u8) -> u32
-    ensures { result ≡ fold after_bit register (lowest_bits 8 byte) }
+fn crc_after_byte(register: u32, byte: u8) -> u32
+    ensures { result ≡ fold crc_after_bit register (lowest_bits 8 byte) }
 {
     let mut register = register;
     let mut left: u32 = 8;
     while left > 0 {
         left -= 1;
-        register = after_bit(register, (byte >> left) % 2 == 1);
+        register = crc_after_bit(register, (byte >> left) % 2 == 1);
     }
     register
 }
 
 // The register after a bit.
-#[tactic(auto, unfolding(crate::specs::Crc::after_bit))]
-fn after_bit(register: u32, comes: bool) -> u32
-    ensures { result ≡ after_bit register comes }
+#[tactic(auto, unfolding(crate::specs::Crc::crc_after_bit))]
+fn crc_after_bit(register: u32, comes: bool) -> u32
+    ensures { result ≡ crc_after_bit register comes }
 {
     let leaves = register >> 31 == 1;
     let moved_up = register << 1;

@@ -8,7 +8,7 @@ ghost use Rattle.scte35_codec.specs.Section.{Section, section_of, IsSection};
 ghost use Rattle.scte35_codec.specs.Reading.{GivesOrSpliceFault};
 ghost use Rattle.scte35_codec.specs.declared.fault.SpliceFault.{SpliceFault};
 ghost use Rattle.scte35_codec.specs.declared.fault.SpliceFault.TheVariants.{NotHex, CommandLength, TooLarge};
-ghost use Rattle.scte35_codec.specs.Hexadecimal.{are_pairs, is_hex_text, digits_of, hex_bytes, reading_hex};
+ghost use Rattle.scte35_codec.specs.Hexadecimal.{are_pairs, is_hex_text, section_digits_of, hex_bytes, reading_hex};
 ghost use Rattle.scte35_codec.specs.Inner.Hexadecimal.{reading_digits};
 
 use crate::fault::SpliceFault;
@@ -19,28 +19,28 @@ use std::alloc::Global;
 // One byte more than the longest section has.
 const TOO_MANY: usize = 4099;
 
-fn are_digits(text: &[u8]) -> bool
+fn are_section_digits(text: &[u8]) -> bool
     ensures { result ≡ list_all is_ascii_hexdigit text.now }
 {
     text.iter().all(|c| c.is_ascii_hexdigit())
 }
 
 // The digits after `0x` or `0X`, if they are pairs.
-fn digits_of(text: &[u8]) -> Result<&[u8], SpliceFault>
-    ensures { MatchResult result (λ digits. digits_of text.now ≡ Ok digits.now)
-        (λ e. digits_of text.now ≡ Err e) }
+fn section_digits_of(text: &[u8]) -> Result<&[u8], SpliceFault>
+    ensures { MatchResult result (λ digits. section_digits_of text.now ≡ Ok digits.now)
+        (λ e. section_digits_of text.now ≡ Err e) }
 {
     let [b'0', b'x' | b'X', digits @ ..] = text else {
         return Err(SpliceFault::NotHex);
     };
-    if digits.len() % 2 != 0 || !are_digits(digits) {
+    if digits.len() % 2 != 0 || !are_section_digits(digits) {
         return Err(SpliceFault::NotHex);
     }
     Ok(digits)
 }
 
 // Fills a buffer with the bytes of pairs of digits.
-fn decode_into(digits: &[u8], out: &mut [u8])
+fn decode_section_digits(digits: &[u8], out: &mut [u8])
     requires pairs { IsTrue (are_pairs digits.now) }
     requires len { length digits.now ≡ 2 * length out.old }
     ensures { decode_of digits.now ≡ Ok out.new }
@@ -52,7 +52,7 @@ fn decode_into(digits: &[u8], out: &mut [u8])
 const FEW: usize = 256;
 
 // The section of pairs of digits, as most are: they are decoded into a small buffer, since it is cleared each time.
-fn read_few(alloc: Global, digits: &[u8]) -> Result<SpliceInfo, SpliceFault>
+fn read_short_section_digits(alloc: Global, digits: &[u8]) -> Result<SpliceInfo, SpliceFault>
     requires pairs { IsTrue (are_pairs digits.now) }
     requires few { length digits.now ≤ 512 }
     ensures exact { GivesOrSpliceFault section_of result (reading_digits digits.now) }
@@ -61,12 +61,12 @@ fn read_few(alloc: Global, digits: &[u8]) -> Result<SpliceInfo, SpliceFault>
 {
     let mut buffer = [0u8; FEW];
     let few = &mut buffer[..digits.len() / 2];
-    decode_into(digits, few);
+    decode_section_digits(digits, few);
     read(alloc, few)
 }
 
 // The same of any number of digits. No more bytes are decoded than show that there are too many.
-fn read_many(alloc: Global, digits: &[u8]) -> Result<SpliceInfo, SpliceFault>
+fn read_long_section_digits(alloc: Global, digits: &[u8]) -> Result<SpliceInfo, SpliceFault>
     requires { IsTrue (are_pairs digits.now) }
     ensures exact { GivesOrSpliceFault section_of result (reading_digits digits.now) }
     ensures told { (e : SpliceFault) → reading_digits digits.now ≡ Err e → e ≢ CommandLength
@@ -75,31 +75,31 @@ fn read_many(alloc: Global, digits: &[u8]) -> Result<SpliceInfo, SpliceFault>
     let count = (digits.len() / 2).min(TOO_MANY);
     let mut buffer = [0u8; TOO_MANY];
     let bytes = &mut buffer[..count];
-    decode_into(&digits[..2 * count], bytes);
+    decode_section_digits(&digits[..2 * count], bytes);
     read(alloc, bytes)
 }
 
 // The section of pairs of digits.
-fn read_digits(alloc: Global, digits: &[u8]) -> Result<SpliceInfo, SpliceFault>
+fn read_section_digits(alloc: Global, digits: &[u8]) -> Result<SpliceInfo, SpliceFault>
     requires { IsTrue (are_pairs digits.now) }
     ensures exact { GivesOrSpliceFault section_of result (reading_digits digits.now) }
     ensures told { (e : SpliceFault) → reading_digits digits.now ≡ Err e → e ≢ CommandLength
         → result ≡ Err e }
 {
     if digits.len() <= 2 * FEW {
-        return read_few(alloc, digits);
+        return read_short_section_digits(alloc, digits);
     }
-    read_many(alloc, digits)
+    read_long_section_digits(alloc, digits)
 }
 
 #[tactic(auto, unfolding(crate::specs::Hexadecimal::reading_hex, crate::specs::Hexadecimal::hex_bytes))]
-fn section_of_text(alloc: Global, text: &str) -> Result<SpliceInfo, SpliceFault>
+fn splice_section_of_text(alloc: Global, text: &str) -> Result<SpliceInfo, SpliceFault>
     ensures exact { GivesOrSpliceFault section_of result (reading_hex text.now) }
     ensures told { (e : SpliceFault) → reading_hex text.now ≡ Err e → e ≢ CommandLength
         → result ≡ Err e }
 {
-    let digits = digits_of(text.as_bytes())?;
-    read_digits(alloc, digits)
+    let digits = section_digits_of(text.as_bytes())?;
+    read_section_digits(alloc, digits)
 }
 
 /// The splice_info_section (SCTE 35, section 9.6) that `text` holds in hexadecimal, as the SCTE35 attributes of
@@ -124,5 +124,5 @@ pub fn read_hex(alloc: Global, text: &str) -> Result<SpliceInfo, SpliceFault>
     ensures not_hex { (result ≡ Err NotHex) ↔ (is_hex_text text.now ≡ false) }
     ensures fault { IfErr result (λ e. e ≢ TooLarge) }
 {
-    section_of_text(alloc, text)
+    splice_section_of_text(alloc, text)
 }

@@ -4,7 +4,7 @@ ghost use Rattle.std.specs.Prelude.{◌≡◌, ◌+◌, ◌*◌, ◌-◌, ◌^�
 ghost use Rattle.std.specs.List.{flat_map, list_all};
 ghost use Rattle.scte35_codec.specs.Layout.{width};
 ghost use Rattle.scte35_codec.specs.Section.{optional_fields, splice_time, component, target_of, target_fields, bodies_of, body_fields, splice_insert, command_of, command_fields, break_duration, section_of};
-ghost use Rattle.scte35_codec.specs.Writing.{place_fits, target_fits, duration_fits, body_fits, command_fits, section_length, has_section};
+ghost use Rattle.scte35_codec.specs.Writing.{splice_time_fits, splice_target_fits, break_duration_fits, insert_body_fits, splice_command_fits, splice_section_length, has_splice_section};
 ghost use Rattle.scte35_codec.specs.Inner.Writing.{IsCounted};
 
 use crate::info::{
@@ -21,8 +21,8 @@ const LONGEST: usize = 4093;
 const SHORTEST: usize = 17;
 
 // Whether a time is there exactly if the splice is not immediate, and fits its field.
-fn place_fits(immediate: bool, time: Option<SpliceTime>) -> bool
-    ensures { result ≡ place_fits immediate time }
+fn splice_time_fits(immediate: bool, time: Option<SpliceTime>) -> bool
+    ensures { result ≡ splice_time_fits immediate time }
 {
     match time {
         None => immediate,
@@ -31,25 +31,25 @@ fn place_fits(immediate: bool, time: Option<SpliceTime>) -> bool
     }
 }
 
-fn target_fits(immediate: bool, target: &SpliceTarget) -> bool
-    ensures { result ≡ target_fits immediate (target_of target.now) }
+fn splice_target_fits(immediate: bool, target: &SpliceTarget) -> bool
+    ensures { result ≡ splice_target_fits immediate (target_of target.now) }
 {
     match target {
-        SpliceTarget::Program(time) => place_fits(immediate, *time),
+        SpliceTarget::Program(time) => splice_time_fits(immediate, *time),
         SpliceTarget::Components(components) => {
-            components.len() <= MAX_COMPONENTS && components_fit(immediate, components)
+            components.len() <= MAX_COMPONENTS && splice_components_fit(immediate, components)
         }
     }
 }
 
-fn components_fit(immediate: bool, components: &[(u8, Option<SpliceTime>)]) -> bool
-    ensures { result ≡ list_all (λ c. place_fits immediate c.1) components.now }
+fn splice_components_fit(immediate: bool, components: &[(u8, Option<SpliceTime>)]) -> bool
+    ensures { result ≡ list_all (λ c. splice_time_fits immediate c.1) components.now }
 {
-    components.iter().all(|c| place_fits(immediate, c.1))
+    components.iter().all(|c| splice_time_fits(immediate, c.1))
 }
 
-fn duration_fits(duration: Option<BreakDuration>) -> bool
-    ensures { result ≡ duration_fits duration }
+fn break_duration_fits(duration: Option<BreakDuration>) -> bool
+    ensures { result ≡ break_duration_fits duration }
 {
     match duration {
         None => true,
@@ -57,26 +57,27 @@ fn duration_fits(duration: Option<BreakDuration>) -> bool
     }
 }
 
-fn body_fits(body: &Option<InsertBody>) -> bool
-    ensures { result ≡ body_fits (bodies_of body.now) }
+fn insert_body_fits(body: &Option<InsertBody>) -> bool
+    ensures { result ≡ insert_body_fits (bodies_of body.now) }
 {
     match body {
         None => true,
-        Some(body) => target_fits(body.immediate, &body.target) && duration_fits(body.duration),
+        Some(body) => splice_target_fits(body.immediate, &body.target)
+            && break_duration_fits(body.duration),
     }
 }
 
-fn command_fits(command: &SpliceCommand) -> bool
-    ensures { result ≡ command_fits (command_of command.now) }
+fn splice_command_fits(command: &SpliceCommand) -> bool
+    ensures { result ≡ splice_command_fits (command_of command.now) }
 {
     match command {
-        SpliceCommand::Insert(insert) => body_fits(&insert.body),
+        SpliceCommand::Insert(insert) => insert_body_fits(&insert.body),
         SpliceCommand::Other { command, .. } => *command != SPLICE_INSERT,
     }
 }
 
 // How many bytes a time takes.
-fn time_len(time: Option<SpliceTime>) -> usize
+fn splice_time_length(time: Option<SpliceTime>) -> usize
     ensures value { 8 * result ≡ width (optional_fields splice_time time) }
     ensures most { result ≤ 5 }
 {
@@ -87,30 +88,30 @@ fn time_len(time: Option<SpliceTime>) -> usize
     }
 }
 
-fn components_len(components: &[(u8, Option<SpliceTime>)]) -> usize
+fn splice_components_length(components: &[(u8, Option<SpliceTime>)]) -> usize
     requires { length components.now ≤ 255 }
     ensures value { 8 * result ≡ width (flat_map component components.now) }
     ensures most { result ≤ 6 * length components.now }
 {
     let mut len = 0;
     for component in components {
-        len += 1 + time_len(component.1);
+        len += 1 + splice_time_length(component.1);
     }
     len
 }
 
-fn target_len(target: &SpliceTarget) -> usize
+fn splice_target_length(target: &SpliceTarget) -> usize
     requires { IsCounted (target_of target.now) }
     ensures value { 8 * result ≡ width (target_fields (target_of target.now)) }
     ensures most { result ≤ 1531 }
 {
     match target {
-        SpliceTarget::Program(time) => time_len(*time),
-        SpliceTarget::Components(components) => 1 + components_len(components),
+        SpliceTarget::Program(time) => splice_time_length(*time),
+        SpliceTarget::Components(components) => 1 + splice_components_length(components),
     }
 }
 
-fn duration_len(duration: Option<BreakDuration>) -> usize
+fn break_duration_length(duration: Option<BreakDuration>) -> usize
     ensures value { 8 * result ≡ width (optional_fields break_duration duration) }
     ensures most { result ≤ 5 }
 {
@@ -121,48 +122,51 @@ fn duration_len(duration: Option<BreakDuration>) -> usize
 }
 
 #[tactic(auto, using(crate::proofs::Lengths::width_of_body))]
-fn body_len(body: &Option<InsertBody>) -> usize
-    requires { IsTrue (body_fits (bodies_of body.now)) }
+fn insert_body_length(body: &Option<InsertBody>) -> usize
+    requires { IsTrue (insert_body_fits (bodies_of body.now)) }
     ensures value { 8 * result ≡ width (optional_fields body_fields (bodies_of body.now)) }
     ensures most { result ≤ 1541 }
 {
     match body {
         None => 0,
-        Some(body) => 1 + target_len(&body.target) + duration_len(body.duration) + 4,
+        Some(body) => 1
+            + splice_target_length(&body.target)
+            + break_duration_length(body.duration)
+            + 4,
     }
 }
 
 /// How many bytes `command` takes.
 #[tactic(auto, using(crate::proofs::Sections::width_of_bytes), unfolding(crate::specs::Section::splice_insert))]
-pub fn command_len(command: &SpliceCommand) -> usize
-    requires { IsTrue (command_fits (command_of command.now)) }
+pub fn length_of_splice_command(command: &SpliceCommand) -> usize
+    requires { IsTrue (splice_command_fits (command_of command.now)) }
     ensures { 8 * result ≡ width (command_fields (command_of command.now)) }
 {
     match command {
-        SpliceCommand::Insert(insert) => 5 + body_len(&insert.body),
+        SpliceCommand::Insert(insert) => 5 + insert_body_length(&insert.body),
         SpliceCommand::Other { bytes, .. } => bytes.len(),
     }
 }
 
 /// How many bytes of the section of `info` follow section_length, or 2^64 - 1 if they are more.
-pub fn section_length(info: &SpliceInfo) -> usize
-    requires { IsTrue (command_fits (command_of info.now.command)) }
-    ensures { result ≡ min (section_length (section_of info.now)) (2 ^ 64 - 1) }
+pub fn splice_section_length(info: &SpliceInfo) -> usize
+    requires { IsTrue (splice_command_fits (command_of info.now.command)) }
+    ensures { result ≡ min (splice_section_length (section_of info.now)) (2 ^ 64 - 1) }
 {
     SHORTEST
-        .saturating_add(command_len(&info.command))
+        .saturating_add(length_of_splice_command(&info.command))
         .saturating_add(info.descriptors.len())
         .saturating_add(info.stuffing.len())
 }
 
 /// Whether `info` has a section that may be written (SCTE 35, section 9.6): each number fits its field, and
 /// section_length is at most 4093.
-#[tactic(auto, unfolding(crate::specs::Writing::has_section))]
-pub fn has_section(info: &SpliceInfo) -> bool
-    ensures { result ≡ has_section (section_of info.now) }
+#[tactic(auto, unfolding(crate::specs::Writing::has_splice_section))]
+pub fn has_splice_section(info: &SpliceInfo) -> bool
+    ensures { result ≡ has_splice_section (section_of info.now) }
 {
-    if info.pts_adjustment >= TICKS || info.tier >= 4096 || !command_fits(&info.command) {
+    if info.pts_adjustment >= TICKS || info.tier >= 4096 || !splice_command_fits(&info.command) {
         return false;
     }
-    section_length(info) <= LONGEST
+    splice_section_length(info) <= LONGEST
 }

@@ -10,5 +10,5 @@ abbrev pub pairs_of : List Attr → List Pair
 pairs_of attrs = map attr_pair attrs
 
 -- the value of an attribute that may be left out, which has to stand in quotes, or has to stand without
-abbrev pub optional_value : Bool → Option Pair → Outcome (Option (List ℕ))
-optional_value wanted found = outcomes.optional (λ pair. value_if wanted pair.quoted pair.value) found
+abbrev pub optional_tag_value : Bool → Option Pair → Outcome (Option (List ℕ))
+optional_tag_value wanted found = outcomes.optional (λ pair. value_if wanted pair.quoted pair.value) found

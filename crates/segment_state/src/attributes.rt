@@ -5,7 +5,7 @@ ghost use Rattle.playlist_model.specs.Said.{attributes, required};
 ghost use Rattle.playlist_model.specs.Reading.{limited};
 ghost use Rattle.spec_words.specs.Outcomes.{GivesExactly};
 ghost use Rattle.playlist_model.specs.Refusals.{GivesOrPlaylistFault};
-ghost use Rattle.segment_state.specs.Attributes.{pairs_of, optional_value};
+ghost use Rattle.segment_state.specs.Attributes.{pairs_of, optional_tag_value};
 
 use attr_list::{AttrFault, AttrList};
 use playlist_model::FaultKind;
@@ -13,7 +13,7 @@ use std::alloc::Global;
 
 /// The attributes in `rest`, which comes after a tag's colon (RFC 8216, section 4.2). `BadAttributes` exactly if it
 /// is no attribute list of at most 64 attributes; `OutOfMemory` only if an allocation fails.
-pub fn attributes_of(alloc: Global, rest: &str) -> Result<AttrList<'_>, FaultKind>
+pub fn tag_attributes_of(alloc: Global, rest: &str) -> Result<AttrList<'_>, FaultKind>
     ensures { GivesOrPlaylistFault pairs_of result (attributes limited rest.now) }
 {
     match AttrList::read(alloc, rest) {
@@ -25,14 +25,14 @@ pub fn attributes_of(alloc: Global, rest: &str) -> Result<AttrList<'_>, FaultKin
 
 /// The value of the attribute `name` of `list`, which may be left out. `BadAttributes` exactly if it is there and in
 /// quotes though it isn't `quoted` by its type, or without though it is (RFC 8216, section 4.2). Takes no memory.
-pub fn optional_value<'a>(
+pub fn optional_tag_value<'a>(
     list: &AttrList<'a>,
     name: &str,
     quoted: bool,
 ) -> Result<Option<&'a str>, FaultKind>
     ensures { GivesExactly (option_map
         (λ value. value.now)) result
-        (optional_value quoted (attribute (pairs_of list.now) name.now)) }
+        (optional_tag_value quoted (attribute (pairs_of list.now) name.now)) }
 {
     let Some(attr) = list.get(name) else {
         return Ok(None);
@@ -46,7 +46,7 @@ pub fn optional_value<'a>(
 /// The value of the attribute `name` of `list`, which has to be there. `MissingAttribute` exactly if it is not;
 /// `BadAttributes` exactly if it is, and in quotes though it isn't `quoted` by its type, or without though it is (RFC
 /// 8216, section 4.2). Takes no memory.
-pub fn required_value<'a>(
+pub fn required_tag_value<'a>(
     list: &AttrList<'a>,
     name: &str,
     quoted: bool,
@@ -54,5 +54,5 @@ pub fn required_value<'a>(
     ensures { GivesExactly
         (λ value. value.now) result (required quoted (attribute (pairs_of list.now) name.now)) }
 {
-    optional_value(list, name, quoted)?.ok_or(FaultKind::MissingAttribute)
+    optional_tag_value(list, name, quoted)?.ok_or(FaultKind::MissingAttribute)
 }

@@ -72,7 +72,7 @@ impl<'a> SecondsReader<'a> {
             (λ own. duration_said text.now ≡ Ok (duration own.0 own.1.now))
             (λ e. duration_said text.now ≡ Err e) }
     {
-        let (seconds, title) = parts_at_comma(text);
+        let (seconds, title) = duration_tag_parts(text);
         let Ok(nanos) = Nanos::read(seconds) else {
             return Err(FaultKind::BadDuration);
         };
@@ -97,7 +97,7 @@ impl<'a> SecondsReader<'a> {
 }
 
 // What stands before the first comma and after it. Without one the whole text stands before it.
-fn parts_at_comma(text: &str) -> (&str, &str)
+fn duration_tag_parts(text: &str) -> (&str, &str)
     ensures front { result.0.now ≡ before_first is_comma text.now }
     ensures back { result.1.now ≡ after_first is_comma text.now }
 {

@@ -9,7 +9,7 @@ use playlist_model::{FaultKind, Key, Keys, MAX_FORMATS};
 use std::alloc::Global;
 
 // The place of the first key of a greater format.
-fn place_of_key(keys: &[Key], key: &Key) -> usize
+fn place_of_key_in_reader_state(keys: &[Key], key: &Key) -> usize
     ensures place { result ≡ position_or_len (is_before key.now) keys.now }
     ensures within { result ≤ length keys.now }
 {
@@ -19,7 +19,7 @@ fn place_of_key(keys: &[Key], key: &Key) -> usize
 }
 
 // How many keys are of another format.
-fn others_count(keys: &[Key], format: &str) -> usize
+fn count_of_other_keys_in_reader_state(keys: &[Key], format: &str) -> usize
     ensures { result ≡ length (without_format format.now keys.now) }
 {
     keys.iter()
@@ -27,7 +27,7 @@ fn others_count(keys: &[Key], format: &str) -> usize
         .count()
 }
 
-fn remove_format(keys: &mut Vec<Key>, format: &str)
+fn remove_key_format_in_reader_state(keys: &mut Vec<Key>, format: &str)
     ensures items { keys.new.items ≡ without_format format.now keys.old.items }
     ensures room { vec_len keys.old < vec_capacity keys.old
         → vec_len keys.new < vec_capacity keys.new }
@@ -38,27 +38,27 @@ fn remove_format(keys: &mut Vec<Key>, format: &str)
 #[tactic(auto, using(crate::proofs::KeyLemmas::insert_key_at, crate::proofs::KeyLemmas::length_put))]
 // Puts `key` in its place, in place of the one of its format (RFC 8216, section 4.3.2.4). `TooMany` if 17 formats
 // would be in force.
-fn put_key(keys: &mut Vec<Key>, key: Key) -> Result<(), FaultKind>
+fn put_key_in_reader_state(keys: &mut Vec<Key>, key: Key) -> Result<(), FaultKind>
     ensures ok { OnOk result (with_key key keys.old.items ≡ Ok keys.new.items) }
     ensures err { IfErr result (λ e. RefusesByPlaylistFault e (with_key key keys.old.items)) }
     ensures kept { IfErr result (λ e. keys.new.items ≡ keys.old.items) }
 {
-    if others_count(keys.as_slice(), key.format.as_str()) >= MAX_FORMATS {
+    if count_of_other_keys_in_reader_state(keys.as_slice(), key.format.as_str()) >= MAX_FORMATS {
         return Err(FaultKind::TooMany);
     }
     keys.reserve(1)?;
-    remove_format(keys, key.format.as_str());
-    let place = place_of_key(keys.as_slice(), &key);
+    remove_key_format_in_reader_state(keys, key.format.as_str());
+    let place = place_of_key_in_reader_state(keys.as_slice(), &key);
     keys.insert(place, key)?;
     Ok(())
 }
 
 /// The `keys` in force with `key`, which takes the place of the one of its format (RFC 8216, section 4.3.2.4).
 /// `TooMany` if 17 formats would be in force; `OutOfMemory` only if an allocation fails.
-pub fn keys_with(alloc: Global, keys: &Keys, key: Key) -> Result<Keys, FaultKind>
+pub fn keys_in_reader_state_with(alloc: Global, keys: &Keys, key: Key) -> Result<Keys, FaultKind>
     ensures { GivesOrPlaylistFault (λ keys. keys) result (with_key key keys.now) }
 {
     let mut listed = keys.to_vec(alloc)?;
-    put_key(&mut listed, key)?;
+    put_key_in_reader_state(&mut listed, key)?;
     Ok(Keys::from_vec(alloc, listed)?)
 }

@@ -7,18 +7,16 @@ ghost use Rattle.std.specs.Option.{SomeIff};
 ghost use Rattle.playlist_model.specs.LookBack.{byte_range_from, byte_range_after, extent_with};
 ghost use Rattle.playlist_model.specs.Reading.{limited, said_by_uri};
 ghost use Rattle.playlist_model.specs.Said as said;
-ghost use Rattle.spec_words.specs.Outcomes.{Tells};
-ghost use Rattle.playlist_model.specs.Said.{uri_of, duration_said};
-ghost use Rattle.playlist_model.specs.Refusals.{GivesOrPlaylistFault};
+ghost use Rattle.playlist_model.specs.Said.{uri_of};
 ghost use Rattle.segment_state.specs.Running.{unread, ReadsOne, SayingLeadsTo, TakesTag, TakesTagExactly, TakesSegment};
 ghost use Rattle.segment_state.specs.Inner.Running.{after_uri_line, segment_from};
 ghost use Rattle.segment_state.specs.Views.{extent_after};
 ghost use Rattle.segment_state.specs.Repeated.{IsLineOf, IsRepeated};
 
 use crate::durations::Durations;
-use crate::keys::keys_with;
+use crate::keys::keys_in_reader_state_with;
 use crate::references::References;
-use crate::tags::{byte_range_of, init_section_said, key_said};
+use crate::tags::{byte_range_tag_numbers, said_by_init_section_tag, said_by_key_tag};
 use date_times::TimeReader;
 use fixed_duration::Nanos;
 use playlist_model::{
@@ -140,12 +138,9 @@ impl<'a> ReaderState<'a> {
     }
 
     /// Takes `rest`, the value of EXTINF: the duration and the title of the next segment (RFC 8216, section 4.3.2.1).
-    /// `BadDuration` if it states none; `OutOfMemory` only if an allocation fails.
+    /// `BadDuration` if it states none. Takes no memory.
     pub fn duration_tag(&mut self, rest: &'a str) -> Result<(), FaultKind>
-        ensures takes { TakesTag said.duration_tag rest.now self.old self.new result }
-
-        // The fault is answered whatever memory there is.
-        ensures told { Tells result (duration_said rest.now) }
+        ensures takes { TakesTagExactly said.duration_tag rest.now self.old self.new result }
         ensures segments { self.new.segments ≡ self.old.segments }
     {
         self.durations.read(rest)
@@ -187,10 +182,10 @@ impl<'a> ReaderState<'a> {
         ensures takes { TakesTag said.key_tag rest.now self.old self.new result }
         ensures segments { self.new.segments ≡ self.old.segments }
     {
-        match key_said(self.alloc, self.references.base(), rest)? {
+        match said_by_key_tag(self.alloc, self.references.base(), rest)? {
             KeyTag::End => self.segments.set_keys(Keys::none()),
             KeyTag::Set(key) => {
-                let keys = keys_with(self.alloc, self.segments.keys(), key)?;
+                let keys = keys_in_reader_state_with(self.alloc, self.segments.keys(), key)?;
                 self.segments.set_keys(keys);
             }
         }
@@ -205,7 +200,7 @@ impl<'a> ReaderState<'a> {
         ensures takes { TakesTag said.init_section_tag rest.now self.old self.new result }
         ensures segments { self.new.segments ≡ self.old.segments }
     {
-        let tag = init_section_said(self.alloc, self.references.base(), rest)?;
+        let tag = said_by_init_section_tag(self.alloc, self.references.base(), rest)?;
         let keys = self.segments.keys().clone()?;
         if is_iv_needed(&keys.lent()) {
             return Err(FaultKind::MapWithoutIv);
@@ -226,7 +221,7 @@ impl<'a> ReaderState<'a> {
         ensures takes { TakesTagExactly said.byte_range_tag rest.now self.old self.new result }
         ensures segments { self.new.segments ≡ self.old.segments }
     {
-        self.byte_range = Some(byte_range_of(rest)?);
+        self.byte_range = Some(byte_range_tag_numbers(rest)?);
         Ok(())
     }
 
@@ -266,7 +261,7 @@ impl<'a> ReaderState<'a> {
         match self.byte_range {
             None => Ok(None),
             Some((length, Some(offset))) => Ok(Some(ByteRange { length, offset })),
-            Some((length, None)) => byte_range_after(length, uri, &self.last),
+            Some((length, None)) => byte_range_after_last_part(length, uri, &self.last),
         }
     }
 
@@ -448,7 +443,7 @@ impl<'a> ReaderState<'a> {
         let uri = self.references.resolve_part(reference)?;
         let byte_range = self.next_byte_range(uri.as_str())?;
         self.list(number, uri.as_str(), "", byte_range, duration, title)?;
-        self.segment_stands(last_part(uri, byte_range));
+        self.segment_stands(last_byte_range_part(uri, byte_range));
         Ok(())
     }
 
@@ -475,7 +470,7 @@ impl<'a> ReaderState<'a> {
 }
 
 // What is kept of a segment of this resource for the next one's byte range, if it is a part of it (4.3.2.2).
-fn last_part(uri: ShortText, byte_range: Option<ByteRange>) -> Option<Part>
+fn last_byte_range_part(uri: ShortText, byte_range: Option<ByteRange>) -> Option<Part>
     ensures { extent_after result ≡ extent_with uri byte_range }
 {
     match byte_range {
@@ -486,7 +481,7 @@ fn last_part(uri: ShortText, byte_range: Option<ByteRange>) -> Option<Part>
 
 // The byte range of `length` bytes that states no offset: it follows `last`, the one before, if that is of the same
 // resource `uri` (RFC 8216, section 4.3.2.2).
-fn byte_range_after(
+fn byte_range_after_last_part(
     length: u64,
     uri: &str,
     last: &Option<Part>,

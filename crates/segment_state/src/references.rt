@@ -4,7 +4,7 @@ ghost use Rattle.std.specs.Option.{option_copied};
 ghost use Rattle.playlist_model.specs.Said.{uri_of};
 ghost use Rattle.playlist_model.specs.Refusals.{GivesOrPlaylistFault};
 
-use crate::tags::short_uri_of;
+use crate::tags::short_tag_uri_of;
 use playlist_model::{FaultKind, ShortText, Text};
 use std::alloc::Global;
 use std::marker::Model;
@@ -72,7 +72,7 @@ impl<'a> References<'a> {
     pub fn resolve(&self, reference: &str) -> Result<ShortText, FaultKind>
         ensures { GivesOrPlaylistFault (λ uri. uri) result (uri_of self.now reference.now) }
     {
-        short_uri_of(self.base, reference)
+        short_tag_uri_of(self.base, reference)
     }
 
     /// The resource that `reference` names, of which a segment is a part (RFC 8216, section 4.1). It is kept for the
@@ -87,7 +87,7 @@ impl<'a> References<'a> {
                 return Ok(last.uri.clone()?);
             }
         }
-        let uri = short_uri_of(self.base, reference)?;
+        let uri = short_tag_uri_of(self.base, reference)?;
         let reference = Text::copy_of(self.alloc, reference)?;
         self.last = Some(Resolved {
             reference,

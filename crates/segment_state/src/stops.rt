@@ -1,6 +1,5 @@
 //! What stands after a segment, so that lines which were read before can go on there after others.
-ghost use Rattle.std.specs.Prelude.{◌≡◌, ◌+◌, ◌^◌, ◌<◌, ◌≤◌, true, false, IfOk, IfErr, OnErr, MatchOption, IsTrue, Some, None};
-ghost use Rattle.playlist_model.specs.Same.{same_option, same_init_section};
+ghost use Rattle.std.specs.Prelude.{◌≡◌, ◌+◌, ◌^◌, ◌<◌, ◌≤◌, true, false, IfOk, OnErr, MatchOption, Some, None};
 ghost use Rattle.segment_state.specs.Continued.{IsBetween, IsStop, IsReached, stopped_at};
 ghost use Rattle.segment_state.specs.Inner.Running.{taken_at};
 ghost use Rattle.segment_state.specs.Views.{extent_after};
@@ -32,14 +31,14 @@ impl Model for Stop {
 }
 
 #[tactic(auto, using(crate::proofs::EqualParts::keys_are))]
-fn are_equal_keys(one: &Keys, other: &Keys) -> bool
+fn are_equal_keys_in_reader_state(one: &Keys, other: &Keys) -> bool
     ensures { result ≡ true → one.now ≡ other.now }
 {
     are_same_keys(&one.lent(), &other.lent())
 }
 
 #[tactic(auto, using(crate::proofs::EqualParts::some_init_section))]
-fn are_equal_init_sections(
+fn are_equal_init_sections_in_reader_state(
     one: &Option<Shared<InitSection>>,
     other: &Option<Shared<InitSection>>,
 ) -> bool
@@ -53,7 +52,7 @@ fn are_equal_init_sections(
 }
 
 #[tactic(auto, using(crate::proofs::EqualParts::same_extent))]
-fn is_equal_part(one: &Part, other: &Part) -> bool
+fn is_equal_last_part(one: &Part, other: &Part) -> bool
     ensures { result ≡ true → extent_after (Some one.now) ≡ extent_after (Some other.now) }
 {
     if one.uri.as_str() != other.uri.as_str() {
@@ -65,17 +64,17 @@ fn is_equal_part(one: &Part, other: &Part) -> bool
     one.byte_range.offset == other.byte_range.offset
 }
 
-fn are_equal_parts(one: &Option<Part>, other: &Option<Part>) -> bool
+fn are_equal_last_parts(one: &Option<Part>, other: &Option<Part>) -> bool
     ensures { result ≡ true → extent_after one.now ≡ extent_after other.now }
 {
     match (one, other) {
-        (Some(one), Some(other)) => is_equal_part(one, other),
+        (Some(one), Some(other)) => is_equal_last_part(one, other),
         (None, None) => true,
         _ => false,
     }
 }
 
-fn copied_part(part: &Option<Part>) -> Result<Option<Part>, AllocError>
+fn copied_last_part(part: &Option<Part>) -> Result<Option<Part>, AllocError>
     ensures { IfOk result (λ copy. extent_after copy ≡ extent_after part.now) }
 {
     let Some(part) = part else {
@@ -121,7 +120,7 @@ impl<'a> ReaderState<'a> {
             discontinuity: self.discontinuity_number(),
             keys: self.segments.keys().clone()?,
             init_section: self.segments.init_section().clone()?,
-            last: copied_part(&self.last)?,
+            last: copied_last_part(&self.last)?,
         }))
     }
 
@@ -141,13 +140,16 @@ impl<'a> ReaderState<'a> {
         if self.discontinuity_number() != stop.discontinuity {
             return false;
         }
-        if !are_equal_keys(self.segments.keys(), &stop.keys) {
+        if !are_equal_keys_in_reader_state(self.segments.keys(), &stop.keys) {
             return false;
         }
-        if !are_equal_init_sections(self.segments.init_section(), &stop.init_section) {
+        if !are_equal_init_sections_in_reader_state(
+            self.segments.init_section(),
+            &stop.init_section,
+        ) {
             return false;
         }
-        are_equal_parts(&self.last, &stop.last)
+        are_equal_last_parts(&self.last, &stop.last)
     }
 
     // Takes what stands at a stop, over the first numbers that its playlist states.
@@ -197,7 +199,7 @@ impl<'a> ReaderState<'a> {
         };
         let keys = stop.keys.clone()?;
         let init_section = stop.init_section.clone()?;
-        let last = copied_part(&stop.last)?;
+        let last = copied_last_part(&stop.last)?;
         self.take_stop(media_count, discontinuity_count, keys, init_section, last);
         Ok(true)
     }

@@ -11,7 +11,7 @@ ghost use Rattle.playlist_model.specs.Refusals.{GivesOrPlaylistFault};
 ghost use Rattle.segment_state.specs.Attributes.{pairs_of};
 ghost use Rattle.segment_state.specs.Inner.Tags.{init_section_tag_said};
 
-use crate::attributes::{attributes_of, optional_value, required_value};
+use crate::attributes::{optional_tag_value, required_tag_value, tag_attributes_of};
 use attr_list::{AttrList, read_decimal, read_hex_u128};
 use playlist_model::{ByteRange, FaultKind, Key, KeyTag, OtherAttributes, Shared, ShortText, Text};
 use std::alloc::Global;
@@ -30,7 +30,7 @@ pub struct InitSectionTag {
 }
 
 /// The resource that a reference names.
-fn uri_of(base: &Base, reference: &str) -> Result<Text, FaultKind>
+fn tag_uri_of(base: &Base, reference: &str) -> Result<Text, FaultKind>
     ensures { GivesOrPlaylistFault (λ uri. uri) result (uri_of base.now reference.now) }
 {
     match base.resolve(reference) {
@@ -43,7 +43,7 @@ fn uri_of(base: &Base, reference: &str) -> Result<Text, FaultKind>
 /// The URI of a segment that `reference` is under `base` (RFC 8216, section 4.1), as a text that takes no memory of
 /// its own if it is short, as most are. `BadUri` if it can't be resolved; `OutOfMemory` only if an allocation fails.
 #[inline(always)]
-pub fn short_uri_of(base: &Base, reference: &str) -> Result<ShortText, FaultKind>
+pub fn short_tag_uri_of(base: &Base, reference: &str) -> Result<ShortText, FaultKind>
     ensures { GivesOrPlaylistFault (λ uri. uri) result (uri_of base.now reference.now) }
 {
     let fault = match base.resolve_short(reference) {
@@ -55,17 +55,17 @@ pub fn short_uri_of(base: &Base, reference: &str) -> Result<ShortText, FaultKind
 }
 
 // The same, to be shared.
-fn shared_uri(alloc: Global, base: &Base, reference: &str) -> Result<Shared<Text>, FaultKind>
+fn shared_tag_uri(alloc: Global, base: &Base, reference: &str) -> Result<Shared<Text>, FaultKind>
     ensures { GivesOrPlaylistFault (λ uri. uri) result (uri_of base.now reference.now) }
 {
-    Ok(Shared::new(alloc, uri_of(base, reference)?)?)
+    Ok(Shared::new(alloc, tag_uri_of(base, reference)?)?)
 }
 
 // The IV of a key tag, if it states one.
-fn iv_of(list: &AttrList<'_>) -> Result<Option<u128>, FaultKind>
+fn key_tag_iv_of(list: &AttrList<'_>) -> Result<Option<u128>, FaultKind>
     ensures { result ≡ outcomes.optional iv_of (attribute (pairs_of list.now) (codes "IV")) }
 {
-    let Some(value) = optional_value(list, "IV", false)? else {
+    let Some(value) = optional_tag_value(list, "IV", false)? else {
         return Ok(None);
     };
     match read_hex_u128(value) {
@@ -74,14 +74,19 @@ fn iv_of(list: &AttrList<'_>) -> Result<Option<u128>, FaultKind>
     }
 }
 
-fn set_key(alloc: Global, base: &Base, list: &AttrList<'_>, method: &str) -> Result<Key, FaultKind>
+fn key_of_tag(
+    alloc: Global,
+    base: &Base,
+    list: &AttrList<'_>,
+    method: &str,
+) -> Result<Key, FaultKind>
     ensures { GivesOrPlaylistFault said.key result
         (set_key base.now (pairs_of list.now) method.now) }
 {
-    let reference = required_value(list, "URI", true)?;
-    let iv = iv_of(list)?;
-    let format = optional_value(list, "KEYFORMAT", true)?;
-    let uri = shared_uri(alloc, base, reference)?;
+    let reference = required_tag_value(list, "URI", true)?;
+    let iv = key_tag_iv_of(list)?;
+    let format = optional_tag_value(list, "KEYFORMAT", true)?;
+    let uri = shared_tag_uri(alloc, base, reference)?;
     let other = OtherAttributes::of(alloc, list)?;
     Ok(Key {
         format: Shared::copy_of(alloc, format.unwrap_or(IDENTITY))?,
@@ -95,18 +100,18 @@ fn set_key(alloc: Global, base: &Base, list: &AttrList<'_>, method: &str) -> Res
 /// What an EXT-X-KEY with the attributes `rest` says under `base` (RFC 8216, section 4.3.2.4). The faults, in this
 /// order: `BadAttributes` for the list, `MissingAttribute` or `BadAttributes` for METHOD, URI, IV and KEYFORMAT,
 /// `BadUri`; `OutOfMemory` only if an allocation fails.
-pub fn key_said(alloc: Global, base: &Base, rest: &str) -> Result<KeyTag, FaultKind>
+pub fn said_by_key_tag(alloc: Global, base: &Base, rest: &str) -> Result<KeyTag, FaultKind>
     ensures { GivesOrPlaylistFault key_tag_said result (key_said limited base.now rest.now) }
 {
-    let list = attributes_of(alloc, rest)?;
-    let method = required_value(&list, "METHOD", false)?;
+    let list = tag_attributes_of(alloc, rest)?;
+    let method = required_tag_value(&list, "METHOD", false)?;
     if method == "NONE" {
         return Ok(KeyTag::End);
     }
-    Ok(KeyTag::Set(set_key(alloc, base, &list, method)?))
+    Ok(KeyTag::Set(key_of_tag(alloc, base, &list, method)?))
 }
 
-fn decimal(text: &str) -> Result<u64, FaultKind>
+fn tag_decimal(text: &str) -> Result<u64, FaultKind>
     ensures { result ≡ or_fault FaultKind.BadRange (decimal_of text.now) }
 {
     read_decimal(text).map_err(|_| FaultKind::BadRange)
@@ -114,7 +119,7 @@ fn decimal(text: &str) -> Result<u64, FaultKind>
 
 /// The length that `text` states as `n[@o]`, and the offset if it states one, in bytes (RFC 8216, section 4.3.2.2).
 /// `BadRange` if it states neither, or the byte range's end passes 2^64 - 1. Takes no memory.
-pub fn byte_range_of(text: &str) -> Result<(u64, Option<u64>), FaultKind>
+pub fn byte_range_tag_numbers(text: &str) -> Result<(u64, Option<u64>), FaultKind>
     ensures { result ≡ byte_range_of text.now }
 {
     // Most state no offset.
@@ -124,11 +129,11 @@ pub fn byte_range_of(text: &str) -> Result<(u64, Option<u64>), FaultKind>
     let Some((length, offset)) = text.split_once('@') else {
         return Err(FaultKind::BadRange);
     };
-    stated_byte_range(decimal(length)?, decimal(offset)?)
+    byte_range_of_tag(tag_decimal(length)?, tag_decimal(offset)?)
 }
 
 // A byte range of this length at this offset.
-fn stated_byte_range(length: u64, offset: u64) -> Result<(u64, Option<u64>), FaultKind>
+fn byte_range_of_tag(length: u64, offset: u64) -> Result<(u64, Option<u64>), FaultKind>
     ensures { result ≡ stated_byte_range length offset }
 {
     if length.checked_add(offset).is_none() {
@@ -138,14 +143,14 @@ fn stated_byte_range(length: u64, offset: u64) -> Result<(u64, Option<u64>), Fau
 }
 
 // The part of its resource that an initialisation section is: it begins at 0 if it states no offset.
-fn init_section_byte_range(list: &AttrList<'_>) -> Result<Option<ByteRange>, FaultKind>
+fn init_section_tag_byte_range(list: &AttrList<'_>) -> Result<Option<ByteRange>, FaultKind>
     ensures { result
         ≡ outcomes.optional init_section_byte_range (attribute (pairs_of list.now) (codes "BYTERANGE")) }
 {
-    let Some(value) = optional_value(list, "BYTERANGE", true)? else {
+    let Some(value) = optional_tag_value(list, "BYTERANGE", true)? else {
         return Ok(None);
     };
-    let (length, offset) = byte_range_of(value)?;
+    let (length, offset) = byte_range_tag_numbers(value)?;
     let offset = offset.unwrap_or(0);
     Ok(Some(ByteRange { length, offset }))
 }
@@ -153,7 +158,7 @@ fn init_section_byte_range(list: &AttrList<'_>) -> Result<Option<ByteRange>, Fau
 /// What an EXT-X-MAP with the attributes `rest` says under `base` (RFC 8216, section 4.3.2.5). The faults, in this
 /// order: `BadAttributes` for the list, `MissingAttribute` or `BadAttributes` for URI, `BadAttributes` or `BadRange`
 /// for BYTERANGE, `BadUri`; `OutOfMemory` only if an allocation fails.
-pub fn init_section_said(
+pub fn said_by_init_section_tag(
     alloc: Global,
     base: &Base,
     rest: &str,
@@ -161,9 +166,9 @@ pub fn init_section_said(
     ensures { GivesOrPlaylistFault init_section_tag_said result
         (init_section_said limited base.now rest.now) }
 {
-    let list = attributes_of(alloc, rest)?;
-    let reference = required_value(&list, "URI", true)?;
-    let byte_range = init_section_byte_range(&list)?;
-    let uri = shared_uri(alloc, base, reference)?;
+    let list = tag_attributes_of(alloc, rest)?;
+    let reference = required_tag_value(&list, "URI", true)?;
+    let byte_range = init_section_tag_byte_range(&list)?;
+    let uri = shared_tag_uri(alloc, base, reference)?;
     Ok(InitSectionTag { uri, byte_range })
 }

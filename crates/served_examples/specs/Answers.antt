@@ -7,7 +7,7 @@ use Rattle.http_messages.specs.declared.message.Reply.{Reply}
 use Rattle.http_messages.specs.declared.message.Allow.{Allow}
 use Rattle.http_messages.specs.declared.message.Allow.TheVariants as allow
 use Rattle.http_messages.specs.declared.message.ContentType.TheVariants.{Playlist}
-use Rattle.http_messages.specs.Replies.{bare, plain_reply}
+use Rattle.http_messages.specs.Replies.{bare, plain_http_reply}
 use Rattle.pod_store.specs.declared.fault.DecisionKind.{DecisionKind}
 use Rattle.pod_store.specs.declared.fault.DecisionKind.TheVariants as decision
 use Rattle.pod_store.specs.Outcome.{DecisionOutcome}
@@ -35,7 +35,7 @@ get target = asks (codes "GET") target []
 
 -- a reply of one line
 abbrev pub line : ℕ → List ℕ → Reply
-line status words = plain_reply status (words ++ 10 ∷ [])
+line status words = plain_http_reply status (words ++ 10 ∷ [])
 
 abbrev pub not_found : Reply
 not_found = line 404 (codes "not found")
@@ -245,30 +245,30 @@ ReasonsAreAnswered = HasValues answer (
     (why ∷ make ∷ [], Some (bare 200))
     ∷ (
       why ∷ refresh (codes "#EXT-X-DATERANGE:ID=\"c\"" ∷ codes "#EXT-X-DATERANGE:ID=\"b\",START-DATE=\"2024-05-01T12:00:00Z\"" ∷ codes "#EXTINF:10," ∷ codes "a:s" ∷ []) ∷ make ∷ [],
-      Some (plain_reply 200 (codes "c" ++ (9 ∷ codes "NoStart" ++ (10 ∷ codes "b" ++ (9 ∷ codes "NotSignalled" ++ 10 ∷ []))))),
+      Some (plain_http_reply 200 (codes "c" ++ (9 ∷ codes "NoStart" ++ (10 ∷ codes "b" ++ (9 ∷ codes "NotSignalled" ++ 10 ∷ []))))),
     )
     ∷ (
       why ∷ refresh (long_tag ∷ codes "#EXT-X-PROGRAM-DATE-TIME:2024-05-01T12:00:00Z" ∷ codes "#EXTINF:10," ∷ codes "a:s" ∷ codes "#EXTINF:10," ∷ codes "a:t" ∷ codes "#EXTINF:10," ∷ codes "a:u" ∷ codes "#EXTINF:10," ∷ codes "a:v" ∷ codes "#EXTINF:10," ∷ codes "a:w" ∷ []) ∷ decide fallback ∷ make ∷ [],
-      Some (plain_reply 200 (long 98 ++ (9 ∷ codes "Filled" ++ 10 ∷ []))),
+      Some (plain_http_reply 200 (long 98 ++ (9 ∷ codes "Filled" ++ 10 ∷ []))),
     )
     ∷ (
       why ∷ refresh (later_tag ∷ codes "#EXT-X-PROGRAM-DATE-TIME:2024-05-01T12:00:00Z" ∷ codes "#EXTINF:10," ∷ codes "a:s" ∷ []) ∷ decide fallback ∷ put (codes "/channels/a") (codes "{\"base\":\"http://h/\",\"tolerance\":\"1\"}") ∷ [],
-      Some (plain_reply 200 (codes "b" ++ (9 ∷ codes "Filled" ++ 10 ∷ []))),
+      Some (plain_http_reply 200 (codes "b" ++ (9 ∷ codes "Filled" ++ 10 ∷ []))),
     )
     ∷ (
       why ∷ refresh (later_tag ∷ codes "#EXT-X-PROGRAM-DATE-TIME:2024-05-01T12:00:00Z" ∷ codes "#EXTINF:10," ∷ codes "a:s" ∷ []) ∷ decide fallback ∷ make ∷ [],
-      Some (plain_reply 200 (codes "b" ++ (9 ∷ codes "Waiting" ++ 10 ∷ []))),
+      Some (plain_http_reply 200 (codes "b" ++ (9 ∷ codes "Waiting" ++ 10 ∷ []))),
     )
     ∷ (
       why ∷ refresh (tag_b ∷ tag_c ∷ codes "#EXT-X-MEDIA-SEQUENCE:102" ∷ codes "#EXTINF:10," ∷ codes "a:u" ∷ codes "#EXTINF:10," ∷ codes "a:v" ∷ [])
           ∷ refresh (tag_b ∷ tag_c ∷ codes "#EXT-X-MEDIA-SEQUENCE:100" ∷ codes "#EXT-X-PROGRAM-DATE-TIME:2024-05-01T12:00:00Z" ∷ codes "#EXTINF:10," ∷ codes "a:s" ∷ codes "#EXTINF:10," ∷ codes "a:t" ∷ []) ∷ decide fallback ∷ make ∷ [],
-      Some (plain_reply 200 (codes "b" ++ (9 ∷ codes "Waiting" ++ (10 ∷ codes "c" ++ (9 ∷ codes "Filled" ++ 10 ∷ []))))),
+      Some (plain_http_reply 200 (codes "b" ++ (9 ∷ codes "Waiting" ++ (10 ∷ codes "c" ++ (9 ∷ codes "Filled" ++ 10 ∷ []))))),
     )
     ∷ (
       why ∷ five_ids ∷ five_ids ∷ five_ids ∷ five_ids ∷ refresh (codes "#EXT-X-DATERANGE:ID=\"e\"" ∷ codes "#EXTINF:10," ∷ codes "a:s" ∷ []) ∷ make ∷ [],
-      Some (plain_reply 200 (codes "e" ++ (9 ∷ codes "NoStart" ++ (10 ∷ codes "b" ++ (9 ∷ codes "NoStart" ++ (10 ∷ codes "c" ++ (9 ∷ codes "NoStart" ++ (10 ∷ codes "d" ++ (9 ∷ codes "NoStart" ++ 10 ∷ []))))))))),
+      Some (plain_http_reply 200 (codes "e" ++ (9 ∷ codes "NoStart" ++ (10 ∷ codes "b" ++ (9 ∷ codes "NoStart" ++ (10 ∷ codes "c" ++ (9 ∷ codes "NoStart" ++ (10 ∷ codes "d" ++ (9 ∷ codes "NoStart" ++ 10 ∷ []))))))))),
     )
-    ∷ (why ∷ refresh (long_tag ∷ codes "#EXTINF:10," ∷ codes "a:s" ∷ []) ∷ make ∷ [], Some (plain_reply 200 (long 98 ++ (9 ∷ codes "NotDecided" ++ 10 ∷ []))))
+    ∷ (why ∷ refresh (long_tag ∷ codes "#EXTINF:10," ∷ codes "a:s" ∷ []) ∷ make ∷ [], Some (plain_http_reply 200 (long 98 ++ (9 ∷ codes "NotDecided" ++ 10 ∷ []))))
     ∷ (why ∷ [], Some not_found)
     ∷ (put (codes "/channels/a/why") [] ∷ make ∷ [], Some (not_allowed allow.Get)) ∷ [])
 

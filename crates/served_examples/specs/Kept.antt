@@ -7,13 +7,13 @@ use Rattle.playlist_write.specs.declared.resumed.WrittenText.{WrittenText}
 use Rattle.pod_store.specs.Store.{Entry, nothing_decided}
 use Rattle.channel_spec.specs.declared.fault.RefreshFault.{RefreshFault}
 use Rattle.channel_spec.specs.declared.fault.RefreshFault.TheVariants.{Playlist as Unreadable, Changed, NumberRange, OutOfMemory}
-use Rattle.channel_spec.specs.Successor.{heading_of}
+use Rattle.channel_spec.specs.Successor.{owed_heading_of}
 use Rattle.channel_spec.specs.Live.{told}
 use Rattle.channel_spec.specs.Kept.{Kept, kept_of}
 use Rattle.channel_window.specs.declared.state.ChannelState.{ChannelState}
 use Rattle.pod_store.specs.Marks.{Marked}
 use Rattle.stitcher.specs.declared.OutSegment.{OutSegment}
-use Rattle.channel_window.specs.Listed.{head_of, segments_in}
+use Rattle.channel_window.specs.Listed.{head_of, window_segments_in}
 use Rattle.channel_window.specs.ListEnd.{begins_run, heading_has_ended, last_window}
 use Rattle.live_channel.specs.declared.channel.Refreshed.{Refreshed}
 use Rattle.live_channel.specs.Channel.{Channel, Given, decided, withdrawn, refreshed, channel_with, with_store, text_in, owed_answer, is_out_of_memory, store_by}
@@ -31,7 +31,7 @@ use Rattle.served_examples.specs.Answers.{first_refresh, refresh}
 abbrev pub state : ChannelState
 state = record {
   store = ab;
-  last = Some (heading_of five);
+  last = Some (owed_heading_of five);
   list = record { segment = stepped 5 3 1; instant = None; mark = None; goes_on = false } ∷ record { segment = stepped 6 3 0; instant = None; mark = Some (codes "a"); goes_on = false } ∷ [];
   shown = record {
     knowledge = record { id = codes "a"; said = nothing_said } ∷ [];
@@ -48,7 +48,7 @@ abbrev pub kept : Kept
 kept = record {
   store = ab;
   breaks = record { id = codes "a"; said = nothing_said } ∷ [];
-  last = Some (heading_of five);
+  last = Some (owed_heading_of five);
   shown = marked (record { id = codes "a"; pod = short 1 }) (stepped 6 3 0) ∷ unmarked (stepped 5 3 1) ∷ [];
   entered = Some (codes "a");
   numbers = record { media_sequence = 8; discontinuity_sequence = 4; discontinuities = 2 };
@@ -67,7 +67,7 @@ five_shown = record state { list = record { segment = stepped 5 3 0; instant = N
 
 -- the segments that it holds, the oldest first
 abbrev pub SegmentsAreHeld : Type 0
-SegmentsAreHeld = HasValues segments_in (
+SegmentsAreHeld = HasValues window_segments_in (
     (state.list, stepped 5 3 1 ∷ stepped 6 3 0 ∷ [])
     ∷ ([], [])
     ∷ (five_shown.list, stepped 5 3 0 ∷ stepped 6 3 0 ∷ stepped 7 3 0 ∷ stepped 8 3 0 ∷ stepped 9 3 0 ∷ []) ∷ [])
@@ -118,7 +118,7 @@ RunsBegin = HasValues (λ (it : List Marked × List Marked). begins_run it.0 it.
 
 abbrev pub EndsAreTold : Type 0
 EndsAreTold = HasValues heading_has_ended (
-    (None, false) ∷ (Some (heading_of five), false) ∷ (Some (record (heading_of five) { end_list = true }), true) ∷ [])
+    (None, false) ∷ (Some (owed_heading_of five), false) ∷ (Some (record (owed_heading_of five) { end_list = true }), true) ∷ [])
 
 -- a segment of the origin as it is written
 abbrev pub written_as : ℕ → ℕ → ℕ → ℕ → OutSegment

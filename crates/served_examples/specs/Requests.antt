@@ -7,10 +7,10 @@ use Rattle.http_messages.specs.declared.refusal.Refusal.TheVariants.{BadRequest,
 use Rattle.http_messages.specs.declared.head.Framing.{Framing}
 use Rattle.http_messages.specs.declared.head.Framing.TheVariants.{Body, Refused}
 use Rattle.http_messages.specs.Limits.{head_limit, field_limit, body_limit}
-use Rattle.http_messages.specs.Requests.{HeaderField, framing_of, framing_said}
-use Rattle.http_messages.specs.Replies.{bare, plain_reply, refusal_reply, sends_body, text_sent}
+use Rattle.http_messages.specs.Requests.{HeaderField, request_framing_of, framing_said}
+use Rattle.http_messages.specs.Replies.{bare, plain_http_reply, refusal_reply, sends_body, text_sent}
 use Rattle.channel_api.specs.declared.routes.Resource.TheVariants.{Channel, Origin, Decisions, Live, Why}
-use Rattle.channel_api.specs.Routes.{is_channel_name, path_of, route_of}
+use Rattle.channel_api.specs.Routes.{is_channel_name, route_path_of, route_of}
 use Rattle.worked_examples.specs.Pods.{long}
 use Rattle.worked_examples.specs.Tables.{HasValues}
 
@@ -28,7 +28,7 @@ NamesAreChecked = HasValues is_channel_name (
 
 -- RFC 3986, 3.4: a query begins at the first question mark, and is passed over
 abbrev pub QueriesArePassedOver : Type 0
-QueriesArePassedOver = HasValues path_of ((codes "/a?b?c", codes "/a") ∷ (codes "/a", codes "/a") ∷ (codes "?", []) ∷ [])
+QueriesArePassedOver = HasValues route_path_of ((codes "/a?b?c", codes "/a") ∷ (codes "/a", codes "/a") ∷ (codes "?", []) ∷ [])
 
 -- docs/OPERATING.md: the routes
 abbrev pub RoutesAreFound : Type 0
@@ -45,7 +45,7 @@ OtherPathsAreNone = HasValues route_of (
     (codes "/channels/A", None) ∷ (codes "/channels/", None) ∷ (codes "/channels/a/", None) ∷ (codes "/channels/a/live", None) ∷ (codes "/a", None) ∷ (codes "/", None) ∷ [])
 
 abbrev pub framing : List ℕ × List HeaderField → Framing
-framing it = framing_of it.0 it.1
+framing it = request_framing_of it.0 it.1
 
 -- RFC 9112, 6.1 and 6.3, with docs/CONFORMANCE.md: the body of a PUT has its one Content-Length, of at most 4,194,304 bytes; with
 -- Transfer-Encoding or without a length it is 411, with two or one that is no decimal 400, with more 413. A request of another
@@ -85,18 +85,18 @@ abbrev pub RepliesAreWritten : Type 0
 RepliesAreWritten = HasValues (text_sent true) (
     (bare 204, lines (codes "HTTP/1.1 204 No Content" ∷ codes "Connection: close" ∷ [] ∷ []))
     ∷ (bare 201, lines (codes "HTTP/1.1 201 Created" ∷ codes "Content-Length: 0" ∷ codes "Connection: close" ∷ [] ∷ []))
-    ∷ (plain_reply 200 (long 98), lines (codes "HTTP/1.1 200 OK" ∷ codes "Content-Type: text/plain; charset=utf-8" ∷ codes "Content-Length: 46" ∷ codes "Connection: close" ∷ [] ∷ []) ++ long 98)
+    ∷ (plain_http_reply 200 (long 98), lines (codes "HTTP/1.1 200 OK" ∷ codes "Content-Type: text/plain; charset=utf-8" ∷ codes "Content-Length: 46" ∷ codes "Connection: close" ∷ [] ∷ []) ++ long 98)
     ∷ (bare 200, lines (codes "HTTP/1.1 200 OK" ∷ codes "Content-Length: 0" ∷ codes "Connection: close" ∷ [] ∷ []))
-    ∷ (plain_reply 404 (codes "not found\n"), lines (codes "HTTP/1.1 404 Not Found" ∷ codes "Content-Type: text/plain; charset=utf-8" ∷ codes "Content-Length: 10" ∷ codes "Connection: close" ∷ [] ∷ []) ++ codes "not found\n")
-    ∷ (plain_reply 409 (codes "N5 Back\n"), lines (codes "HTTP/1.1 409 Conflict" ∷ codes "Content-Type: text/plain; charset=utf-8" ∷ codes "Content-Length: 8" ∷ codes "Connection: close" ∷ [] ∷ []) ++ codes "N5 Back\n")
-    ∷ (plain_reply 422 (codes "J6 EmptyPod\n"), lines (codes "HTTP/1.1 422 Unprocessable Entity" ∷ codes "Content-Type: text/plain; charset=utf-8" ∷ codes "Content-Length: 12" ∷ codes "Connection: close" ∷ [] ∷ []) ++ codes "J6 EmptyPod\n")
+    ∷ (plain_http_reply 404 (codes "not found\n"), lines (codes "HTTP/1.1 404 Not Found" ∷ codes "Content-Type: text/plain; charset=utf-8" ∷ codes "Content-Length: 10" ∷ codes "Connection: close" ∷ [] ∷ []) ++ codes "not found\n")
+    ∷ (plain_http_reply 409 (codes "N5 Back\n"), lines (codes "HTTP/1.1 409 Conflict" ∷ codes "Content-Type: text/plain; charset=utf-8" ∷ codes "Content-Length: 8" ∷ codes "Connection: close" ∷ [] ∷ []) ++ codes "N5 Back\n")
+    ∷ (plain_http_reply 422 (codes "J6 EmptyPod\n"), lines (codes "HTTP/1.1 422 Unprocessable Entity" ∷ codes "Content-Type: text/plain; charset=utf-8" ∷ codes "Content-Length: 12" ∷ codes "Connection: close" ∷ [] ∷ []) ++ codes "J6 EmptyPod\n")
     ∷ (bare 503, lines (codes "HTTP/1.1 503 Service Unavailable" ∷ codes "Content-Length: 0" ∷ codes "Connection: close" ∷ [] ∷ []))
     ∷ (
       record { status = 200; allow = None; content = Some (record { media = Playlist; text = codes "hi" }) },
       lines (codes "HTTP/1.1 200 OK" ∷ codes "Content-Type: application/vnd.apple.mpegurl" ∷ codes "Content-Length: 2" ∷ codes "Connection: close" ∷ [] ∷ []) ++ codes "hi",
     )
     ∷ (
-      record (plain_reply 405 (codes "no")) { allow = Some allow.PutDelete },
+      record (plain_http_reply 405 (codes "no")) { allow = Some allow.PutDelete },
       lines (codes "HTTP/1.1 405 Method Not Allowed" ∷ codes "Content-Type: text/plain; charset=utf-8" ∷ codes "Allow: PUT, DELETE" ∷ codes "Content-Length: 2" ∷ codes "Connection: close" ∷ [] ∷ []) ++ codes "no",
     )
     ∷ (record (bare 405) { allow = Some allow.Put }, lines (codes "HTTP/1.1 405 Method Not Allowed" ∷ codes "Allow: PUT" ∷ codes "Content-Length: 0" ∷ codes "Connection: close" ∷ [] ∷ []))
@@ -111,7 +111,7 @@ HeadsAreSent = HasValues sends_body ((codes "GET", true) ∷ (codes "PUT", true)
 
 abbrev pub HeadRepliesAreWritten : Type 0
 HeadRepliesAreWritten = HasValues (text_sent false) (
-    (plain_reply 405 (codes "no"), lines (codes "HTTP/1.1 405 Method Not Allowed" ∷ codes "Content-Type: text/plain; charset=utf-8" ∷ codes "Content-Length: 2" ∷ codes "Connection: close" ∷ [] ∷ [])) ∷ [])
+    (plain_http_reply 405 (codes "no"), lines (codes "HTTP/1.1 405 Method Not Allowed" ∷ codes "Content-Type: text/plain; charset=utf-8" ∷ codes "Content-Length: 2" ∷ codes "Connection: close" ∷ [] ∷ [])) ∷ [])
 
 -- a head of this method, whose only field states this length
 abbrev pub head_with : List ℕ → List ℕ → RequestHead

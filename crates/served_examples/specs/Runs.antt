@@ -14,8 +14,9 @@ use Rattle.live_channel.specs.Channel.{Given, decided, withdrawn, refreshed, eve
 use Rattle.playlist_model.specs.Segments.{Segment}
 use Rattle.playlist_model.specs.declared.Key.{Key}
 use Rattle.read_is_writable.specs.Limits.{line_keeps}
-use Rattle.read_is_writable.specs.Read.{uri_reads, quoted_uri_reads, numbers_read, segment_reads, segment_can_be_written, uris_are_text}
+use Rattle.read_is_writable.specs.Read.{numbers_read, segment_can_be_written}
 use Rattle.vod_run.specs.Events as vod
+use Rattle.writable.specs.Fitting.{uri_fits, quoted_uri_fits}
 use Rattle.vod_run.specs.Given.{given_by}
 use Rattle.byte_streams.specs.Fair.{most_reads}
 use Rattle.vod_run.specs.Vod.{read_under, told_with}
@@ -56,27 +57,15 @@ key resource = record { format = codes "f"; method = codes "A"; uri = resource; 
 abbrev pub segment : Segment
 segment = record { media_sequence = 0; discontinuity_sequence = 0; discontinuities = 0; uri = codes "a:s"; byte_range = None; keys = []; init_section = None; duration = 1; title = []; program_date_time = None }
 
--- RFC 8216, 4.1: a playlist is UTF-8, and so is each URI in it; 255 is no byte of such a text
-abbrev pub UrisAreText : Type 0
-UrisAreText = HasValues uris_are_text (
-    (segment, true)
-    ∷ (record segment { uri = 255 ∷ [] }, false)
-    ∷ (record segment { keys = key (codes "a:k") ∷ [] }, true)
-    ∷ (record segment { keys = key (codes "a:k") ∷ key (255 ∷ []) ∷ [] }, false)
-    ∷ (record segment { init_section = Some (record { uri = 255 ∷ []; byte_range = None; keys = [] }) }, false)
-    ∷ (record segment { init_section = Some (record { uri = codes "a:i"; byte_range = None; keys = key (255 ∷ []) ∷ [] }) }, false)
-    ∷ (record segment { init_section = Some (record { uri = codes "a:i"; byte_range = None; keys = key (codes "a:k") ∷ [] }) }, true)
-    ∷ (record segment { init_section = Some (record { uri = codes "a:i"; byte_range = None; keys = key (codes "a:k") ∷ key (255 ∷ []) ∷ [] }) }, false)
-    ∷ (record segment { init_section = Some (record { uri = codes "a:i"; byte_range = None; keys = key (codes "a:k") ∷ key (codes "a:k") ∷ key (codes "a:k") ∷ key (codes "a:k") ∷ key (255 ∷ []) ∷ [] }) }, false)
-    ∷ (record segment { keys = key (codes "a:k") ∷ key (codes "a:k") ∷ key (codes "a:k") ∷ key (codes "a:k") ∷ key (255 ∷ []) ∷ [] }, false) ∷ [])
+-- a whole URI in UTF-8 and without a control character is written, and between quotes one without a quote (4.1, 4.2, 4.3.2.4); 255
+-- is no byte of UTF-8
+abbrev pub are_written : List ℕ → Bool × Bool
+are_written uri = (uri_fits uri, quoted_uri_fits uri)
 
--- a whole URI without a control character is read, and between quotes one without a quote (4.2, 4.3.2.4)
-abbrev pub are_read : List ℕ → Bool × Bool
-are_read uri = (uri_reads uri, quoted_uri_reads uri)
-
-abbrev pub ReadUrisAreWhole : Type 0
-ReadUrisAreWhole = HasValues are_read (
-    (codes "http://h/a", (true, true)) ∷ (codes "s0.ts", (false, false)) ∷ (codes "http://h/" ++ (127 ∷ []), (false, false)) ∷ (codes "http://h/\"", (true, false)) ∷ [])
+abbrev pub UrisAreWhole : Type 0
+UrisAreWhole = HasValues are_written (
+    (codes "http://h/a", (true, true)) ∷ (codes "s0.ts", (false, false)) ∷ (codes "http://h/" ++ (127 ∷ []), (false, false)) ∷ (codes "http://h/\"", (true, false))
+    ∷ (codes "http://h/" ++ (255 ∷ []), (false, false)) ∷ [])
 
 -- 4.3.3.2 and 4.3.3.3: a playlist has a segment, and numbers go up by one and by the discontinuities between
 abbrev pub ReadNumbersRise : Type 0
@@ -87,19 +76,20 @@ ReadNumbersRise = HasValues numbers_read (
     ∷ (segment ∷ record segment { media_sequence = 2 } ∷ [], false)
     ∷ (record segment { discontinuities = 1 } ∷ [], false) ∷ [])
 
--- whether such a segment is read, and whether it can be written: its URI is whole, its byte range ends below 2^64, and it lasts
--- less than 1,000,000 s; what is written is UTF-8 too
-abbrev pub is_read_and_written : Segment → Bool × Bool
-is_read_and_written s = (segment_reads s, segment_can_be_written s)
-
+-- a segment that is read can be written: its URIs are whole and UTF-8, its byte range ends below 2^64, and it lasts less than
+-- 1,000,000 s (4.1, 4.3.2.1, 4.3.2.2)
 abbrev pub ReadSegmentsAreWritten : Type 0
-ReadSegmentsAreWritten = HasValues is_read_and_written (
-    (segment, (true, true))
-    ∷ (record segment { byte_range = Some (record { length = 5; offset = 3 }); keys = key (codes "a:k") ∷ []; title = codes "first"; program_date_time = Some (pos 0) }, (true, true))
-    ∷ (record segment { uri = codes "s" }, (false, false))
-    ∷ (record segment { uri = codes "a:" ++ (255 ∷ []) }, (true, false))
-    ∷ (record segment { byte_range = Some (record { length = 2; offset = 2 ^ 64 - 2 }) }, (false, false))
-    ∷ (record segment { duration = 10 ^ 15 }, (false, false)) ∷ [])
+ReadSegmentsAreWritten = HasValues segment_can_be_written (
+    (segment, true)
+    ∷ (record segment { byte_range = Some (record { length = 5; offset = 3 }); keys = key (codes "a:k") ∷ []; title = codes "first"; program_date_time = Some (pos 0) }, true)
+    ∷ (record segment { uri = codes "s" }, false)
+    ∷ (record segment { uri = codes "a:" ++ (255 ∷ []) }, false)
+    ∷ (record segment { keys = key (codes "a:" ++ (255 ∷ [])) ∷ [] }, false)
+    ∷ (record segment { init_section = Some (record { uri = codes "a:i"; byte_range = None; keys = key (codes "a:k") ∷ [] }) }, true)
+    ∷ (record segment { init_section = Some (record { uri = codes "a:" ++ (255 ∷ []); byte_range = None; keys = [] }) }, false)
+    ∷ (record segment { init_section = Some (record { uri = codes "a:i"; byte_range = None; keys = key (codes "a:" ++ (255 ∷ [])) ∷ [] }) }, false)
+    ∷ (record segment { byte_range = Some (record { length = 2; offset = 2 ^ 64 - 2 }) }, false)
+    ∷ (record segment { duration = 10 ^ 15 }, false) ∷ [])
 
 -- docs/OPERATING.md: a tag of attributes has 64 at most; EXTINF has none
 abbrev pub LinesKeepTheirLimit : Type 0

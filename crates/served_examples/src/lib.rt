@@ -7,7 +7,7 @@ ghost use Rattle.served_examples.specs.Requests.{NamesAreChecked, QueriesArePass
 ghost use Rattle.served_examples.specs.Answers.{ChannelsAreMade, RefreshesAreAnswered, PlaylistsAreRead, DecisionsAreAnswered, DecisionFaultsAreAnswered, RefreshFaultsAreAnswered, WordsOfWhyAreTold, ReasonsAreAnswered, TablesAreLimited, ChannelsAreApart, RequestsAreServed, RequestsWereAsked, RequestsWereAnswered, OthersStay, BodyFaultsAreAnswered, BodyFaultsAreTold, ChannelsAreOnce};
 ghost use Rattle.served_examples.specs.Clients.{ClientsAreLimited, PlacesAreGiven, RepliesAreGivenUpLast, RoomIsGiven, BytesAreHeld, RepliesAreLeft, BytesAreTaken, VisitsAreCounted, WordsAreSaid, TakenIsCounted, PiecesAreJoined, CallsAreCounted, FailuresAreCounted, OthersAreApart};
 ghost use Rattle.served_examples.specs.Kept.{StatesAreMeant, SegmentsAreHeld, StoresAreReplaced, TextsAreKept, RefreshesAreOwed, LackOfMemoryIsSeen, DecisionsAreStored, ShownAreMeant, RunsBegin, EndsAreTold, FirstNumbersAreTold, LastWindowsAreTold};
-ghost use Rattle.served_examples.specs.Runs.{ReadsAreLimited, FilesAreTold, FilesAreGiven, BytesAreTold, UrisAreText, ReadUrisAreWhole, ReadNumbersRise, ReadSegmentsAreWritten, LinesKeepTheirLimit, InputsAreReadUnderBases, RunsAreTold};
+ghost use Rattle.served_examples.specs.Runs.{ReadsAreLimited, FilesAreTold, FilesAreGiven, BytesAreTold, UrisAreWhole, ReadNumbersRise, ReadSegmentsAreWritten, LinesKeepTheirLimit, InputsAreReadUnderBases, RunsAreTold};
 
 /// What a request names, the length of its body, and how a reply is written.
 pub fn requests_have_their_values()
@@ -69,8 +69,7 @@ pub fn runs_have_their_values()
     ensures files_are_told { FilesAreTold }
     ensures files_are_given { FilesAreGiven }
     ensures bytes_are_told { BytesAreTold }
-    ensures uris_are_text { UrisAreText }
-    ensures read_uris_are_whole { ReadUrisAreWhole }
+    ensures uris_are_whole { UrisAreWhole }
     ensures read_numbers_rise { ReadNumbersRise }
     ensures read_segments_are_written { ReadSegmentsAreWritten }
     ensures lines_keep_their_limit { LinesKeepTheirLimit }

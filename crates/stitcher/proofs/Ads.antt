@@ -9,7 +9,7 @@ use Rattle.playlist_model.specs.EffectiveKeys.{effective_key}
 use Rattle.pod_store.specs.Pods.{Ad}
 use Rattle.pod_store.specs.Rules.{key_keeps, ad_keeps, ads_keep}
 use Rattle.stitcher.specs.declared.OutSegment.{OutSegment}
-use Rattle.stitcher.specs.Stretches.{ad_item}
+use Rattle.stitcher.specs.Stretches.{stitched_ad_item}
 use Rattle.stitcher.specs.Inner.Making.{Made, IsUnder, under_ad}
 
 -- a key of an ad states its IV
@@ -37,7 +37,7 @@ kept_others ads ad later e h = (and_parts _ _ (subst (λ list. list_all ad_keeps
 -- ---- listing
 
 -- one more is listed
-pub listed : (before : List OutSegment) (ads after : List Segment) (s : Segment) → after ≡ ads ++ s ∷ [] → before ++ map ad_item after ≡ (before ++ map ad_item ads) ++ ad_item s ∷ []
+pub listed : (before : List OutSegment) (ads after : List Segment) (s : Segment) → after ≡ ads ++ s ∷ [] → before ++ map stitched_ad_item after ≡ (before ++ map stitched_ad_item ads) ++ stitched_ad_item s ∷ []
 listed before ads after s e = grind (arith, append_assoc, map-append)
 
 pub begun_under : (old begun : Made) (ad : Ad) → begun ≡ under_ad old ad → ad_keeps ad ≡ true → IsUnder begun ad

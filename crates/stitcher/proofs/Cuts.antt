@@ -8,7 +8,7 @@ use Rattle.std.proofs.lemmas.List.Folds.{list_all-append}
 use Rattle.stitcher.specs.StitchedSegments.{item_fits}
 use Rattle.stitcher.specs.Stretches.{stretch_items, stretches_items}
 use Rattle.stitcher.specs.declared.stitched_list.Stretch.{Stretch}
-use Rattle.stitcher.specs.Inner.Cuts.{stretches_within, left_from}
+use Rattle.stitcher.specs.Inner.Cuts.{stretches_within, items_left_from_stretches}
 use Rattle.stitcher.proofs.Cursors.{length_stretch}
 use Rattle.stitcher.specs.Stitched.{Piece}
 use Rattle.stitcher.specs.declared.OutSegment.{OutSegment}
@@ -42,9 +42,9 @@ drop_over count items a b e h =
     let sum : length a + (count - items) ≡ count = omega (arith, e, h) in
     ap (drop (count - items)) (sym (drop_at a b (length a) refl)) ∙ (drop-drop (count - items) (length a) (a ++ b) ∙ ap (λ n. drop n (a ++ b)) sum)
 
-drops_by : (count : ℕ) (s : Stretch) (later : List Stretch) → drop (left_from (count - length s.ads - length s.kept.now) later) (stretches_items (drop (stretches_within (count - length s.ads - length s.kept.now) later) later)) ≡ drop (count - length s.ads - length s.kept.now) (stretches_items later)
+drops_by : (count : ℕ) (s : Stretch) (later : List Stretch) → drop (items_left_from_stretches (count - length s.ads - length s.kept.now) later) (stretches_items (drop (stretches_within (count - length s.ads - length s.kept.now) later) later)) ≡ drop (count - length s.ads - length s.kept.now) (stretches_items later)
     → (b : Bool) → nat_le (length s.ads + length s.kept.now) count ≡ b
-    → drop (cond b (left_from (count - length s.ads - length s.kept.now) later) count) (stretches_items (drop (cond b (stretches_within (count - length s.ads - length s.kept.now) later + 1) 0) (s ∷ later))) ≡ drop count (stretches_items (s ∷ later))
+    → drop (cond b (items_left_from_stretches (count - length s.ads - length s.kept.now) later) count) (stretches_items (drop (cond b (stretches_within (count - length s.ads - length s.kept.now) later + 1) 0) (s ∷ later))) ≡ drop count (stretches_items (s ∷ later))
 drops_by count s later h false e = refl
 drops_by count s later h true e =
     let n = stretches_within (count - length s.ads - length s.kept.now) later in
@@ -52,11 +52,11 @@ drops_by count s later h true e =
     let long = length_stretch s in
     let same : count - length s.ads - length s.kept.now ≡ count - length (stretch_items s) = omega (arith, long) in
     let next : n + 1 ≡ suc n = omega arith in
-    ap (λ k. drop (left_from (count - length s.ads - length s.kept.now) later) (stretches_items (drop k (s ∷ later)))) next
+    ap (λ k. drop (items_left_from_stretches (count - length s.ads - length s.kept.now) later) (stretches_items (drop k (s ∷ later)))) next
     ∙ (h ∙ (ap (λ k. drop k (stretches_items later)) same
     ∙ drop_over count (length (stretch_items s)) (stretch_items s) (stretches_items later) refl (omega (arith, long, within))))
 
-pub from_drops : (count : ℕ) (ss : List Stretch) → drop (left_from count ss) (stretches_items (drop (stretches_within count ss) ss)) ≡ drop count (stretches_items ss)
+pub from_drops : (count : ℕ) (ss : List Stretch) → drop (items_left_from_stretches count ss) (stretches_items (drop (stretches_within count ss) ss)) ≡ drop count (stretches_items ss)
 from_drops count [] = refl
 from_drops count (s ∷ later) = drops_by count s later (from_drops (count - length s.ads - length s.kept.now) later) (nat_le (length s.ads + length s.kept.now) count) refl
 

@@ -3,7 +3,7 @@ use Rattle.std.proofs.Common.{ℕ, List, [], ◌∷◌, ◌++◌, drop, take, ze
 use Rattle.std.specs.Prelude.{Option, Some, None}
 use Rattle.stitcher.specs.declared.marked.MarkedSegment.{MarkedSegment}
 use Rattle.stitcher.specs.StitchedSegments.{KnowsRun, KnowRuns}
-use Rattle.stitcher.specs.Inner.Making.{after_begun, after_front, mark_after, unmarked_front}
+use Rattle.stitcher.specs.Inner.Making.{after_begun, after_front, mark_after, unmarked_front_to_stitch}
 
 pub known_first : (previous : Option (List ℕ)) (list : List MarkedSegment) → KnowRuns previous list → KnowRuns None list
 known_first previous [] k = tt
@@ -35,7 +35,7 @@ known_on previous (m ∷ front) tail k h = (k.0, known_on m.mark front tail k.1 
 -- after what stands in front of a list
 after_marked : (m : MarkedSegment) (later : List MarkedSegment) (mark : Option (List ℕ)) → KnowRuns mark later → KnowRuns None (m ∷ later)
     → KnowRuns mark (after_begun (m ∷ later) later mark)
-after_marked m later None k all = known_later (unmarked_front (m ∷ later)) None (m ∷ later) all
+after_marked m later None k all = known_later (unmarked_front_to_stitch (m ∷ later)) None (m ∷ later) all
 after_marked m later (Some id) k all = k
 
 pub known_after_front : (previous : Option (List ℕ)) (m : MarkedSegment) (later : List MarkedSegment) → KnowRuns previous (m ∷ later) → KnowRuns m.mark (after_front (m ∷ later))

@@ -4,13 +4,13 @@ use Rattle.std.specs.Prelude.{nat_le}
 use Rattle.stitcher.specs.Stitched.{Piece}
 use Rattle.stitcher.specs.Paced.{due}
 use Rattle.stitcher.specs.declared.making.Part.{Part}
-use Rattle.stitcher.specs.Inner.Making.{is_nothing, shows_next, part_here, part_after_one, pieces_in_part, part_after, whole_from}
+use Rattle.stitcher.specs.Inner.Making.{is_nothing, stitched_part_shows_next, part_here, part_after_one, pieces_in_part, stitched_part_after, whole_from}
 
-pub part_append : (part : Part) (xs ys : List Piece) → pieces_in_part part (xs ++ ys) ≡ pieces_in_part part xs ++ pieces_in_part (part_after part xs) ys
+pub part_append : (part : Part) (xs ys : List Piece) → pieces_in_part part (xs ++ ys) ≡ pieces_in_part part xs ++ pieces_in_part (stitched_part_after part xs) ys
 part_append part [] ys = refl
 part_append part (p ∷ xs) ys =
     let next = part_after_one part p.segment.duration in
-    ap (λ t. part_here part p ++ t) (part_append next xs ys) ∙ sym (append_assoc (part_here part p) (pieces_in_part next xs) (pieces_in_part (part_after next xs) ys))
+    ap (λ t. part_here part p ++ t) (part_append next xs ys) ∙ sym (append_assoc (part_here part p) (pieces_in_part next xs) (pieces_in_part (stitched_part_after next xs) ys))
 
 abbrev with_parts : ℕ → Bool → ℕ → Bool → Part
 with_parts skip whole left done = record { skip = skip; whole = whole; left = left; done = done }
@@ -58,5 +58,5 @@ whole_is_part pieces = all_of 0 pieces
 
 -- ---- one piece
 
-pub is_here : (part : Part) (p : Piece) → shows_next part ≡ true → p ∷ [] ≡ part_here part p
+pub is_here : (part : Part) (p : Piece) → stitched_part_shows_next part ≡ true → p ∷ [] ≡ part_here part p
 is_here part p e = sym (ap (λ b. cond b (p ∷ []) []) e)

@@ -14,8 +14,8 @@ use Rattle.stitcher.specs.declared.ends.Rest.{Rest}
 use Rattle.stitcher.specs.declared.ends.Ends.{Ends}
 use Rattle.stitcher.specs.Written.{written_item}
 use Rattle.stitcher.specs.StitchedSegments.{meant, IsDecided, AreDecided, rest_from, rest_in, ends_in, stitched_segments}
-use Rattle.stitcher.specs.Making.{is_same_run, pod_with}
-use Rattle.stitcher.specs.Inner.Making.{counted, begun_with, pieces_in_part, part_due, whole_from, goes_on_to_last, pieces_at, pieces_on, pieces_of_rest, pieces_between}
+use Rattle.stitcher.specs.Making.{is_same_stitched_run, pod_with}
+use Rattle.stitcher.specs.Inner.Making.{counted, begun_with, pieces_in_part, part_due, whole_from, stitched_run_goes_on_to_last, pieces_at, pieces_on, pieces_of_rest, pieces_between}
 use Rattle.stitcher.proofs.Counting.{numbers_count_on}
 use Rattle.stitcher.proofs.Parts.{whole_is_part, due_is_part, rest_is_part}
 
@@ -35,7 +35,7 @@ both id other (Some pod) None h k = absurd (cc)
 both id other (Some pod) (Some q) h k = refl
 
 same_run : (store : Store) (mark previous : Option (List ℕ)) → IsDecided store mark → IsDecided store previous
-    → are_one (mark_in store mark) (mark_in store previous) ≡ is_same_run mark previous
+    → are_one (mark_in store mark) (mark_in store previous) ≡ is_same_stitched_run mark previous
 same_run store mark previous h k = grind arith
 
 -- ---- what stands for a run
@@ -83,12 +83,12 @@ one_more store so_far m before d same last e = grind (arith, due_goes_on, due_be
 
 due_on : (store : Store) (so_far : Option ℕ) (previous : Option (List ℕ)) (marked : List MarkedSegment) (before : List Meant) → newest_mark before ≡ mark_in store previous
     → IsDecided store previous → AreDecided store marked → list_due so_far (reverse_aux (map (meant store) marked) before)
-    ≡ reverse_aux (pieces_on store so_far previous marked) (cond (goes_on_to_last previous marked) (list_due so_far before) (stitched before))
+    ≡ reverse_aux (pieces_on store so_far previous marked) (cond (stitched_run_goes_on_to_last previous marked) (list_due so_far before) (stitched before))
 due_on store so_far previous [] before h k d = refl
 due_on store so_far previous (m ∷ later) before h k d =
     let here = meant store m in
-    let last = goes_on_to_last m.mark later in
-    let same = is_same_run m.mark previous in
+    let last = stitched_run_goes_on_to_last m.mark later in
+    let same = is_same_stitched_run m.mark previous in
     let goes_on : continues here before ≡ same = ap (are_one (mark_in store m.mark)) h ∙ same_run store m.mark previous d.0 k in
     due_on store so_far m.mark later (here ∷ before) refl d.0 d.1
     ∙ (ap (reverse_aux (pieces_on store so_far m.mark later)) (one_more store so_far m before d.0 same last goes_on)
@@ -113,7 +113,7 @@ whole_in_order store ends marked d =
     let segments = pieces_on store ends.so_far None marked in
     let rest = pieces_of_rest store ends.rest in
     let list : list_due ends.so_far (reverse (map (meant store) marked)) ≡ reverse segments =
-    due_on store ends.so_far None marked [] refl tt d ∙ ap (reverse_aux segments) (nothing_yet (goes_on_to_last None marked)) in
+    due_on store ends.so_far None marked [] refl tt d ∙ ap (reverse_aux segments) (nothing_yet (stitched_run_goes_on_to_last None marked)) in
     ap (λ t. t ++ rest_pieces (rest_in store ends.rest)) list
     ∙ (ap (λ t. reverse segments ++ t) (rest_in_order store ends.rest) ∙ sym (reverse-append rest segments))
 

@@ -8,10 +8,10 @@ use Rattle.stitcher.specs.declared.marked.MarkedSegment.{MarkedSegment}
 
 -- ---- pieces
 
-abbrev pub is_same_run : Option (List ℕ) → Option (List ℕ) → Bool
-is_same_run (Some id) (Some other) = bytes_eq id other
-is_same_run (Some id) None = false
-is_same_run None other = false
+abbrev pub is_same_stitched_run : Option (List ℕ) → Option (List ℕ) → Bool
+is_same_stitched_run (Some id) (Some other) = bytes_eq id other
+is_same_stitched_run (Some id) None = false
+is_same_stitched_run None other = false
 
 abbrev pub unmarked_piece : MarkedSegment → Piece
 unmarked_piece m = kept_piece (record { segment = m.segment; instant = m.instant; mark = None })

@@ -79,13 +79,13 @@ steps_between before p =
     else (if p.first_of_ad then 1 else 0)
 
 -- the next media number, and the discontinuity number after these steps
-abbrev pub next_numbers : Numbers → ℕ → Numbers
-next_numbers n steps = record { media_sequence = n.media_sequence + 1; discontinuity_sequence = n.discontinuity_sequence + steps; discontinuities = steps }
+abbrev pub next_stitched_numbers : Numbers → ℕ → Numbers
+next_stitched_numbers n steps = record { media_sequence = n.media_sequence + 1; discontinuity_sequence = n.discontinuity_sequence + steps; discontinuities = steps }
 
 -- the numbers of a piece after these, the very first of which has the numbers `first`
 abbrev pub numbers_at : Numbers → Piece → List Piece → Numbers
 numbers_at first p [] = first
-numbers_at first p (q ∷ before) = next_numbers (numbers_at first q before) (steps_between q p)
+numbers_at first p (q ∷ before) = next_stitched_numbers (numbers_at first q before) (steps_between q p)
 
 -- the numbers that the first item has, whose segment is the first of the origin: that segment's own, or one
 -- discontinuity more if it is marked and a pod stands first

@@ -12,7 +12,7 @@ use Rattle.stitcher.specs.declared.ends.Ends.{Ends}
 use Rattle.stitcher.specs.declared.fault.StitchFault.{StitchFault}
 use Rattle.stitcher.specs.declared.fault.StitchFault.TheVariants.{NumberRange, OutOfMemory}
 use Rattle.stitcher.specs.Written.{written_item}
-use Rattle.stitcher.specs.Making.{is_same_run}
+use Rattle.stitcher.specs.Making.{is_same_stitched_run}
 
 abbrev pub meant : Store → MarkedSegment → Meant
 meant store m = record { segment = m.segment; instant = m.instant; mark = mark_in store m.mark }
@@ -28,7 +28,7 @@ AreDecided store marked = AllByRecursion (λ (m : MarkedSegment). IsDecided stor
 -- the segment knows whether it goes on the run of one before it that has this mark
 abbrev pub KnowsRun : Option (List ℕ) → MarkedSegment → Type 0
 KnowsRun None m = Unit {0}
-KnowsRun (Some id) m = m.goes_on ≡ is_same_run m.mark (Some id)
+KnowsRun (Some id) m = m.goes_on ≡ is_same_stitched_run m.mark (Some id)
 
 -- so does each of these of the one before it, the first after one of this mark
 abbrev pub KnowRuns : Option (List ℕ) → List MarkedSegment → Type 0

@@ -2,7 +2,7 @@
 use Rattle.std.specs.Prelude.{◌≡◌, ℕ, ◌-◌, ◌≤◌, true, List, [], ◌∷◌, ◌++◌, length, map, Option, Some, None}
 use Rattle.std.specs.List.{list_all}
 use Rattle.playlist_model.specs.Segments.{Segment}
-use Rattle.stitcher.specs.Stitched.{Numbers, next_numbers}
+use Rattle.stitcher.specs.Stitched.{Numbers, next_stitched_numbers}
 use Rattle.stitcher.specs.StitchedSegments.{item_fits}
 use Rattle.stitcher.specs.declared.OutSegment.{OutSegment}
 use Rattle.stitcher.specs.declared.marked.MarkedSegment.{MarkedSegment}
@@ -10,26 +10,26 @@ use Rattle.stitcher.specs.declared.stitched_list.Stretch.{Stretch}
 use Rattle.stitcher.specs.declared.stitched_list.Cursor.{Cursor}
 
 -- the item of an ad's segment, which repeats the numbers that are written
-abbrev pub ad_item : Segment → OutSegment
-ad_item s = record { segment = s; media_sequence = s.media_sequence; discontinuity_sequence = s.discontinuity_sequence; discontinuities = s.discontinuities; program_date_time = None }
+abbrev pub stitched_ad_item : Segment → OutSegment
+stitched_ad_item s = record { segment = s; media_sequence = s.media_sequence; discontinuity_sequence = s.discontinuity_sequence; discontinuities = s.discontinuities; program_date_time = None }
 
 -- the item of a kept segment with these numbers
-abbrev pub kept_item : Numbers → MarkedSegment → OutSegment
-kept_item n m = record { segment = m.segment; media_sequence = n.media_sequence; discontinuity_sequence = n.discontinuity_sequence; discontinuities = n.discontinuities; program_date_time = m.instant }
+abbrev pub stitched_kept_item : Numbers → MarkedSegment → OutSegment
+stitched_kept_item n m = record { segment = m.segment; media_sequence = n.media_sequence; discontinuity_sequence = n.discontinuity_sequence; discontinuities = n.discontinuities; program_date_time = m.instant }
 
 -- the numbers of the first of these, which follow a kept segment with those
-abbrev pub numbers_on : Numbers → MarkedSegment → List MarkedSegment → Numbers
-numbers_on n m [] = n
-numbers_on n m (next ∷ later) = next_numbers n (next.segment.discontinuity_sequence - m.segment.discontinuity_sequence)
+abbrev pub stitched_numbers_on : Numbers → MarkedSegment → List MarkedSegment → Numbers
+stitched_numbers_on n m [] = n
+stitched_numbers_on n m (next ∷ later) = next_stitched_numbers n (next.segment.discontinuity_sequence - m.segment.discontinuity_sequence)
 
 -- kept segments that follow each other, the first with these numbers
 abbrev pub segment_items : Numbers → List MarkedSegment → List OutSegment
 segment_items n [] = []
-segment_items n (m ∷ later) = kept_item n m ∷ segment_items (numbers_on n m later) later
+segment_items n (m ∷ later) = stitched_kept_item n m ∷ segment_items (stitched_numbers_on n m later) later
 
 -- the items of a stretch, and those of stretches
 abbrev pub stretch_items : Stretch → List OutSegment
-stretch_items s = map ad_item s.ads ++ segment_items s.numbers s.kept.now
+stretch_items s = map stitched_ad_item s.ads ++ segment_items s.numbers s.kept.now
 
 abbrev pub stretches_items : List Stretch → List OutSegment
 stretches_items [] = []
@@ -42,7 +42,7 @@ ads_left (Some ads) = ads
 
 -- what is left of the stretch at which a walk is, and all that is left
 abbrev pub here_items : Cursor → List OutSegment
-here_items c = map ad_item (ads_left c.ads) ++ segment_items c.numbers c.kept.now
+here_items c = map stitched_ad_item (ads_left c.ads) ++ segment_items c.numbers c.kept.now
 
 abbrev pub left_items : Cursor → List OutSegment
 left_items c = here_items c ++ stretches_items c.later.now

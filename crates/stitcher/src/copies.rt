@@ -7,7 +7,10 @@ use pod_store::Ad;
 use std::alloc::{AllocError, Global};
 
 /// The initialisation section of the segments of `ad`, under its keys. Fails only if an allocation fails.
-pub fn ad_init_section(alloc: Global, ad: &Ad) -> Result<Option<Shared<InitSection>>, AllocError>
+pub fn stitched_init_section(
+    alloc: Global,
+    ad: &Ad,
+) -> Result<Option<Shared<InitSection>>, AllocError>
     ensures { IfOk result (λ s. s ≡ option_map (with_keys ad.now.keys) ad.now.init_section) }
 {
     let Some(init_section) = &ad.init_section else {

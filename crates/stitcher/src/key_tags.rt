@@ -9,7 +9,7 @@ use crate::StitchFault;
 use playlist_model::{KeyRef, KeyTag, KeysRef, is_same_key};
 use std::alloc::{AllocError, Global};
 
-fn has_format(keys: &KeysRef<'_>, format: &str) -> bool
+fn has_format_before_transition(keys: &KeysRef<'_>, format: &str) -> bool
     ensures { result ≡ list_any (has_format format.now) keys.now }
 {
     for key in keys.iter() {
@@ -21,7 +21,7 @@ fn has_format(keys: &KeysRef<'_>, format: &str) -> bool
 }
 
 // Whether `new` has the formats of `old` in front, each at its place.
-fn has_formats_in_front(old: &KeysRef<'_>, new: &KeysRef<'_>) -> bool
+fn transition_keeps_formats_in_front(old: &KeysRef<'_>, new: &KeysRef<'_>) -> bool
     ensures { result ≡ true → keeps_formats old.now new.now ≡ true }
 {
     let mut others = new.iter();
@@ -36,11 +36,11 @@ fn has_formats_in_front(old: &KeysRef<'_>, new: &KeysRef<'_>) -> bool
     true
 }
 
-fn keeps_each_format(old: &KeysRef<'_>, new: &KeysRef<'_>) -> bool
+fn transition_keeps_each_format(old: &KeysRef<'_>, new: &KeysRef<'_>) -> bool
     ensures { result ≡ keeps_formats old.now new.now }
 {
     for key in old.iter() {
-        if !has_format(new, key.format()) {
+        if !has_format_before_transition(new, key.format()) {
             return false;
         }
     }
@@ -53,10 +53,10 @@ pub fn keeps_formats(old: &KeysRef<'_>, new: &KeysRef<'_>) -> bool
     ensures { result ≡ keeps_formats old.now new.now }
 {
     // Mostly each format is compared with one other alone: long ones cost much.
-    has_formats_in_front(old, new) || keeps_each_format(old, new)
+    transition_keeps_formats_in_front(old, new) || transition_keeps_each_format(old, new)
 }
 
-fn is_among(keys: &KeysRef<'_>, key: &KeyRef<'_>) -> bool
+fn is_key_among_stitched(keys: &KeysRef<'_>, key: &KeyRef<'_>) -> bool
     ensures { result ≡ list_any (same_key key.now) keys.now }
 {
     for other in keys.iter() {
@@ -71,17 +71,17 @@ fn is_among(keys: &KeysRef<'_>, key: &KeyRef<'_>) -> bool
 pub fn is_new_key(keys: &KeysRef<'_>, key: &KeyRef<'_>) -> bool
     ensures { result ≡ is_new_key keys.now key.now }
 {
-    !is_among(keys, key)
+    !is_key_among_stitched(keys, key)
 }
 
-fn tag_of(key: &KeyRef<'_>) -> Result<KeyTag, AllocError>
+fn transition_tag_of_key(key: &KeyRef<'_>) -> Result<KeyTag, AllocError>
     ensures { IfOk result (λ tag. tag ≡ KeyTag.Set key.now) }
 {
     Ok(KeyTag::Set(key.to_key()?))
 }
 
 // A tag for each key that is not among the old ones as it is.
-fn tags_of_new(
+fn transition_tags_of_new_keys(
     alloc: Global,
     old: &KeysRef<'_>,
     new: &KeysRef<'_>,
@@ -92,25 +92,25 @@ fn tags_of_new(
     let mut tags = Vec::new(alloc);
     for key in new.iter() {
         if is_new_key(old, &key) {
-            tags.push(tag_of(&key)?)?;
+            tags.push(transition_tag_of_key(&key)?)?;
         }
     }
     Ok(tags)
 }
 
 // The end of all keys, and a tag for each of these.
-fn tags_after_end(alloc: Global, keys: &KeysRef<'_>) -> Result<Vec<KeyTag>, AllocError>
+fn transition_tags_after_end(alloc: Global, keys: &KeysRef<'_>) -> Result<Vec<KeyTag>, AllocError>
     ensures { IfOk result (λ tags. tags.items ≡ KeyTag.End ∷ map KeyTag.Set keys.now) }
 {
     let mut tags = Vec::new(alloc);
     tags.push(KeyTag::End)?;
     for key in keys.iter() {
-        tags.push(tag_of(&key)?)?;
+        tags.push(transition_tag_of_key(&key)?)?;
     }
     Ok(tags)
 }
 
-fn tags_between(
+fn transition_tags_between(
     alloc: Global,
     old: &KeysRef<'_>,
     new: &KeysRef<'_>,
@@ -118,9 +118,9 @@ fn tags_between(
     ensures { IfOk result (λ tags. tags.items ≡ transition old.now new.now) }
 {
     if keeps_formats(old, new) {
-        return tags_of_new(alloc, old, new);
+        return transition_tags_of_new_keys(alloc, old, new);
     }
-    tags_after_end(alloc, new)
+    transition_tags_after_end(alloc, new)
 }
 
 /// The key tags that lead from the keys `old` to the keys `new`, each sorted by format with one key for each (RFC
@@ -140,6 +140,6 @@ pub fn transition(
     ensures leads { IfOk result (λ tags.
         are_sorted old.now ≡ true → are_sorted new.now ≡ true → after_tags old.now tags.items ≡ new.now) }
 {
-    let tags = tags_between(alloc, old, new)?;
+    let tags = transition_tags_between(alloc, old, new)?;
     Ok(tags)
 }

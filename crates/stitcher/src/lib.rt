@@ -16,7 +16,7 @@ mod text_ref;
 pub use ends::{Ends, Rest};
 pub use fault::StitchFault;
 pub use key_tags::{is_new_key, keeps_formats, transition};
-pub use making::{goes_on, is_same_run, stitch};
+pub use making::{is_same_stitched_run, stitch, stitched_run_goes_on};
 pub use marked::{MarkedSegment, Numbers, SharedMark};
 pub use stitched_list::{StitchedItems, StitchedList};
 pub use text_ref::TextRef;

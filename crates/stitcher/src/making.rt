@@ -3,15 +3,15 @@ ghost use Rattle.std.specs.Prelude.{◌≡◌, ◌<◌, ◌≤◌, ◌^◌, Bool
 ghost use Rattle.std.specs.List.{list_all};
 ghost use Rattle.pod_store.specs.Marks.{Mark};
 ghost use Rattle.pod_store.specs.Rules.{ad_keeps};
-ghost use Rattle.stitcher.specs.Stitched.{ad_piece, ad_pieces, next_numbers, pieces_of_ads};
+ghost use Rattle.stitcher.specs.Stitched.{ad_piece, ad_pieces, next_stitched_numbers, pieces_of_ads};
 ghost use Rattle.stitcher.specs.StitchedSegments.{AreDecided, KnowRuns, KnowsRun, RefusesNumber, item_fits, stitched_segments};
 ghost use Rattle.pod_store.specs.Store.{pod_for};
-ghost use Rattle.stitcher.specs.Making.{is_same_run, unmarked_piece, pod_with};
-ghost use Rattle.stitcher.specs.Inner.Making.{IsUnder, Passes, PutsPieces, after_front, front_pieces, goes_on_to_last, kept_on, last_of_run, nothing_made, numbers_fit, numbers_with, part_after, part_after_one, part_at, part_here, pieces_in_part, pushed, pieces_of_rest, shows_next, steps_from, under_ad, unmarked_front, whole_from};
+ghost use Rattle.stitcher.specs.Making.{is_same_stitched_run, unmarked_piece, pod_with};
+ghost use Rattle.stitcher.specs.Inner.Making.{IsUnder, Passes, PutsPieces, after_front, front_pieces, stitched_run_goes_on_to_last, kept_on, last_of_stitched_run, nothing_made, numbers_fit, numbers_with, stitched_part_after, part_after_one, stitched_part_at, part_here, pieces_in_part, pushed, pieces_of_rest, stitched_part_shows_next, steps_from, under_ad, unmarked_front_to_stitch, whole_from};
 ghost use Rattle.stitcher.specs.Stretches.{segment_items};
 ghost use Rattle.stitcher.specs.Written.{written_segment};
 
-use crate::copies::ad_init_section;
+use crate::copies::stitched_init_section;
 use crate::ends::{Ends, Rest};
 use crate::fault::StitchFault;
 use crate::marked::{MarkedSegment, Numbers};
@@ -19,7 +19,7 @@ use crate::stitched_list::{StitchedList, Stretch};
 use fixed_duration::Nanos;
 use playlist_model::{GrowingSegments, SegmentParts, Shared, Text};
 use pod_store::{Ad, Pod, PodSegment, PodStore};
-use std::alloc::{AllocError, Global};
+use std::alloc::Global;
 use std::marker::Model;
 use std::mem;
 
@@ -58,14 +58,14 @@ pub struct Stitching<'a> {
 impl<'a> Model for Stitching<'a> {
     ghost use Rattle.std.specs.Prelude.{◌++◌, map};
     ghost use Rattle.stitcher.specs.Inner.Making.{Made};
-    ghost use Rattle.stitcher.specs.Stretches.{ad_item, stretches_items};
+    ghost use Rattle.stitcher.specs.Stretches.{stitched_ad_item, stretches_items};
 
     ghost Value = { Made };
 
-    ghost view = { λ a. record { first = a.first; last = a.last; items = stretches_items a.stretches.items ++ map ad_item a.ads.segments; keys = a.ads.keys; init_section = a.ads.init_section } };
+    ghost view = { λ a. record { first = a.first; last = a.last; items = stretches_items a.stretches.items ++ map stitched_ad_item a.ads.segments; keys = a.ads.keys; init_section = a.ads.init_section } };
 }
 
-fn numbers_of(media: u64, discontinuity: u64, steps: u64) -> Numbers
+fn stitched_numbers_of(media: u64, discontinuity: u64, steps: u64) -> Numbers
     ensures value { result
         ≡ record { media_sequence = media; discontinuity_sequence = discontinuity; discontinuities = steps } }
     ensures fit { numbers_fit result ≡ true }
@@ -79,10 +79,10 @@ fn numbers_of(media: u64, discontinuity: u64, steps: u64) -> Numbers
 
 // The numbers of an item after one with `numbers`, with `steps` discontinuities between (RFC 8216, sections 4.3.3.2
 // and 4.3.3.3).
-fn next_numbers(numbers: Numbers, steps: u64) -> Result<Numbers, StitchFault>
-    ensures ok { IfOk result (λ n. (n ≡ next_numbers numbers steps) × (numbers_fit n ≡ true)) }
+fn next_stitched_numbers(numbers: Numbers, steps: u64) -> Result<Numbers, StitchFault>
+    ensures ok { IfOk result (λ n. (n ≡ next_stitched_numbers numbers steps) × (numbers_fit n ≡ true)) }
     ensures err { IfErr result
-        (λ e. (e ≡ StitchFault.NumberRange) × (numbers_fit (next_numbers numbers steps) ≡ false)) }
+        (λ e. (e ≡ StitchFault.NumberRange) × (numbers_fit (next_stitched_numbers numbers steps) ≡ false)) }
 {
     let Some(media) = numbers.media_sequence.checked_add(1) else {
         return Err(StitchFault::NumberRange);
@@ -90,18 +90,18 @@ fn next_numbers(numbers: Numbers, steps: u64) -> Result<Numbers, StitchFault>
     let Some(discontinuity) = numbers.discontinuity_sequence.checked_add(steps) else {
         return Err(StitchFault::NumberRange);
     };
-    Ok(numbers_of(media, discontinuity, steps))
+    Ok(stitched_numbers_of(media, discontinuity, steps))
 }
 
 // The last of kept segments that follow each other, the first of which has these numbers.
-fn last_of_run(
+fn last_of_stitched_run(
     numbers: Numbers,
     first: &MarkedSegment,
     later: &[MarkedSegment],
 ) -> Result<Last, StitchFault>
     requires { numbers_fit numbers ≡ true }
     ensures ok { IfOk result
-        (λ last. (last ≡ last_of_run numbers first.now later.now)
+        (λ last. (last ≡ last_of_stitched_run numbers first.now later.now)
         × (list_all item_fits (segment_items numbers (first.now ∷ later.now)) ≡ true)) }
     ensures err { IfErr result
         (λ e. (e ≡ StitchFault.NumberRange)
@@ -117,7 +117,7 @@ fn last_of_run(
             .get()
             .discontinuity_sequence()
             .saturating_sub(before);
-        numbers = next_numbers(numbers, steps)?;
+        numbers = next_stitched_numbers(numbers, steps)?;
         here = next;
         rest = later;
     }
@@ -128,8 +128,8 @@ fn last_of_run(
 }
 
 // How many segments in front have no mark.
-fn unmarked_front(segments: &[MarkedSegment]) -> usize
-    ensures count { result ≡ unmarked_front segments.now }
+fn unmarked_front_to_stitch(segments: &[MarkedSegment]) -> usize
+    ensures count { result ≡ unmarked_front_to_stitch segments.now }
     ensures within { result ≤ length segments.now }
 {
     let mut count: usize = 0;
@@ -146,8 +146,8 @@ fn unmarked_front(segments: &[MarkedSegment]) -> usize
 
 /// Whether a segment of the mark `mark` goes on the run of the one before it, whose mark is `previous`: both have a
 /// mark, of one break.
-pub fn is_same_run(mark: &Option<Shared<Text>>, previous: &Option<Shared<Text>>) -> bool
-    ensures { result ≡ is_same_run mark.now previous.now }
+pub fn is_same_stitched_run(mark: &Option<Shared<Text>>, previous: &Option<Shared<Text>>) -> bool
+    ensures { result ≡ is_same_stitched_run mark.now previous.now }
 {
     match (mark, previous) {
         (Some(mark), Some(previous)) => mark == previous,
@@ -156,7 +156,7 @@ pub fn is_same_run(mark: &Option<Shared<Text>>, previous: &Option<Shared<Text>>)
 }
 
 // The part that is shown of what stands after a segment of this duration.
-fn part_after(part: &Part, duration: Nanos) -> Part
+fn stitched_part_after(part: &Part, duration: Nanos) -> Part
     ensures { result ≡ part_after_one part.now duration }
 {
     if part.skip > 0 {
@@ -175,29 +175,29 @@ fn part_after(part: &Part, duration: Nanos) -> Part
     }
 }
 
-fn shows_next(part: &Part) -> bool
-    ensures { result ≡ shows_next part.now }
+fn stitched_part_shows_next(part: &Part) -> bool
+    ensures { result ≡ stitched_part_shows_next part.now }
 {
     part.skip == 0 && !part.done
 }
 
 /// Whether `marked` goes on the run of the segment before it, whose mark is `previous`: both have a mark, of one break.
-pub fn goes_on(marked: &MarkedSegment, previous: &Option<Shared<Text>>) -> bool
+pub fn stitched_run_goes_on(marked: &MarkedSegment, previous: &Option<Shared<Text>>) -> bool
     requires { KnowsRun previous.now marked.now }
-    ensures { result ≡ is_same_run marked.now.mark previous.now }
+    ensures { result ≡ is_same_stitched_run marked.now.mark previous.now }
 {
     previous.is_some() && marked.goes_on
 }
 
 // Whether a run goes on to the last of these segments.
-fn goes_on_to_last(mark: &Option<Shared<Text>>, later: &[MarkedSegment]) -> bool
+fn stitched_run_goes_on_to_last(mark: &Option<Shared<Text>>, later: &[MarkedSegment]) -> bool
     requires { KnowRuns mark.now later.now }
-    ensures { result ≡ goes_on_to_last mark.now later.now }
+    ensures { result ≡ stitched_run_goes_on_to_last mark.now later.now }
 {
     let mut previous = mark;
     let mut rest = later;
     while let Some((here, later)) = rest.split_first() {
-        if !goes_on(here, previous) {
+        if !stitched_run_goes_on(here, previous) {
             return false;
         }
         previous = &*here.mark;
@@ -207,7 +207,7 @@ fn goes_on_to_last(mark: &Option<Shared<Text>>, later: &[MarkedSegment]) -> bool
 }
 
 // A whole pod, from this place on.
-fn part_from_place(place: usize) -> Part
+fn stitched_part_from_place(place: usize) -> Part
     ensures { result ≡ whole_from place }
 {
     Part {
@@ -219,15 +219,15 @@ fn part_from_place(place: usize) -> Part
 }
 
 // What is shown of the pod of a run that begins with a segment of this mark, before these.
-fn part_at(ends: &Ends, mark: &Option<Shared<Text>>, later: &[MarkedSegment]) -> Part
+fn stitched_part_at(ends: &Ends, mark: &Option<Shared<Text>>, later: &[MarkedSegment]) -> Part
     requires { KnowRuns mark.now later.now }
-    ensures { result ≡ part_at ends.now.so_far mark.now later.now }
+    ensures { result ≡ stitched_part_at ends.now.so_far mark.now later.now }
 {
     let Some(length) = ends.so_far else {
-        return part_from_place(0);
+        return stitched_part_from_place(0);
     };
-    if !goes_on_to_last(mark, later) {
-        return part_from_place(0);
+    if !stitched_run_goes_on_to_last(mark, later) {
+        return stitched_part_from_place(0);
     }
     Part {
         skip: 0,
@@ -275,7 +275,7 @@ impl<'a> Stitching<'a> {
     {
         match self.last {
             None => Ok(self.first),
-            Some(last) => next_numbers(last.numbers, steps),
+            Some(last) => next_stitched_numbers(last.numbers, steps),
         }
     }
 
@@ -285,7 +285,7 @@ impl<'a> Stitching<'a> {
         ensures err { IfErr result (λ e. e ≡ StitchFault.OutOfMemory) }
     {
         self.ads.set_keys(ad.keys.clone()?);
-        self.ads.set_init_section(ad_init_section(alloc, ad)?);
+        self.ads.set_init_section(stitched_init_section(alloc, ad)?);
         Ok(())
     }
 
@@ -348,7 +348,7 @@ impl<'a> Stitching<'a> {
         };
         let steps = self.steps_to(first.segment.get().discontinuity_sequence());
         let numbers = self.numbers_with(steps)?;
-        let last = last_of_run(numbers, first, later)?;
+        let last = last_of_stitched_run(numbers, first, later)?;
         self.push_kept(alloc, kept, numbers, last)
     }
 
@@ -382,14 +382,14 @@ impl<'a> Stitching<'a> {
         requires { numbers_fit self.old.first ≡ true }
         ensures ok { OnOk result
             (PutsPieces self.old self.new
-            (map unmarked_piece (take (unmarked_front segments.now) segments.now))) }
+            (map unmarked_piece (take (unmarked_front_to_stitch segments.now) segments.now))) }
         ensures left { IfOk result
-            (λ left. left.now ≡ drop (unmarked_front segments.now) segments.now) }
+            (λ left. left.now ≡ drop (unmarked_front_to_stitch segments.now) segments.now) }
         ensures err { IfErr result
             (λ e. RefusesNumber e (Passes self.old
-            (map unmarked_piece (take (unmarked_front segments.now) segments.now)))) }
+            (map unmarked_piece (take (unmarked_front_to_stitch segments.now) segments.now)))) }
     {
-        let (kept, left) = segments.split_at(unmarked_front(segments));
+        let (kept, left) = segments.split_at(unmarked_front_to_stitch(segments));
         self.keep_in_two(alloc, kept, cut)?;
         Ok(left)
     }
@@ -422,11 +422,11 @@ impl<'a> Stitching<'a> {
             (λ e. RefusesNumber e ((mark : Mark) (ad : Ad)
             → Passes self.old (part_here part.now (ad_piece mark first ad segment.now)))) }
     {
-        if !shows_next(part) {
-            return Ok(part_after(part, segment.duration));
+        if !stitched_part_shows_next(part) {
+            return Ok(stitched_part_after(part, segment.duration));
         }
         self.put_segment(segment, first)?;
-        Ok(part_after(part, segment.duration))
+        Ok(stitched_part_after(part, segment.duration))
     }
 
     fn put_ad(&mut self, alloc: Global, ad: &Ad, part: Part) -> Result<Part, StitchFault>
@@ -437,7 +437,7 @@ impl<'a> Stitching<'a> {
             (pieces_in_part part (ad_pieces mark ad.now ad.now.segments))) }
         ensures part { IfOk result
             (λ after. (mark : Mark) → after
-            ≡ part_after part (ad_pieces mark ad.now ad.now.segments)) }
+            ≡ stitched_part_after part (ad_pieces mark ad.now ad.now.segments)) }
         ensures err { IfErr result
             (λ e. RefusesNumber e ((mark : Mark)
             → Passes self.old (pieces_in_part part (ad_pieces mark ad.now ad.now.segments)))) }
@@ -515,7 +515,7 @@ impl<'a> Stitching<'a> {
         let Some(rest) = rest else {
             return Ok(());
         };
-        let part = part_from_place(rest.place);
+        let part = stitched_part_from_place(rest.place);
         self.put_break(alloc, rest.id.as_str(), part, store)
     }
 
@@ -546,10 +546,10 @@ impl<'a> Stitching<'a> {
         let Some(id) = &*marked.mark else {
             return self.keep_front(alloc, segments, cut);
         };
-        if goes_on(marked, previous) {
+        if stitched_run_goes_on(marked, previous) {
             return Ok(later);
         }
-        let part = part_at(ends, &marked.mark, later);
+        let part = stitched_part_at(ends, &marked.mark, later);
         self.put_break(alloc, id.as_str(), part, store)?;
         Ok(later)
     }

@@ -3,8 +3,8 @@ ghost use Rattle.std.specs.Prelude.{◌≡◌, ◌==◌, ◌∷◌, ◌+◌, ◌
 ghost use Rattle.std.specs.List.{list_all};
 ghost use Rattle.stitcher.specs.StitchedSegments.{item_fits};
 ghost use Rattle.stitcher.specs.Inner.Making.{numbers_fit};
-ghost use Rattle.stitcher.specs.Inner.Cuts.{stretches_within, left_from};
-ghost use Rattle.stitcher.specs.Stretches.{ad_item, ads_left, here_items, kept_item, left_items, numbers_on, stretch_items, stretches_items};
+ghost use Rattle.stitcher.specs.Inner.Cuts.{stretches_within, items_left_from_stretches};
+ghost use Rattle.stitcher.specs.Stretches.{stitched_ad_item, ads_left, here_items, stitched_kept_item, left_items, stitched_numbers_on, stretch_items, stretches_items};
 
 use crate::OutSegment;
 use crate::marked::{MarkedSegment, Numbers};
@@ -34,8 +34,8 @@ struct Cursor<'a> {
 }
 
 #[inline(always)]
-fn ad_item(segment: SegmentRef<'_>) -> OutSegment<'_>
-    ensures { result ≡ ad_item segment.entry }
+fn stitched_ad_item(segment: SegmentRef<'_>) -> OutSegment<'_>
+    ensures { result ≡ stitched_ad_item segment.entry }
 {
     OutSegment {
         media_sequence: segment.media_sequence(),
@@ -47,8 +47,8 @@ fn ad_item(segment: SegmentRef<'_>) -> OutSegment<'_>
 }
 
 #[inline(always)]
-fn kept_item<'a>(numbers: &Numbers, marked: &'a MarkedSegment) -> OutSegment<'a>
-    ensures { result ≡ kept_item numbers.now marked.now }
+fn stitched_kept_item<'a>(numbers: &Numbers, marked: &'a MarkedSegment) -> OutSegment<'a>
+    ensures { result ≡ stitched_kept_item numbers.now marked.now }
 {
     OutSegment {
         segment: marked.segment.get(),
@@ -61,9 +61,9 @@ fn kept_item<'a>(numbers: &Numbers, marked: &'a MarkedSegment) -> OutSegment<'a>
 
 // The numbers of the first of these, which follow a kept segment with those.
 #[inline(always)]
-fn numbers_on(numbers: &Numbers, here: &MarkedSegment, later: &[MarkedSegment]) -> Numbers
-    requires { numbers_fit (numbers_on numbers.now here.now later.now) ≡ true }
-    ensures { result ≡ numbers_on numbers.now here.now later.now }
+fn stitched_numbers_on(numbers: &Numbers, here: &MarkedSegment, later: &[MarkedSegment]) -> Numbers
+    requires { numbers_fit (stitched_numbers_on numbers.now here.now later.now) ≡ true }
+    ensures { result ≡ stitched_numbers_on numbers.now here.now later.now }
 {
     let Some(next) = later.first() else {
         return *numbers;
@@ -83,7 +83,7 @@ fn numbers_on(numbers: &Numbers, here: &MarkedSegment, later: &[MarkedSegment]) 
 
 // Whether no segment of an ad is left.
 #[inline(always)]
-fn is_past(ads: &Option<SegmentSlice<'_>>) -> bool
+fn is_past_stitched_ads(ads: &Option<SegmentSlice<'_>>) -> bool
     ensures { result ≡ (length (ads_left ads.now) == 0) }
 {
     match ads {
@@ -94,7 +94,9 @@ fn is_past(ads: &Option<SegmentSlice<'_>>) -> bool
 
 // The first of the ads' segments that are left, and those after it.
 #[inline(always)]
-fn next_ad<'a>(ads: &Option<SegmentSlice<'a>>) -> Option<(SegmentRef<'a>, SegmentSlice<'a>)>
+fn next_stitched_ad<'a>(
+    ads: &Option<SegmentSlice<'a>>,
+) -> Option<(SegmentRef<'a>, SegmentSlice<'a>)>
     ensures { MatchOption result (ads_left ads.now ≡ [])
         (λ parts. ads_left ads.now ≡ parts.0 ∷ parts.1) }
 {
@@ -106,11 +108,11 @@ fn next_ad<'a>(ads: &Option<SegmentSlice<'a>>) -> Option<(SegmentRef<'a>, Segmen
 
 // Goes to the next stretch that has an item, if none is left of this one.
 #[inline(always)]
-fn open_stretch<'a>(cursor: &mut Cursor<'a>)
+fn open_stitched_stretch<'a>(cursor: &mut Cursor<'a>)
     ensures same { left_items cursor.new ≡ left_items cursor.old }
     ensures open { here_items cursor.new ≡ [] → left_items cursor.new ≡ [] }
 {
-    while is_past(&cursor.ads) && cursor.kept.is_empty() {
+    while is_past_stitched_ads(&cursor.ads) && cursor.kept.is_empty() {
         let stretches = cursor.later;
         let [stretch, later @ ..] = stretches else {
             return;
@@ -124,22 +126,22 @@ fn open_stretch<'a>(cursor: &mut Cursor<'a>)
 
 // The next item of the stretch.
 #[inline(always)]
-fn next_here<'a>(cursor: &mut Cursor<'a>) -> Option<OutSegment<'a>>
+fn next_item_of_stretch<'a>(cursor: &mut Cursor<'a>) -> Option<OutSegment<'a>>
     requires { list_all item_fits (here_items cursor.old) ≡ true }
     ensures item { MatchOption result ((here_items cursor.old ≡ []) × (here_items cursor.new ≡ []))
         (λ item. here_items cursor.old ≡ item ∷ here_items cursor.new) }
     ensures later { cursor.new.later.now ≡ cursor.old.later.now }
 {
-    if let Some((segment, later)) = next_ad(&cursor.ads) {
+    if let Some((segment, later)) = next_stitched_ad(&cursor.ads) {
         cursor.ads = Some(later);
-        return Some(ad_item(segment));
+        return Some(stitched_ad_item(segment));
     }
     let kept = cursor.kept;
     let Some((here, later)) = kept.split_first() else {
         return None;
     };
-    let item = kept_item(&cursor.numbers, here);
-    cursor.numbers = numbers_on(&cursor.numbers, here, later);
+    let item = stitched_kept_item(&cursor.numbers, here);
+    cursor.numbers = stitched_numbers_on(&cursor.numbers, here, later);
     cursor.kept = later;
     Some(item)
 }
@@ -171,8 +173,8 @@ impl<'a> StitchedItems<'a> {
         ensures { MatchOption result ((self.old ≡ []) × (self.new ≡ []))
             (λ item. self.old ≡ item ∷ self.new) }
     {
-        open_stretch(&mut self.cursor);
-        next_here(&mut self.cursor)
+        open_stitched_stretch(&mut self.cursor);
+        next_item_of_stretch(&mut self.cursor)
     }
 
     // Passes over the first items, so many.
@@ -186,7 +188,7 @@ impl<'a> StitchedItems<'a> {
 }
 
 // The items of stretches.
-fn items_of<'a>(stretches: &'a [Stretch<'a>]) -> StitchedItems<'a>
+fn items_of_stretches<'a>(stretches: &'a [Stretch<'a>]) -> StitchedItems<'a>
     requires { list_all item_fits (stretches_items stretches.now) ≡ true }
     ensures { result ≡ stretches_items stretches.now }
 {
@@ -202,7 +204,7 @@ fn items_of<'a>(stretches: &'a [Stretch<'a>]) -> StitchedItems<'a>
 
 #[tactic(auto, using(crate::proofs::Cursors::length_stretch))]
 // How many items there are with those of a stretch, if so many can be counted.
-fn count_with(count: usize, stretch: &Stretch<'_>) -> Option<usize>
+fn count_with_stretch(count: usize, stretch: &Stretch<'_>) -> Option<usize>
     ensures { IfSome result (λ sum. sum ≡ count + length (stretch_items stretch.now)) }
 {
     let with_ads = count.checked_add(stretch.ads.len())?;
@@ -210,18 +212,18 @@ fn count_with(count: usize, stretch: &Stretch<'_>) -> Option<usize>
 }
 
 // How many items stretches have, if so many can be counted.
-fn count_of(stretches: &[Stretch<'_>]) -> Option<usize>
+fn count_of_stretch_items(stretches: &[Stretch<'_>]) -> Option<usize>
     ensures { IfSome result (λ count. count ≡ length (stretches_items stretches.now)) }
 {
     let mut count: usize = 0;
     for stretch in stretches {
-        count = count_with(count, stretch)?;
+        count = count_with_stretch(count, stretch)?;
     }
     Some(count)
 }
 
 // Whether a stretch ends within so many items.
-fn ends_within(stretch: &Stretch<'_>, count: usize) -> bool
+fn stretch_ends_within(stretch: &Stretch<'_>, count: usize) -> bool
     ensures { result ≡ nat_le (length stretch.now.ads + length stretch.now.kept.now) count }
 {
     match stretch.ads.len().checked_add(stretch.kept.len()) {
@@ -238,7 +240,7 @@ fn stretches_within(stretches: &[Stretch<'_>], count: usize) -> usize
     let mut place = 0;
     let mut left = count;
     for stretch in stretches {
-        if !ends_within(stretch, left) {
+        if !stretch_ends_within(stretch, left) {
             return place;
         }
         left = left - stretch.ads.len() - stretch.kept.len();
@@ -248,12 +250,12 @@ fn stretches_within(stretches: &[Stretch<'_>], count: usize) -> usize
 }
 
 // How many items are still to be passed over after those.
-fn left_from(stretches: &[Stretch<'_>], count: usize) -> usize
-    ensures { result ≡ left_from count stretches.now }
+fn items_left_from_stretches(stretches: &[Stretch<'_>], count: usize) -> usize
+    ensures { result ≡ items_left_from_stretches count stretches.now }
 {
     let mut left = count;
     for stretch in stretches {
-        if !ends_within(stretch, left) {
+        if !stretch_ends_within(stretch, left) {
             return left;
         }
         left = left - stretch.ads.len() - stretch.kept.len();
@@ -262,12 +264,12 @@ fn left_from(stretches: &[Stretch<'_>], count: usize) -> usize
 }
 
 // The items of stretches from a place on.
-fn items_at<'a>(stretches: &'a [Stretch<'a>], count: usize) -> StitchedItems<'a>
+fn items_at_stretch_place<'a>(stretches: &'a [Stretch<'a>], count: usize) -> StitchedItems<'a>
     requires { list_all item_fits (stretches_items stretches.now) ≡ true }
     ensures { result ≡ drop count (stretches_items stretches.now) }
 {
-    let mut items = items_of(&stretches[stretches_within(stretches, count)..]);
-    items.pass(left_from(stretches, count));
+    let mut items = items_of_stretches(&stretches[stretches_within(stretches, count)..]);
+    items.pass(items_left_from_stretches(stretches, count));
     items
 }
 
@@ -302,7 +304,7 @@ impl<'a> StitchedList<'a> {
         ensures items { IfOk result (λ list. list ≡ stretches_items stretches.entry.items) }
         ensures room { IfOk result (λ list. length list < 2 ^ 64) }
     {
-        let Some(count) = count_of(stretches.as_slice()) else {
+        let Some(count) = count_of_stretch_items(stretches.as_slice()) else {
             return Err(AllocError);
         };
         Ok(StitchedList {
@@ -316,7 +318,7 @@ impl<'a> StitchedList<'a> {
     pub fn items(&self) -> StitchedItems<'_>
         ensures { result ≡ self.now }
     {
-        let mut items = items_of(self.stretches.as_slice());
+        let mut items = items_of_stretches(self.stretches.as_slice());
         items.pass(self.passed);
         items
     }
@@ -326,7 +328,7 @@ impl<'a> StitchedList<'a> {
     pub fn items_from(&self, place: usize) -> StitchedItems<'_>
         ensures { result ≡ drop place self.now }
     {
-        items_at(
+        items_at_stretch_place(
             self.stretches.as_slice(),
             self.passed + place.min(self.count - self.passed),
         )

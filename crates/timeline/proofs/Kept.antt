@@ -6,7 +6,7 @@ use Rattle.std.proofs.lemmas.Bool.{and_parts}
 use Rattle.std.proofs.lemmas.List.{same_from_push}
 use Rattle.playlist_model.specs.Segments.{Segment}
 use Rattle.playlist_model.specs.Instants.{reckoned_back}
-use Rattle.timeline.specs.Inner.Reckoned.{is_unstated}
+use Rattle.timeline.specs.Inner.Reckoned.{is_beginning_unstated}
 use Rattle.timeline.specs.Reckoned.{clamped, reckoned, stack_of, IsKeptStack}
 
 -- ---- what is kept
@@ -14,11 +14,11 @@ use Rattle.timeline.specs.Reckoned.{clamped, reckoned, stack_of, IsKeptStack}
 unstated : (s : Segment) (later : List Segment) → is_none s.program_date_time ≡ true → reckoned_back later ≡ None → reckoned_back (s ∷ later) ≡ None
 unstated s later here e = grind (arith, here, e)
 
-none_back : (segments : List Segment) → list_all is_unstated segments ≡ true → reckoned_back segments ≡ None
+none_back : (segments : List Segment) → list_all is_beginning_unstated segments ≡ true → reckoned_back segments ≡ None
 none_back [] h = refl
 none_back (s ∷ later) h = unstated s later (and_parts _ _ h).0 (none_back later (and_parts _ _ h).1)
 
-pub unstated_kept : (segments : List Segment) → list_all is_unstated segments ≡ true → IsKeptStack [] segments
+pub unstated_kept : (segments : List Segment) → list_all is_beginning_unstated segments ≡ true → IsKeptStack [] segments
 unstated_kept segments h = ap (λ back. option_map clamped back) (none_back segments h)
 
 pub stack_kept : (segments : List Segment) (kept : List (Option ℤ)) → kept ≡ stack_of segments → IsKeptStack kept segments

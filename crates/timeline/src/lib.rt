@@ -1,14 +1,14 @@
 //! The instants at which a playlist's segments begin (RFC 8216, sections 4.3.2.6 and 6.2.1).
 #![tactic(auto)]
 
-ghost use Rattle.std.specs.Prelude.{◌≡◌, ℤ, List, [], ◌∷◌, ◌++◌, IfOk, IfErr, MatchOption, option_map, pos, ◌-ℤ◌, ◌||◌};
+ghost use Rattle.std.specs.Prelude.{◌≡◌, ℤ, List, [], ◌∷◌, IfOk, IfErr, MatchOption, option_map, pos, ◌-ℤ◌, ◌||◌};
 ghost use Rattle.std.specs.List.{list_all};
 ghost use Rattle.std.specs.Option.{is_some};
 ghost use Rattle.playlist_model.specs.Instants.{bounded, instants_after};
 ghost use Rattle.playlist_model.specs.LookBack.{or_earlier};
 ghost use Rattle.playlist_model.specs.Segments.{Segment};
 ghost use Rattle.timeline.specs.Reckoned.{clamped, reckoned, stack_of, IsKeptStack};
-ghost use Rattle.timeline.specs.Inner.Reckoned.{is_unstated};
+ghost use Rattle.timeline.specs.Inner.Reckoned.{is_beginning_unstated};
 
 use date_times::FIRST_INSTANT;
 use playlist_model::{Instant, SegmentRef, SegmentSlice};
@@ -20,7 +20,7 @@ mod optional_instant;
 
 pub use optional_instant::OptionalInstant;
 
-fn nanos_of(instant: Option<Instant>) -> Option<i128>
+fn nanos_of_beginning(instant: Option<Instant>) -> Option<i128>
     ensures { result ≡ instant }
 {
     match instant {
@@ -30,7 +30,7 @@ fn nanos_of(instant: Option<Instant>) -> Option<i128>
 }
 
 // So much earlier, or one before the first instant if that is passed.
-fn earlier(nanos: i128, duration: u64) -> i128
+fn earlier_beginning(nanos: i128, duration: u64) -> i128
     ensures { result ≡ clamped (nanos -ℤ pos duration) }
 {
     let before_all = FIRST_INSTANT - 1;
@@ -41,7 +41,7 @@ fn earlier(nanos: i128, duration: u64) -> i128
 }
 
 // The first time that is stated from this segment on, less the durations before it.
-fn reckoned_here(segment: &SegmentRef<'_>, after: Option<i128>) -> Option<i128>
+fn beginning_reckoned_here(segment: &SegmentRef<'_>, after: Option<i128>) -> Option<i128>
     ensures { result
         ≡ option_map clamped (or_earlier segment.now.program_date_time (option_map
         (λ nanos. nanos -ℤ pos segment.now.duration) after)) }
@@ -50,14 +50,14 @@ fn reckoned_here(segment: &SegmentRef<'_>, after: Option<i128>) -> Option<i128>
         return Some(i128::from(time.0).max(FIRST_INSTANT - 1));
     }
     match after {
-        Some(nanos) => Some(earlier(nanos, segment.duration().0)),
+        Some(nanos) => Some(earlier_beginning(nanos, segment.duration().0)),
         None => None,
     }
 }
 
 // When a segment begins (RFC 8216, section 4.3.2.6): at its stated time, else when the one before it ended, else
 // back from the first time that is stated later.
-fn begins_at(
+fn segment_begins_at(
     ended: Option<i128>,
     segment: &SegmentRef<'_>,
     reckoned: Option<i128>,
@@ -65,12 +65,16 @@ fn begins_at(
     ensures { result
         ≡ bounded (or_earlier segment.now.program_date_time (or_earlier ended reckoned)) }
 {
-    OptionalInstant::from_nanos(nanos_of(segment.program_date_time()).or(ended).or(reckoned))
+    OptionalInstant::from_nanos(
+        nanos_of_beginning(segment.program_date_time())
+            .or(ended)
+            .or(reckoned),
+    )
 }
 
 // Whether a segment states its time or follows one that begins somewhere, so that nothing is reckoned back for it.
 #[inline(always)]
-fn is_told(segment: &SegmentRef<'_>, ended: &Option<i128>) -> bool
+fn is_beginning_told(segment: &SegmentRef<'_>, ended: &Option<i128>) -> bool
     ensures { result ≡ (is_some segment.now.program_date_time || is_some ended.now) }
 {
     segment.program_date_time().is_some() || ended.is_some()
@@ -78,7 +82,7 @@ fn is_told(segment: &SegmentRef<'_>, ended: &Option<i128>) -> bool
 
 // For each segment the first time that is stated from it on, less the durations before it: the first
 // segment's stands last.
-fn reckoned_stack(
+fn reckoned_beginnings(
     alloc: Global,
     segments: &SegmentSlice<'_>,
 ) -> Result<Vec<Option<i128>>, AllocError>
@@ -88,26 +92,26 @@ fn reckoned_stack(
     let mut after: Option<i128> = None;
     let mut rest = segments.again();
     while let Some((segment, before)) = rest.split_last() {
-        after = reckoned_here(&segment, after);
+        after = beginning_reckoned_here(&segment, after);
         stack.push(after)?;
         rest = before;
     }
     Ok(stack)
 }
 
-fn is_unstated(segment: &SegmentRef<'_>) -> bool
-    ensures { result ≡ is_unstated segment.now }
+fn is_beginning_unstated(segment: &SegmentRef<'_>) -> bool
+    ensures { result ≡ is_beginning_unstated segment.now }
 {
     segment.program_date_time().is_none()
 }
 
 // Whether none of these segments states its time.
-fn are_unstated(segments: &SegmentSlice<'_>) -> bool
-    ensures { result ≡ list_all is_unstated segments.now }
+fn are_beginnings_unstated(segments: &SegmentSlice<'_>) -> bool
+    ensures { result ≡ list_all is_beginning_unstated segments.now }
 {
     let mut rest = segments.again();
     while let Some((segment, later)) = rest.split_first() {
-        if !is_unstated(&segment) {
+        if !is_beginning_unstated(&segment) {
             return false;
         }
         rest = later;
@@ -117,18 +121,21 @@ fn are_unstated(segments: &SegmentSlice<'_>) -> bool
 
 #[tactic(auto, using(crate::proofs::Kept::unstated_kept, crate::proofs::Kept::stack_kept))]
 // What is kept of these segments. In most playlists either the first states its time or none does, and then no memory is taken.
-fn kept_of(alloc: Global, segments: &SegmentSlice<'_>) -> Result<Vec<Option<i128>>, AllocError>
+fn kept_beginnings_of(
+    alloc: Global,
+    segments: &SegmentSlice<'_>,
+) -> Result<Vec<Option<i128>>, AllocError>
     ensures { IfOk result (λ v. IsKeptStack v.items segments.now) }
 {
-    if are_unstated(segments) {
+    if are_beginnings_unstated(segments) {
         return Ok(Vec::new(alloc));
     }
-    reckoned_stack(alloc, segments)
+    reckoned_beginnings(alloc, segments)
 }
 
 #[tactic(auto, using(crate::proofs::Kept::popped_first, crate::proofs::Kept::popped_others, crate::proofs::Kept::none_first, crate::proofs::Kept::none_others))]
 // What is reckoned of the first of some segments, of which this is kept; then it is of the others.
-fn pop_reckoned(kept: &mut Vec<Option<i128>>) -> Option<i128>
+fn pop_reckoned_beginning(kept: &mut Vec<Option<i128>>) -> Option<i128>
     ensures first { (s : Segment) (later : List Segment) → IsKeptStack kept.old.items (s ∷ later)
         → result ≡ reckoned (s ∷ later) }
     ensures others { (s : Segment) (later : List Segment) → IsKeptStack kept.old.items (s ∷ later)
@@ -195,14 +202,14 @@ impl<'a> Beginnings<'a> {
         let Some((segment, later)) = self.segments.split_first() else {
             return Ok(None);
         };
-        if self.kept.is_none() && !is_told(&segment, &ended) {
-            self.kept = Some(kept_of(self.alloc, &self.segments)?);
+        if self.kept.is_none() && !is_beginning_told(&segment, &ended) {
+            self.kept = Some(kept_beginnings_of(self.alloc, &self.segments)?);
         }
         let reckoned = match &mut self.kept {
-            Some(kept) => pop_reckoned(kept),
+            Some(kept) => pop_reckoned_beginning(kept),
             None => None,
         };
-        let begun = begins_at(ended, &segment, reckoned);
+        let begun = segment_begins_at(ended, &segment, reckoned);
         self.ended = begun.end(segment.duration());
         self.segments = later;
         Ok(Some(begun))

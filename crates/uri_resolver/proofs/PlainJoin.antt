@@ -10,7 +10,7 @@ use Rattle.std.proofs.lemmas.Bool.Decides.{nat_tests}
 use Rattle.std.proofs.lemmas.List.Elements.{All-nil, All-cons, All-head, All-tail, All-append, All-push, All-weaker}
 use Rattle.std.proofs.lemmas.List.Folds.{list_any-append}
 use Rattle.std.proofs.lemmas.Slice.Eq.{bytes_eq-Decides}
-use Rattle.std.proofs.lemmas.Str.{chars-IsAscii, IsAscii-append}
+use Rattle.std.proofs.lemmas.Str.{chars-IsAscii, IsAscii-append, IsUtf8-from_ascii, is_utf8-from_IsUtf8}
 use Rattle.std.proofs.lemmas.Str.Ascii.{IsAscii-from_all}
 use Rattle.percent_encoding.specs.Percent.{IsKept, percent_encode}
 use Rattle.percent_encoding.proofs.PercentLemmas.{percent_encode_unchanged}
@@ -29,16 +29,16 @@ use Rattle.url.proofs.PiecesLemmas.{concat-split}
 use Rattle.url.proofs.ValidLemmas.{special_has_authority, base_from_authority}
 use Rattle.playlist_model.specs.Lines.{has_control}
 use Rattle.playlist_model.specs.Uri.{has_scheme, can_be_written, resolved, is_web_scheme}
-use Rattle.playlist_model.specs.Uri.{is_scheme_byte as scheme_byte}
-use Rattle.uri_resolver.specs.Plain.{is_path_byte, is_query_byte, are_plain, is_relative, begins_with_slash, is_rooted, StandsBefore}
+use Rattle.playlist_model.specs.Uri.{is_uri_scheme_byte as scheme_byte}
+use Rattle.uri_resolver.specs.Plain.{is_reference_path_byte, is_reference_query_byte, is_plain_reference_path, is_relative_reference, reference_begins_with_slash, is_rooted_reference, StandsBefore}
 
 -- ---- bytes
 
 abbrev IsPath : ℕ → Type 0
-IsPath b = is_path_byte b ≡ true
+IsPath b = is_reference_path_byte b ≡ true
 
 abbrev IsQuery : ℕ → Type 0
-IsQuery b = is_query_byte b ≡ true
+IsQuery b = is_reference_query_byte b ≡ true
 
 path_below : (b : ℕ) → IsPath b → b < 128
 path_below b plain = grind (arith, nat_tests)
@@ -53,28 +53,28 @@ implied from test b = not (from b) || test b
 holds : (c d : Bool) → (not c || d) ≡ true → c ≡ true → d ≡ true
 holds c d either here = rw here at either
 
-of_path : (test : ℕ → Bool) → ((k : ℕ) → k < 128 → implied is_path_byte test k ≡ true) → (b : ℕ) → IsPath b → test b ≡ true
-of_path test all b plain = holds (is_path_byte b) (test b) (all b (path_below b plain)) plain
+of_path : (test : ℕ → Bool) → ((k : ℕ) → k < 128 → implied is_reference_path_byte test k ≡ true) → (b : ℕ) → IsPath b → test b ≡ true
+of_path test all b plain = holds (is_reference_path_byte b) (test b) (all b (path_below b plain)) plain
 
-of_query : (test : ℕ → Bool) → ((k : ℕ) → k < 128 → implied is_query_byte test k ≡ true) → (b : ℕ) → IsQuery b → test b ≡ true
-of_query test all b plain = holds (is_query_byte b) (test b) (all b (query_below b plain)) plain
+of_query : (test : ℕ → Bool) → ((k : ℕ) → k < 128 → implied is_reference_query_byte test k ≡ true) → (b : ℕ) → IsQuery b → test b ≡ true
+of_query test all b plain = holds (is_reference_query_byte b) (test b) (all b (query_below b plain)) plain
 
 -- visible, and neither `#` nor a quote
 abbrev is_calm : ℕ → Bool
 is_calm b = not (is_c0_control_or_space b) && not (is_tab_or_new_line b) && not (b == 35) && not (b == 34) && not (is_control b)
 
 path_calm : (b : ℕ) → IsPath b → is_calm b ≡ true
-path_calm b plain = of_path is_calm (checked (implied is_path_byte is_calm) 128 refl) b plain
+path_calm b plain = of_path is_calm (checked (implied is_reference_path_byte is_calm) 128 refl) b plain
 
 query_calm : (b : ℕ) → IsQuery b → is_calm b ≡ true
-query_calm b plain = of_query is_calm (checked (implied is_query_byte is_calm) 128 refl) b plain
+query_calm b plain = of_query is_calm (checked (implied is_reference_query_byte is_calm) 128 refl) b plain
 
 -- ---- the path and the query
 
 -- plain bytes of a path, of which none is a dot at the front of a segment
 abbrev is_path : Bool → List ℕ → Bool
 is_path at_front [] = true
-is_path at_front (b ∷ bytes) = is_path_byte b && not (at_front && b == 46) && is_path (b == 47) bytes
+is_path at_front (b ∷ bytes) = is_reference_path_byte b && not (at_front && b == 46) && is_path (b == 47) bytes
 
 abbrev query_text : Option (List ℕ) → List ℕ
 query_text None = []
@@ -93,23 +93,23 @@ record Cut (at_front : Bool) (reference : List ℕ) : Type 0 where
   are_query : AreQuery query
 
 record PlainStep (at_front : Bool) (b : ℕ) (rest : Bool) : Type 0 where
-  byte : is_path_byte b ≡ true
+  byte : is_reference_path_byte b ≡ true
   no_dot : not (at_front && b == 46) ≡ true
   later : rest ≡ true
 
-plain_step : (at_front : Bool) (b : ℕ) (later : Bool) → (is_path_byte b && not (at_front && b == 46) && later) ≡ true → PlainStep at_front b later
+plain_step : (at_front : Bool) (b : ℕ) (later : Bool) → (is_reference_path_byte b && not (at_front && b == 46) && later) ≡ true → PlainStep at_front b later
 plain_step at_front b later plain = grind arith
 
-cut : (at_front : Bool) (reference : List ℕ) → are_plain at_front reference ≡ true → Cut at_front reference
+cut : (at_front : Bool) (reference : List ℕ) → is_plain_reference_path at_front reference ≡ true → Cut at_front reference
 cut at_front [] plain = record { path = []; query = None; whole = refl; is_path = refl; are_query = tt }
 cut at_front (b ∷ bytes) plain =
     ⊎_elim
     (λ (question : (b == 63) ≡ true).
     let same : b ≡ 63 = grind (arith, nat_tests) in
     let query = sym (cond-true _ _ _ question) ∙ plain in
-    record { path = []; query = Some bytes; whole = ap (λ c. c ∷ bytes) same; is_path = refl; are_query = All_from_list_all is_query_byte bytes query })
+    record { path = []; query = Some bytes; whole = ap (λ c. c ∷ bytes) same; is_path = refl; are_query = All_from_list_all is_reference_query_byte bytes query })
     (λ (other : (b == 63) ≡ false).
-    let step = plain_step at_front b (are_plain (b == 47) bytes) (sym (cond-false _ _ _ other) ∙ plain) in
+    let step = plain_step at_front b (is_plain_reference_path (b == 47) bytes) (sym (cond-false _ _ _ other) ∙ plain) in
     let rest = cut (b == 47) bytes step.later in
     record { path = b ∷ rest.path; query = rest.query; whole = ap (λ bs. b ∷ bs) rest.whole; is_path = and_from _ _ (and_from _ _ step.byte step.no_dot) rest.is_path; are_query = rest.are_query })
     (cases_Bool (b == 63))
@@ -135,16 +135,16 @@ calm_cut at_front reference c =
 
 -- a byte of a plain segment
 abbrev is_inside : ℕ → Bool
-is_inside b = is_path_byte b && not (b == 47)
+is_inside b = is_reference_path_byte b && not (b == 47)
 
 abbrev IsInside : ℕ → Type 0
 IsInside b = is_inside b ≡ true
 
 inside_kept : (b : ℕ) → IsInside b → IsKept PATH b
-inside_kept b inside = let plain = (and_parts _ _ inside).0 in kept_from_passes is_path_byte PATH refl b (path_below b plain) plain
+inside_kept b inside = let plain = (and_parts _ _ inside).0 in kept_from_passes is_reference_path_byte PATH refl b (path_below b plain) plain
 
 query_kept : (b : ℕ) → IsQuery b → IsKept SPECIAL_QUERY b
-query_kept b plain = kept_from_passes is_query_byte SPECIAL_QUERY refl b (query_below b plain) plain
+query_kept b plain = kept_from_passes is_reference_query_byte SPECIAL_QUERY refl b (query_below b plain) plain
 
 no_percent : (b : ℕ) → IsPath b → (b == 37) ≡ false
 no_percent b plain = grind arith
@@ -278,12 +278,12 @@ relative : (base : Parts) (b : ℕ) (bytes : List ℕ) → kind_of base ≡ Spec
 unfolding parse_relative
 relative base b bytes kind plain other = grind (arith, no_slash_in_front)
 
-one_slash : (bytes : List ℕ) → All IsPath bytes → begins_with_slash bytes ≡ false → leading_slashes SpecialNotFile (47 ∷ bytes) ≡ 1
+one_slash : (bytes : List ℕ) → All IsPath bytes → reference_begins_with_slash bytes ≡ false → leading_slashes SpecialNotFile (47 ∷ bytes) ≡ 1
 unfolding leading_slashes
 one_slash [] all first = refl
 one_slash (b ∷ bytes) all first = rw (no_slash b (All-head IsPath b bytes all) first) refl
 
-rooted : (base : Parts) (bytes : List ℕ) → kind_of base ≡ SpecialNotFile → All IsPath bytes → begins_with_slash bytes ≡ false → parse_relative base (47 ∷ bytes) ≡ Ok (with_path (head_only base) (parse_path SpecialNotFile [] bytes))
+rooted : (base : Parts) (bytes : List ℕ) → kind_of base ≡ SpecialNotFile → All IsPath bytes → reference_begins_with_slash bytes ≡ false → parse_relative base (47 ∷ bytes) ≡ Ok (with_path (head_only base) (parse_path SpecialNotFile [] bytes))
 unfolding parse_relative
 rooted base bytes kind all first = grind (arith, one_slash)
 
@@ -330,9 +330,9 @@ record FirstOf (b : ℕ) (reference : List ℕ) : Type 0 where
   bytes : List ℕ
   first : at_front.path ≡ b ∷ bytes
 
-first_of : (b : ℕ) (bytes : List ℕ) → (b == 63) ≡ false → are_plain true (b ∷ bytes) ≡ true → FirstOf b bytes
+first_of : (b : ℕ) (bytes : List ℕ) → (b == 63) ≡ false → is_plain_reference_path true (b ∷ bytes) ≡ true → FirstOf b bytes
 first_of b bytes other plain =
-    let step = plain_step true b (are_plain (b == 47) bytes) (sym (cond-false _ _ _ other) ∙ plain) in
+    let step = plain_step true b (is_plain_reference_path (b == 47) bytes) (sym (cond-false _ _ _ other) ∙ plain) in
     let rest = cut (b == 47) bytes step.later in
     record {
       at_front = record { path = b ∷ rest.path; query = rest.query; whole = ap (λ bs. b ∷ bs) rest.whole; is_path = and_from _ _ (and_from _ _ step.byte step.no_dot) rest.is_path; are_query = rest.are_query };
@@ -347,7 +347,7 @@ dot_leads base here valid kind dot =
     ap (from_ok here) (sym dot ∙ joins_at base (46 ∷ []) 46 [] (parse_path SpecialNotFile (directory base) (46 ∷ [])) None valid kind calm refl one tt (relative base 46 [] kind refl refl))
     ∙ ap (λ p. at_path base p None) (dot_path (directory base))
 
-relative_joins : (base here : Parts) (reference : List ℕ) → IsValid base → kind_of base ≡ SpecialNotFile → parse_url (Some base) (46 ∷ []) ≡ Ok here → is_relative reference ≡ true → Joins base reference (serialize here ++ reference)
+relative_joins : (base here : Parts) (reference : List ℕ) → IsValid base → kind_of base ≡ SpecialNotFile → parse_url (Some base) (46 ∷ []) ≡ Ok here → is_relative_reference reference ≡ true → Joins base reference (serialize here ++ reference)
 relative_joins base here [] valid kind dot plain = absurd (true≢false (sym plain))
 relative_joins base here (b ∷ bytes) valid kind dot plain =
     let authority = special_has_authority base valid.head (ap is_special kind) in
@@ -371,7 +371,7 @@ relative_joins base here (b ∷ bytes) valid kind dot plain =
       spelled = text ∙ apart ∙ ap (λ t. t ++ (c.path ++ query_text c.query)) (sym before) ∙ ap (λ t. serialize here ++ t) (sym c.whole);
     }
 
-rooted_joins : (base : Parts) (reference : List ℕ) → IsValid base → kind_of base ≡ SpecialNotFile → is_rooted reference ≡ true → Joins base reference (text_before base AfterPort ++ reference)
+rooted_joins : (base : Parts) (reference : List ℕ) → IsValid base → kind_of base ≡ SpecialNotFile → is_rooted_reference reference ≡ true → Joins base reference (text_before base AfterPort ++ reference)
 rooted_joins base [] valid kind plain = absurd (true≢false (sym plain))
 rooted_joins base (b ∷ bytes) valid kind plain =
     let authority = special_has_authority base valid.head (ap is_special kind) in
@@ -380,7 +380,7 @@ rooted_joins base (b ∷ bytes) valid kind plain =
     let slash : b ≡ 47 = is_slash_byte b others.0 in
     let c = cut true bytes parts.1 in
     let all = path_bytes true c.path c.is_path in
-    let first = path_first c.path (query_text c.query) (ap begins_with_slash (sym c.whole) ∙ not-true _ others.1) in
+    let first = path_first c.path (query_text c.query) (ap reference_begins_with_slash (sym c.whole) ∙ not-true _ others.1) in
     let segments = plain_segments [] [] c.path (All-nil IsInside) (λ e. omega arith) c.is_path in
     let whole : b ∷ bytes ≡ (47 ∷ c.path) ++ query_text c.query = ap (λ x. x ∷ bytes) slash ∙ ap (λ bs. 47 ∷ bs) c.whole in
     let calm = subst (λ (x : ℕ). All IsCalm (x ∷ bytes)) (sym slash) (All-cons IsCalm 47 bytes refl (calm_cut true bytes c)) in
@@ -391,7 +391,7 @@ rooted_joins base (b ∷ bytes) valid kind plain =
       spelled = path_text base (47 ∷ c.path) c.query authority ∙ ap (λ t. text_before base AfterPort ++ t) (sym whole);
     }
   where
-    path_first : (path rest : List ℕ) → begins_with_slash (path ++ rest) ≡ false → begins_with_slash path ≡ false
+    path_first : (path rest : List ℕ) → reference_begins_with_slash (path ++ rest) ≡ false → reference_begins_with_slash path ≡ false
     path_first [] tail first = refl
     path_first (x ∷ path) tail first = first
 
@@ -424,11 +424,14 @@ still_written d r ascii ascii_r calm written =
     let parts = and_parts _ _ written in
     let quotes = not-true _ parts.1 in
     let first = and_parts _ _ parts.0 in
+    let scheme = (and_parts _ _ first.0).1 in
+    let whole = IsAscii-append d r ascii ascii_r in
     let control_d = sym (ap (list_any is_control) (chars-IsAscii d ascii)) ∙ not-true _ first.1 in
     let control_r = list_any_none is_control r (All-weaker IsCalm (λ b. is_control b ≡ false) calm_no_control r calm) in
-    let control : has_control (d ++ r) ≡ false = ap (list_any is_control) (chars-IsAscii (d ++ r) (IsAscii-append d r ascii ascii_r)) ∙ none_more is_control d r control_d control_r in
+    let control : has_control (d ++ r) ≡ false = ap (list_any is_control) (chars-IsAscii (d ++ r) whole) ∙ none_more is_control d r control_d control_r in
     let quote = none_more (λ b. b == 34) d r quotes (list_any_none (λ b. b == 34) r (All-weaker IsCalm (λ b. (b == 34) ≡ false) calm_no_quote r calm)) in
-    and_from _ _ (and_from _ _ (has_scheme_stays d r first.0) (ap not control)) (ap not quote)
+    let text = is_utf8-from_IsUtf8 (d ++ r) (IsUtf8-from_ascii (d ++ r) whole) in
+    and_from _ _ (and_from _ _ (and_from _ _ text (has_scheme_stays d r scheme)) (ap not control)) (ap not quote)
 
 abbrev IsBelow : ℕ → Type 0
 IsBelow b = b < 128
@@ -452,7 +455,7 @@ resolves : (base : Parts) (front reference : List ℕ) → Joins base reference 
 resolves base front reference joins none written = grind arith
 
 -- if `.` leads to a text that can be written, that text stands before relative references
-pub stands_before_relative : (base here : Parts) → IsValid base → kind_of base ≡ SpecialNotFile → parse_url (Some base) (46 ∷ []) ≡ Ok here → IsAscii (serialize here) → can_be_written (serialize here) ≡ true → StandsBefore base is_relative (serialize here)
+pub stands_before_relative : (base here : Parts) → IsValid base → kind_of base ≡ SpecialNotFile → parse_url (Some base) (46 ∷ []) ≡ Ok here → IsAscii (serialize here) → can_be_written (serialize here) ≡ true → StandsBefore base is_relative_reference (serialize here)
 stands_before_relative base here valid kind dot ascii written [] plain = absurd (true≢false (sym plain))
 stands_before_relative base here valid kind dot ascii written (b ∷ bytes) plain =
     let c = cut true (b ∷ bytes) (and_parts _ _ plain).1 in
@@ -461,7 +464,7 @@ stands_before_relative base here valid kind dot ascii written (b ∷ bytes) plai
     (still_written (serialize here) (b ∷ bytes) ascii (ascii_cut true (b ∷ bytes) c) (calm_cut true (b ∷ bytes) c) written)
 
 -- if what stands before the path of the base can be written, it stands before references from the root
-pub stands_before_rooted : (base : Parts) → IsValid base → kind_of base ≡ SpecialNotFile → IsAscii (text_before base AfterPort) → can_be_written (text_before base AfterPort) ≡ true → StandsBefore base is_rooted (text_before base AfterPort)
+pub stands_before_rooted : (base : Parts) → IsValid base → kind_of base ≡ SpecialNotFile → IsAscii (text_before base AfterPort) → can_be_written (text_before base AfterPort) ≡ true → StandsBefore base is_rooted_reference (text_before base AfterPort)
 stands_before_rooted base valid kind ascii written [] plain = absurd (true≢false (sym plain))
 stands_before_rooted base valid kind ascii written (b ∷ bytes) plain =
     let parts = and_parts _ _ plain in

@@ -2,7 +2,7 @@
 use Rattle.std.proofs.Common.{◌≡◌, ℕ, zero, suc, ◌+◌, Bool, true, false, ◌==◌, slice_index, length, List, [], ◌∷◌, take, drop, refl, sym, ◌∙◌, ap, arith}
 use Rattle.std.specs.List.{list_all, prefix_len}
 use Rattle.std.proofs.lemmas.Bool.{and_parts}
-use Rattle.uri_resolver.specs.Plain.{is_segment_byte, is_query_byte, are_plain}
+use Rattle.uri_resolver.specs.Plain.{is_path_segment_byte, is_reference_query_byte, is_plain_reference_path}
 use Rattle.uri_resolver.proofs.SegmentBytes.{segment_goes_on, slash_goes_on, dot_stops, other_stops}
 
 abbrev pub after : (ℕ → Bool) → List ℕ → List ℕ
@@ -24,53 +24,53 @@ taken_go_on test (suc k) (b ∷ bytes) all =
     let parts = and_parts (test b) (list_all test (take k bytes)) all in
     taken_go_on test k bytes parts.1 ∙ sym (one_goes_on test b bytes parts.0)
 
-run_of : (b : ℕ) (bytes : List ℕ) (is_segment : Bool) → is_segment_byte b ≡ is_segment
-    → are_plain false (after is_segment_byte bytes) ≡ are_plain false bytes
-    → are_plain false (after is_segment_byte (b ∷ bytes)) ≡ are_plain false (b ∷ bytes)
-run_of b bytes true here later = ap (λ rest. are_plain false rest) (one_goes_on is_segment_byte b bytes here) ∙ later ∙ sym (segment_goes_on b bytes here)
-run_of b bytes false here later = ap (λ rest. are_plain false rest) (one_stops is_segment_byte b bytes here)
+run_of : (b : ℕ) (bytes : List ℕ) (is_segment : Bool) → is_path_segment_byte b ≡ is_segment
+    → is_plain_reference_path false (after is_path_segment_byte bytes) ≡ is_plain_reference_path false bytes
+    → is_plain_reference_path false (after is_path_segment_byte (b ∷ bytes)) ≡ is_plain_reference_path false (b ∷ bytes)
+run_of b bytes true here later = ap (λ rest. is_plain_reference_path false rest) (one_goes_on is_path_segment_byte b bytes here) ∙ later ∙ sym (segment_goes_on b bytes here)
+run_of b bytes false here later = ap (λ rest. is_plain_reference_path false rest) (one_stops is_path_segment_byte b bytes here)
 
-pub run_goes_on : (bytes : List ℕ) → are_plain false (after is_segment_byte bytes) ≡ are_plain false bytes
+pub run_goes_on : (bytes : List ℕ) → is_plain_reference_path false (after is_path_segment_byte bytes) ≡ is_plain_reference_path false bytes
 run_goes_on [] = refl
-run_goes_on (b ∷ bytes) = run_of b bytes (is_segment_byte b) refl (run_goes_on bytes)
+run_goes_on (b ∷ bytes) = run_of b bytes (is_path_segment_byte b) refl (run_goes_on bytes)
 
 head_of : (a b : ℕ) (xs ys : List ℕ) → a ∷ xs ≡ b ∷ ys → a ≡ b
 head_of a b xs ys e = cc
 
-end_of : (a : ℕ) (bytes : List ℕ) (b : ℕ) (later : List ℕ) (is_segment : Bool) → is_segment_byte a ≡ is_segment
-    → after is_segment_byte (a ∷ bytes) ≡ b ∷ later → (after is_segment_byte bytes ≡ b ∷ later → is_segment_byte b ≡ false) → is_segment_byte b ≡ false
-end_of a bytes b later true here e before = before (sym (one_goes_on is_segment_byte a bytes here) ∙ e)
-end_of a bytes b later false here e before = rw (sym (head_of a b bytes later (sym (one_stops is_segment_byte a bytes here) ∙ e))) here
+end_of : (a : ℕ) (bytes : List ℕ) (b : ℕ) (later : List ℕ) (is_segment : Bool) → is_path_segment_byte a ≡ is_segment
+    → after is_path_segment_byte (a ∷ bytes) ≡ b ∷ later → (after is_path_segment_byte bytes ≡ b ∷ later → is_path_segment_byte b ≡ false) → is_path_segment_byte b ≡ false
+end_of a bytes b later true here e before = before (sym (one_goes_on is_path_segment_byte a bytes here) ∙ e)
+end_of a bytes b later false here e before = rw (sym (head_of a b bytes later (sym (one_stops is_path_segment_byte a bytes here) ∙ e))) here
 
 -- a run ends before a byte of another kind
-pub end_stops : (bytes : List ℕ) (b : ℕ) (later : List ℕ) → after is_segment_byte bytes ≡ b ∷ later → is_segment_byte b ≡ false
+pub end_stops : (bytes : List ℕ) (b : ℕ) (later : List ℕ) → after is_path_segment_byte bytes ≡ b ∷ later → is_path_segment_byte b ≡ false
 end_stops [] b later e = absurd (cc)
-end_stops (a ∷ bytes) b later e = end_of a bytes b later (is_segment_byte a) refl e (λ f. end_stops bytes b later f)
+end_stops (a ∷ bytes) b later e = end_of a bytes b later (is_path_segment_byte a) refl e (λ f. end_stops bytes b later f)
 
 -- ---- what stands after a run decides
 
-after_run : (bytes rest : List ℕ) → after is_segment_byte bytes ≡ rest → are_plain false bytes ≡ are_plain false rest
-after_run bytes rest e = sym (run_goes_on bytes) ∙ ap (λ r. are_plain false r) e
+after_run : (bytes rest : List ℕ) → after is_path_segment_byte bytes ≡ rest → is_plain_reference_path false bytes ≡ is_plain_reference_path false rest
+after_run bytes rest e = sym (run_goes_on bytes) ∙ ap (λ r. is_plain_reference_path false r) e
 
 none_of : (bytes : List ℕ) → length bytes ≡ 0 → bytes ≡ []
 none_of [] e = refl
 none_of (b ∷ bytes) e = absurd (omega (arith, e))
 
-pub nothing_left : (bytes rest : List ℕ) → after is_segment_byte bytes ≡ rest → length rest ≡ 0 → true ≡ are_plain false bytes
+pub nothing_left : (bytes rest : List ℕ) → after is_path_segment_byte bytes ≡ rest → length rest ≡ 0 → true ≡ is_plain_reference_path false bytes
 nothing_left bytes rest e none = sym (after_run bytes [] (e ∙ none_of rest none))
 
-pub query_leads : (bytes : List ℕ) (b : ℕ) (later : List ℕ) → after is_segment_byte bytes ≡ b ∷ later → b ≡ 63
-    → list_all is_query_byte later ≡ are_plain false bytes
+pub query_leads : (bytes : List ℕ) (b : ℕ) (later : List ℕ) → after is_path_segment_byte bytes ≡ b ∷ later → b ≡ 63
+    → list_all is_reference_query_byte later ≡ is_plain_reference_path false bytes
 query_leads bytes b later e question = grind (arith, after_run)
 
-pub slash_leads : (bytes : List ℕ) (b : ℕ) (later : List ℕ) → after is_segment_byte bytes ≡ b ∷ later → b ≡ 47 → (slice_index later 0 == 46) ≡ false
-    → are_plain false later ≡ are_plain false bytes
+pub slash_leads : (bytes : List ℕ) (b : ℕ) (later : List ℕ) → after is_path_segment_byte bytes ≡ b ∷ later → b ≡ 47 → (slice_index later 0 == 46) ≡ false
+    → is_plain_reference_path false later ≡ is_plain_reference_path false bytes
 slash_leads bytes b later e slash dotless = sym (after_run bytes (b ∷ later) e ∙ slash_goes_on b later slash dotless)
 
-pub dot_ends : (bytes : List ℕ) (b : ℕ) (later : List ℕ) → after is_segment_byte bytes ≡ b ∷ later → b ≡ 47 → (slice_index later 0 == 46) ≡ true
-    → false ≡ are_plain false bytes
+pub dot_ends : (bytes : List ℕ) (b : ℕ) (later : List ℕ) → after is_path_segment_byte bytes ≡ b ∷ later → b ≡ 47 → (slice_index later 0 == 46) ≡ true
+    → false ≡ is_plain_reference_path false bytes
 dot_ends bytes b later e slash dot = sym (after_run bytes (b ∷ later) e ∙ dot_stops b later slash dot)
 
-pub other_ends : (bytes : List ℕ) (b : ℕ) (later : List ℕ) → after is_segment_byte bytes ≡ b ∷ later → ¬ (b ≡ 63) → ¬ (b ≡ 47)
-    → false ≡ are_plain false bytes
+pub other_ends : (bytes : List ℕ) (b : ℕ) (later : List ℕ) → after is_path_segment_byte bytes ≡ b ∷ later → ¬ (b ≡ 63) → ¬ (b ≡ 47)
+    → false ≡ is_plain_reference_path false bytes
 other_ends bytes b later e question slash = sym (after_run bytes (b ∷ later) e ∙ other_stops b later (end_stops bytes b later e) question slash)

@@ -6,9 +6,9 @@ ghost use Rattle.std.specs.Option.{option_copied};
 ghost use Rattle.url.specs.Parts.{IsValid};
 ghost use Rattle.playlist_model.specs.Uri.{can_be_written, resolved, base_of, is_web_scheme};
 ghost use Rattle.uri_resolver.specs.Refusals.{RefusesUri, RefusesBase};
-ghost use Rattle.uri_resolver.specs.Plain.{is_relative, is_rooted, StandsBefore};
+ghost use Rattle.uri_resolver.specs.Plain.{is_relative_reference, is_rooted_reference, StandsBefore};
 
-use crate::plain::{is_relative, is_rooted};
+use crate::plain::{is_relative_reference, is_rooted_reference};
 use playlist_model::{ShortText, has_control, has_quote, has_scheme};
 use std::alloc::{AllocError, Global};
 use std::marker::Model;
@@ -50,23 +50,23 @@ pub struct Base {
 impl Model for Base {
     ghost use Rattle.std.specs.Prelude.{IfSome, string_bytes};
     ghost use Rattle.url.specs.Parts.{Parts};
-    ghost use Rattle.uri_resolver.specs.Plain.{is_relative, is_rooted, StandsBefore};
+    ghost use Rattle.uri_resolver.specs.Plain.{is_relative_reference, is_rooted_reference, StandsBefore};
 
     ghost Value = { Parts };
 
     ghost view = { λ a. a.url };
 
-    ghost invariant = { λ a. IfSome a.origin (λ front. StandsBefore a.url is_rooted (string_bytes front)) × IfSome a.directory (λ front. StandsBefore a.url is_relative (string_bytes front)) };
+    ghost invariant = { λ a. IfSome a.origin (λ front. StandsBefore a.url is_rooted_reference (string_bytes front)) × IfSome a.directory (λ front. StandsBefore a.url is_relative_reference (string_bytes front)) };
 }
 
 // What stands before a plain reference from the root: all before the path of the base.
-fn origin_of(alloc: Global, url: &Url) -> Option<String>
+fn origin_of_base(alloc: Global, url: &Url) -> Option<String>
     requires web { is_web_scheme url.now.scheme ≡ true }
     requires valid { IsValid url.now }
-    ensures { IfSome result (λ front. StandsBefore url.now is_rooted (string_bytes front)) }
+    ensures { IfSome result (λ front. StandsBefore url.now is_rooted_reference (string_bytes front)) }
 {
     let front = url.slice(Position::BeforeScheme, Position::AfterPort);
-    if !can_be_written(front) {
+    if !resolved_uri_can_be_written(front) {
         return None;
     }
     match String::from_str(alloc, front) {
@@ -76,14 +76,14 @@ fn origin_of(alloc: Global, url: &Url) -> Option<String>
 }
 
 // What stands before a plain relative reference: where `.` leads.
-fn directory_of(url: &Url) -> Option<String>
+fn directory_of_base(url: &Url) -> Option<String>
     requires web { is_web_scheme url.now.scheme ≡ true }
     requires valid { IsValid url.now }
-    ensures { IfSome result (λ front. StandsBefore url.now is_relative (string_bytes front)) }
+    ensures { IfSome result (λ front. StandsBefore url.now is_relative_reference (string_bytes front)) }
 {
     match url.join(".") {
         Ok(here) => {
-            if can_be_written(here.as_str()) {
+            if resolved_uri_can_be_written(here.as_str()) {
                 Some(String::from(here))
             } else {
                 None
@@ -93,7 +93,7 @@ fn directory_of(url: &Url) -> Option<String>
     }
 }
 
-fn join_texts(alloc: Global, front: &str, reference: &str) -> Result<String, AllocError>
+fn join_reference(alloc: Global, front: &str, reference: &str) -> Result<String, AllocError>
     ensures { IfOk result (λ text. string_bytes text ≡ front.now ++ reference.now) }
 {
     let room = front.len().saturating_add(reference.len());
@@ -103,7 +103,7 @@ fn join_texts(alloc: Global, front: &str, reference: &str) -> Result<String, All
     Ok(text)
 }
 
-fn can_be_written(text: &str) -> bool
+fn resolved_uri_can_be_written(text: &str) -> bool
     ensures { result ≡ can_be_written text.now }
 {
     has_scheme(text) && !has_control(text) && !has_quote(text)
@@ -134,8 +134,8 @@ impl Base {
         if scheme != "http" && scheme != "https" {
             return Err(BaseFault::BadBase);
         }
-        let origin = origin_of(alloc, &url);
-        let directory = directory_of(&url);
+        let origin = origin_of_base(alloc, &url);
+        let directory = directory_of_base(&url);
         Ok(Base {
             url,
             alloc,
@@ -152,12 +152,12 @@ impl Base {
             (λ front. resolved self.now reference.now ≡ Some (front ++ reference.now)) }
     {
         if let Some(directory) = &self.directory {
-            if is_relative(reference) {
+            if is_relative_reference(reference) {
                 return Some(directory.as_str());
             }
         }
         if let Some(origin) = &self.origin {
-            if is_rooted(reference) {
+            if is_rooted_reference(reference) {
                 return Some(origin.as_str());
             }
         }
@@ -180,7 +180,7 @@ impl Base {
             Err(ParseError::OutOfMemory) => return Err(BaseFault::OutOfMemory),
             Err(_) => return Err(BaseFault::BadUri),
         };
-        if !can_be_written(url.as_str()) {
+        if !resolved_uri_can_be_written(url.as_str()) {
             return Err(BaseFault::BadUri);
         }
         Ok(String::from(url))
@@ -195,7 +195,7 @@ impl Base {
             (λ e. RefusesUri e (resolved self.now reference.now)) }
     {
         if let Some(front) = self.front_of(reference) {
-            return Ok(join_texts(self.alloc, front, reference)?);
+            return Ok(join_reference(self.alloc, front, reference)?);
         }
         self.resolve_other(reference)
     }

@@ -2,7 +2,7 @@
 
 ghost use Rattle.std.specs.Prelude.{◌≡◌, ◌==◌, true, false, slice_index, drop};
 ghost use Rattle.std.specs.List.{prefix_len, list_all};
-ghost use Rattle.uri_resolver.specs.Plain.{is_segment_byte, is_path_byte, is_query_byte, are_plain, begins_with_slash, is_relative, is_rooted};
+ghost use Rattle.uri_resolver.specs.Plain.{is_path_segment_byte, is_reference_path_byte, is_reference_query_byte, is_plain_reference_path, reference_begins_with_slash, is_relative_reference, is_rooted_reference};
 
 // Each byte that a plain segment holds stands at its own place, and a slash at every other place.
 static SEGMENT_BYTES: [u8; 256] = *b"\
@@ -15,40 +15,40 @@ static SEGMENT_BYTES: [u8; 256] = *b"\
     ////////////////////////////////\
     ////////////////////////////////";
 
-fn is_segment_byte(b: u8) -> bool
-    ensures { result ≡ is_segment_byte b }
+fn is_path_segment_byte(b: u8) -> bool
+    ensures { result ≡ is_path_segment_byte b }
 {
     SEGMENT_BYTES[b as usize] != b'/'
 }
 
-fn are_segment_bytes(four: &[u8; 4]) -> bool
-    ensures { result ≡ list_all is_segment_byte four.now }
+fn are_path_segment_bytes(four: &[u8; 4]) -> bool
+    ensures { result ≡ list_all is_path_segment_byte four.now }
 {
-    is_segment_byte(four[0])
-        && is_segment_byte(four[1])
-        && is_segment_byte(four[2])
-        && is_segment_byte(four[3])
+    is_path_segment_byte(four[0])
+        && is_path_segment_byte(four[1])
+        && is_path_segment_byte(four[2])
+        && is_path_segment_byte(four[3])
 }
 
-fn is_path_byte(b: u8) -> bool
-    ensures { result ≡ is_path_byte b }
+fn is_reference_path_byte(b: u8) -> bool
+    ensures { result ≡ is_reference_path_byte b }
 {
-    is_segment_byte(b) || b == b'/'
+    is_path_segment_byte(b) || b == b'/'
 }
 
-fn is_query_byte(b: u8) -> bool
-    ensures { result ≡ is_query_byte b }
+fn is_reference_query_byte(b: u8) -> bool
+    ensures { result ≡ is_reference_query_byte b }
 {
-    (is_path_byte(b) && b != b'\'') || b == b'%' || b == b':' || b == b'?'
+    (is_reference_path_byte(b) && b != b'\'') || b == b'%' || b == b':' || b == b'?'
 }
 
-fn is_query(bytes: &[u8]) -> bool
-    ensures { result ≡ list_all is_query_byte bytes.now }
+fn is_reference_query(bytes: &[u8]) -> bool
+    ensures { result ≡ list_all is_reference_query_byte bytes.now }
 {
-    bytes.iter().all(|b| is_query_byte(*b))
+    bytes.iter().all(|b| is_reference_query_byte(*b))
 }
 
-fn begins_with_dot(bytes: &[u8]) -> bool
+fn reference_begins_with_dot(bytes: &[u8]) -> bool
     ensures { result ≡ (slice_index bytes.now 0 == 46) }
 {
     match bytes.first() {
@@ -59,18 +59,18 @@ fn begins_with_dot(bytes: &[u8]) -> bool
 
 // What is left after the bytes of a segment. They are taken four at a time, since there are many.
 #[inline(never)]
-fn after_segment(bytes: &[u8]) -> &[u8]
-    ensures { result.now ≡ drop (prefix_len is_segment_byte bytes.now) bytes.now }
+fn after_path_segment(bytes: &[u8]) -> &[u8]
+    ensures { result.now ≡ drop (prefix_len is_path_segment_byte bytes.now) bytes.now }
 {
     let mut rest = bytes;
     while let Some((four, later)) = rest.split_first_chunk::<4>() {
-        if !are_segment_bytes(four) {
+        if !are_path_segment_bytes(four) {
             break;
         }
         rest = later;
     }
     while let Some((byte, later)) = rest.split_first() {
-        if !is_segment_byte(*byte) {
+        if !is_path_segment_byte(*byte) {
             break;
         }
         rest = later;
@@ -79,15 +79,15 @@ fn after_segment(bytes: &[u8]) -> &[u8]
 }
 
 // Whether this goes on a plain path within a segment, up to a query.
-fn go_on_plain(bytes: &[u8]) -> bool
-    ensures { result ≡ are_plain false bytes.now }
+fn reference_goes_on_plain(bytes: &[u8]) -> bool
+    ensures { result ≡ is_plain_reference_path false bytes.now }
 {
     let mut rest = bytes;
-    while let Some((byte, later)) = after_segment(rest).split_first() {
+    while let Some((byte, later)) = after_path_segment(rest).split_first() {
         if *byte == b'?' {
-            return is_query(later);
+            return is_reference_query(later);
         }
-        if *byte != b'/' || begins_with_dot(later) {
+        if *byte != b'/' || reference_begins_with_dot(later) {
             return false;
         }
         rest = later;
@@ -97,14 +97,14 @@ fn go_on_plain(bytes: &[u8]) -> bool
 
 #[tactic(auto, using(crate::proofs::SegmentBytes::front_has_no_dot))]
 // Whether this is a plain path, up to a query.
-fn are_plain(bytes: &[u8]) -> bool
-    ensures { result ≡ are_plain true bytes.now }
+fn is_plain_reference_path(bytes: &[u8]) -> bool
+    ensures { result ≡ is_plain_reference_path true bytes.now }
 {
-    !begins_with_dot(bytes) && go_on_plain(bytes)
+    !reference_begins_with_dot(bytes) && reference_goes_on_plain(bytes)
 }
 
-fn begins_with_slash(bytes: &[u8]) -> bool
-    ensures { result ≡ begins_with_slash bytes.now }
+fn reference_begins_with_slash(bytes: &[u8]) -> bool
+    ensures { result ≡ reference_begins_with_slash bytes.now }
 {
     match bytes.first() {
         Some(first) => *first == b'/',
@@ -114,23 +114,25 @@ fn begins_with_slash(bytes: &[u8]) -> bool
 
 /// Whether `reference` is a plain path from the directory of the base on: then its join to the base is that directory
 /// with `reference` after it (RFC 3986, section 5).
-pub fn is_relative(reference: &str) -> bool
-    ensures { result ≡ is_relative reference.now }
+pub fn is_relative_reference(reference: &str) -> bool
+    ensures { result ≡ is_relative_reference reference.now }
 {
     let bytes = reference.as_bytes();
     match bytes.first() {
-        Some(first) => *first != b'/' && *first != b'?' && are_plain(bytes),
+        Some(first) => *first != b'/' && *first != b'?' && is_plain_reference_path(bytes),
         None => false,
     }
 }
 
 /// Whether `reference` is a plain path from the root on: then its join to the base is the base's origin with
 /// `reference` after it (RFC 3986, section 5).
-pub fn is_rooted(reference: &str) -> bool
-    ensures { result ≡ is_rooted reference.now }
+pub fn is_rooted_reference(reference: &str) -> bool
+    ensures { result ≡ is_rooted_reference reference.now }
 {
     match reference.as_bytes().split_first() {
-        Some((first, rest)) => *first == b'/' && !begins_with_slash(rest) && are_plain(rest),
+        Some((first, rest)) => *first == b'/'
+            && !reference_begins_with_slash(rest)
+            && is_plain_reference_path(rest),
         None => false,
     }
 }

@@ -13,7 +13,7 @@ use Rattle.channel_spec.specs.Live.{Event, Told, told, refusal, after_refresh, l
 use Rattle.owed_is_denoted.specs.Owed.{owed_text}
 use Rattle.live_channel.specs.Channel as channel
 use Rattle.live_channel.specs.Channel.{Channel, readable, refreshed, told_by, WritesOwed}
-use Rattle.live_channel.proofs.Steps.{channel_writes}
+use Rattle.live_channel.proofs.Steps.{live_writes}
 use Rattle.channel_spec.specs.Limits.{default_tolerance}
 use Rattle.vod_run.specs.declared.fault.VodFault.{VodFault}
 use Rattle.vod_run.specs.declared.fault.VodFault.TheVariants.{BadBase, Decision, Playlist as PlaylistOf, NumberRange, Read, TooManyReads, Write, OutOfMemory}
@@ -74,7 +74,7 @@ module _ (base : List ℕ) (file : Option (List ℕ)) (c : Channel) (d : IsGiven
       last_is = ap (λ o. last_playlist (cond (is_none o) (after_refresh default_tolerance (told default_tolerance events) p) (told default_tolerance events)).accepted) accepted.judged
 
       owes : (unwrap_or then.text [] ≡ owed_text (told_with events p) p) × ((other : Parts) → Denotes other (owed_text (told_with events p) p) (owed_for (told_with events p) p))
-      owes = owed_so (told_with events p) p then.text last_is (subst (λ t. WritesOwed t then.text) told_then (channel_writes then (refreshed input ∷ given_by file) r.stands))
+      owes = owed_so (told_with events p) p then.text last_is (subst (λ t. WritesOwed t then.text) told_then (live_writes then (refreshed input ∷ given_by file) r.stands))
 
       wrote : (sink_old sink_new : SinkStand) → TookAll sink_old sink_new (unwrap_or then.text []) → Writes base file old new sink_old sink_new
       unfolding accepted judged

@@ -30,11 +30,11 @@ pub record Succeeds (base : List ℕ) (file : Option (List ℕ)) (source_old sou
   pub sink : IsFairToSink {A = Unit {0}} Write (Ok tt) sink_old sink_new
 
 -- what is printed of a fault
-abbrev pub fault_line : VodFault → List ℕ
-fault_line e = vod_fault_text e ++ codes "\n"
+abbrev pub vod_fault_line : VodFault → List ℕ
+vod_fault_line e = vod_fault_text e ++ codes "\n"
 
 -- `vod` had a fault, and its line was printed
 pub record FailsAndPrints (base : List ℕ) (file : Option (List ℕ)) (source_old source_new : SourceStand) (sink_old sink_new faults_old faults_new : SinkStand) : Type 0 where
   pub fault : VodFault
   pub failed : VodFailed fault base file source_old source_new sink_old sink_new
-  pub printed : WasHanded faults_old faults_new (fault_line fault)
+  pub printed : WasHanded faults_old faults_new (vod_fault_line fault)

@@ -5,7 +5,7 @@ ghost use Rattle.pod_store.specs.declared.fault.DecisionFault.{DecisionFault};
 ghost use Rattle.vod_run.specs.Events.{events_of};
 ghost use Rattle.playlist_model.specs.Uri.{base_of};
 ghost use Rattle.byte_streams.specs.Stands.{WasHanded};
-ghost use Rattle.vod_run.specs.Printed.{fault_line, Succeeds, FailsAndPrints};
+ghost use Rattle.vod_run.specs.Printed.{vod_fault_line, Succeeds, FailsAndPrints};
 
 use crate::fault::VodFault;
 use crate::run::vod;
@@ -19,8 +19,8 @@ use std::mem::forget;
 const LINE_ROOM: usize = 95;
 
 // A fault's line. It lies in the value itself, since there may be no memory left for it.
-fn fault_line(fault: VodFault) -> ArrayString<LINE_ROOM>
-    ensures { result.bytes ≡ fault_line fault }
+fn vod_fault_line(fault: VodFault) -> ArrayString<LINE_ROOM>
+    ensures { result.bytes ≡ vod_fault_line fault }
 {
     let mut line = ArrayString::<LINE_ROOM>::new();
     line.push_str(fault.text().as_str());
@@ -29,10 +29,10 @@ fn fault_line(fault: VodFault) -> ArrayString<LINE_ROOM>
 }
 
 // Writes a fault's line, as far as the sink takes it.
-fn print_fault<F: Sink>(fault: VodFault, faults: &mut F)
-    ensures { WasHanded (F.stand faults.old) (F.stand faults.new) (fault_line fault) }
+fn print_vod_fault<F: Sink>(fault: VodFault, faults: &mut F)
+    ensures { WasHanded (F.stand faults.old) (F.stand faults.new) (vod_fault_line fault) }
 {
-    let line = fault_line(fault);
+    let line = vod_fault_line(fault);
     let _ = hand_out(line.as_str().as_bytes(), faults);
 }
 
@@ -70,7 +70,7 @@ pub fn command_vod<S: Source, K: Sink, F: Sink>(
             0
         }
         Err(fault) => {
-            print_fault(fault, faults);
+            print_vod_fault(fault, faults);
             1
         }
     }

@@ -13,7 +13,7 @@ use std::alloc::Global;
 /// playlist may have: whether they are UTF-8 is judged first. `Read` if a read fails, `TooManyReads` if the 65,536th
 /// still gives bytes, `OutOfMemory` if an allocation fails. A read that fails is the last, and so is the one that
 /// says that `source` has ended. An empty input takes no memory.
-pub fn read_input<S: Source>(alloc: Global, source: &mut S) -> Result<Vec<u8>, VodFault>
+pub fn read_vod_input<S: Source>(alloc: Global, source: &mut S) -> Result<Vec<u8>, VodFault>
     ensures ok { IfOk result (λ input. GaveAll (S.stand source.old)
         (S.stand source.new) input.items) }
     ensures source { IsFairToSource VodFault.Read VodFault.TooManyReads result

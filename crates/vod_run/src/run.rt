@@ -14,7 +14,7 @@ ghost use Rattle.byte_streams.specs.Fair.{IsFairToSource, IsFairToSink, GaveAtEa
 ghost use Rattle.vod_run.specs.Runs.{OnEnd};
 
 use crate::fault::VodFault;
-use crate::input::read_input;
+use crate::input::read_vod_input;
 use byte_streams::{Sink, Source, hand_out};
 use channel_spec::DEFAULT_TOLERANCE;
 use fixed_duration::Nanos;
@@ -23,7 +23,7 @@ use std::alloc::Global;
 use std::hash::RandomState;
 
 // The channel of a base, which was given the decision file, if there is one.
-fn decided_channel(
+fn decided_vod_channel(
     alloc: Global,
     hashing: RandomState,
     base: &str,
@@ -43,7 +43,7 @@ fn decided_channel(
 
 // Gives a channel the input of a source, read to its end, as its one refresh: its memory is given back before the text is
 // written.
-fn refresh_from<S: Source>(
+fn refresh_vod_channel_from<S: Source>(
     alloc: Global,
     source: &mut S,
     channel: &mut Channel,
@@ -56,13 +56,13 @@ fn refresh_from<S: Source>(
         (S.stand source.old) (S.stand source.new) }
     ensures to_end { OnEnd result (GaveAtEachButLast (S.stand source.old) (S.stand source.new)) }
 {
-    let input = read_input(alloc, source)?;
+    let input = read_vod_input(alloc, source)?;
     channel.refresh_owned(alloc, input)?;
     Ok(())
 }
 
 // Hands out the text that a channel writes, if there is one.
-fn hand_text<K: Sink>(channel: &Channel, sink: &mut K) -> Result<(), VodFault>
+fn hand_out_vod_text<K: Sink>(channel: &Channel, sink: &mut K) -> Result<(), VodFault>
     ensures ok { OnOk result (TookAll (K.stand sink.old) (K.stand sink.new)
         (unwrap_or channel.now.text [])) }
     ensures err { OnErr result (FailedAfterFront (K.stand sink.old) (K.stand sink.new)
@@ -126,8 +126,8 @@ pub fn vod<S: Source, K: Sink>(
     ensures to_end { OnEnd result (GaveAtEachButLast (S.stand source.old) (S.stand source.new)) }
     ensures sink { IsFairToSink VodFault.Write result (K.stand sink.old) (K.stand sink.new) }
 {
-    let mut channel = decided_channel(alloc, hashing, base, decisions)?;
-    refresh_from(alloc, source, &mut channel)?;
-    hand_text(&channel, sink)?;
+    let mut channel = decided_vod_channel(alloc, hashing, base, decisions)?;
+    refresh_vod_channel_from(alloc, source, &mut channel)?;
+    hand_out_vod_text(&channel, sink)?;
     Ok(channel)
 }

@@ -7,8 +7,8 @@ use Rattle.break_finder.specs.declared.described.Described.{Described}
 use Rattle.break_finder.specs.declared.signal.Signal.TheVariants.{Nothing, Leaves, Returns}
 use Rattle.break_finder.specs.declared.why.Why.{Why}
 use Rattle.break_finder.specs.declared.why.Why.TheVariants.{Filled, NotKnown, NoStart, NotSignalled, NotDecided, DoesNotFit, Waiting}
-use Rattle.break_finder.specs.Signals.{signal_of, ticks_nanos}
-use Rattle.break_finder.specs.Breaks.{Break, End, at, closed, and_tag, end_of, is_before_end, is_not_past, is_near, is_signalled}
+use Rattle.break_finder.specs.Signals.{break_signal_of_text, break_ticks_nanos}
+use Rattle.break_finder.specs.Breaks.{Break, End, at, closed, described_break_and_tag, break_end_of, is_before_break_end, is_not_past_break_end, is_near_break_start, is_signalled}
 use Rattle.break_finder.specs.Known.{Accepted, known}
 use Rattle.break_finder.specs.Entering.{EntryLimits, entered, is_inside, why}
 use Rattle.pod_store.specs.Marks.{mark_in}
@@ -17,7 +17,7 @@ use Rattle.worked_examples.specs.Tables.{HasValues}
 
 -- SCTE 35, 9.7.3: an uncancelled splice_insert leaves the network or returns to it; no other command signals a break
 abbrev pub SignalsAreRead : Type 0
-SignalsAreRead = HasValues signal_of (
+SignalsAreRead = HasValues break_signal_of_text (
     (codes "0xFC302000000000000000FFF00F05000000017FFFFE002932E000010000000000000000", Leaves (Some 2700000))
     ∷ (codes "0xFC30280000000000030412301405480000017F6FFF000000057E00015F90010203040002AABBCC01020304", Returns (Some 90000))
     ∷ (codes "0xFC302400000000000000FFF01305000000027F8F0207FE00000009087F00000000000000000000", Leaves None)
@@ -31,7 +31,7 @@ SignalsAreRead = HasValues signal_of (
 
 -- 9.8.2: ticks of 90 kHz
 abbrev pub TicksAreCounted : Type 0
-TicksAreCounted = HasValues ticks_nanos ((0, 0) ∷ (1, 11111) ∷ (90000, 1000000000) ∷ (2700000, 30000000000) ∷ (8589934591, 95443717677777) ∷ [])
+TicksAreCounted = HasValues break_ticks_nanos ((0, 0) ∷ (1, 11111) ∷ (90000, 1000000000) ∷ (2700000, 30000000000) ∷ (8589934591, 95443717677777) ∷ [])
 
 abbrev pub nothing_said : Described
 nothing_said = record { start = None; end = None; duration = None; planned_duration = None; scte35_out = None; scte35_in = None }
@@ -44,14 +44,14 @@ later_tag = record { id = codes "b"; start = Some (pos 11); end = Some (pos 12);
 
 -- RFC 8216, 4.3.2.7: tags of one ID are of one date range, whose attributes say the same; the first value of each one stands
 abbrev pub FirstValuesStand : Type 0
-FirstValuesStand = HasValues (λ said. and_tag said later_tag) (
+FirstValuesStand = HasValues (λ said. described_break_and_tag said later_tag) (
     (said_first, said_first)
     ∷ (nothing_said, record { start = Some (pos 11); end = Some (pos 12); duration = Some 13; planned_duration = Some 14; scte35_out = Some Nothing; scte35_in = Some (Returns None) })
     ∷ (record said_first { scte35_in = Some (Leaves None) }, record said_first { scte35_in = Some (Leaves None) })
     ∷ (record nothing_said { duration = Some 3 }, record { start = Some (pos 11); end = Some (pos 12); duration = Some 3; planned_duration = Some 14; scte35_out = Some Nothing; scte35_in = Some (Returns None) }) ∷ [])
 
 abbrev pub ends : Described → Option End
-ends said = end_of said 50
+ends said = break_end_of said 50
 
 abbrev pub starting : Described
 starting = record nothing_said { start = Some (pos 100); scte35_out = Some (Leaves None) }
@@ -92,20 +92,20 @@ BreaksAreSignalled = HasValues is_signalled (
 
 -- the tolerance at a start, here 10 ns: on both sides, and as far as it goes
 abbrev pub StartsAreNear : Type 0
-StartsAreNear = HasValues (λ instant. is_near instant 10 (Some (pos 100))) (
+StartsAreNear = HasValues (λ instant. is_near_break_start instant 10 (Some (pos 100))) (
     (pos 89, false) ∷ (pos 90, true) ∷ (pos 100, true) ∷ (pos 110, true) ∷ (pos 111, false) ∷ [])
 
 -- nothing is near a start that isn't stated
 abbrev pub StartsAreStated : Type 0
-StartsAreStated = HasValues (is_near (pos 0) 10) ((Some (pos 0), true) ∷ (None, false) ∷ [])
+StartsAreStated = HasValues (is_near_break_start (pos 0) 10) ((Some (pos 0), true) ∷ (None, false) ∷ [])
 
 -- and at an end: a segment that begins less than the tolerance before it is past it
 abbrev pub EndsAreNear : Type 0
-EndsAreNear = HasValues (λ instant. is_before_end instant 10 (Some (at (pos 100)))) ((pos 89, true) ∷ (pos 90, false) ∷ (pos 100, false) ∷ [])
+EndsAreNear = HasValues (λ instant. is_before_break_end instant 10 (Some (at (pos 100)))) ((pos 89, true) ∷ (pos 90, false) ∷ (pos 100, false) ∷ [])
 
 -- at 89, with a tolerance of 10: whether a segment is inside, and whether it can enter
 abbrev pub before_end_and_not_past : Option End → Bool × Bool
-before_end_and_not_past end = (is_before_end (pos 89) 10 end, is_not_past (pos 89) 10 end)
+before_end_and_not_past end = (is_before_break_end (pos 89) 10 end, is_not_past_break_end (pos 89) 10 end)
 
 -- no segment is inside a break that is closed, or has no end; but such a break can be entered
 abbrev pub ClosedBreaksCanBeEntered : Type 0

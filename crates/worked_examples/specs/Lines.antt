@@ -79,7 +79,8 @@ JoinsCanBeWritten = HasValues can_be_written (
     ∷ (codes "http://h/" ++ (9 ∷ []), false)
     ∷ (long 98 ++ codes ":a", true)
     ∷ (codes "http://h/" ++ long 34, false)
-    ∷ (codes "http://h/" ++ long 9, false) ∷ [])
+    ∷ (codes "http://h/" ++ long 9, false)
+    ∷ (codes "http://h/" ++ (255 ∷ []), false) ∷ [])
 
 -- 4.3.1.2, where versions 1 to 7 are described (7)
 abbrev pub VersionsAreRead : Type 0

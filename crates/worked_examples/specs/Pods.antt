@@ -14,7 +14,7 @@ use Rattle.pod_store.specs.Outcome.{DecisionOutcome, no_memory}
 use Rattle.pod_store.specs.Pods.{PodSegment, Ad, Pod, Decision, is_id, is_uri, is_key_method, is_format, pod_fits, total}
 use Rattle.pod_store.specs.Rules.{ads_keep}
 use Rattle.pod_store.specs.Store.{Entry, Store, nothing_decided, decided, pod_for, has_fitting_pod, kept_in_use}
-use Rattle.decision_files.specs.Decided.{decisions_of, json_of, next_ad, segments_said}
+use Rattle.decision_files.specs.Decided.{decisions_of, json_of_decision_file, next_ad, segments_said_by_decision_file}
 use Rattle.worked_examples.specs.Tables.{HasValues}
 
 -- ---- where a fault is
@@ -414,14 +414,14 @@ AdsAreChecked = HasValues (λ (text : List ℕ). decisions_of (with_ad text)) (
 
 -- the segments of an ad, if so many stand in the ads before (J7)
 abbrev pub said_after : ℕ → DecisionOutcome (List PodSegment)
-said_after before = json_of (codes "{\"segments\":[{\"uri\":\"http://a/s\",\"duration\":\"0.000000001\",\"offset\":5,\"length\":100}]}") >>= segments_said (in_ad 0 1) before
+said_after before = json_of_decision_file (codes "{\"segments\":[{\"uri\":\"http://a/s\",\"duration\":\"0.000000001\",\"offset\":5,\"length\":100}]}") >>= segments_said_by_decision_file (in_ad 0 1) before
 
 abbrev pub SegmentsAreCounted : Type 0
 SegmentsAreCounted = HasValues said_after ((most_of_a_pod - 1, Ok (segment 1 ∷ [])) ∷ (most_of_a_pod, Err (fault_at (in_segment 0 1 0) fault.TooMany)) ∷ [])
 
 -- an ad of two segments after these ads
 abbrev pub said_after_ads : List Ad → DecisionOutcome Ad
-said_after_ads done = json_of (codes "{\"segments\":[{\"uri\":\"http://a/s\",\"duration\":\"0.000000001\",\"offset\":5,\"length\":100},{\"uri\":\"http://a/s\",\"duration\":\"0.000000002\",\"offset\":5,\"length\":100}]}") >>= next_ad (in_break 7) done
+said_after_ads done = json_of_decision_file (codes "{\"segments\":[{\"uri\":\"http://a/s\",\"duration\":\"0.000000001\",\"offset\":5,\"length\":100},{\"uri\":\"http://a/s\",\"duration\":\"0.000000002\",\"offset\":5,\"length\":100}]}") >>= next_ad (in_break 7) done
 
 abbrev pub AdsAreCounted : Type 0
 AdsAreCounted = HasValues said_after_ads (
@@ -433,7 +433,7 @@ AdsAreCounted = HasValues said_after_ads (
 
 -- five segments after these
 abbrev pub said_five_after : ℕ → DecisionOutcome (List PodSegment)
-said_five_after before = json_of (codes "{\"segments\":[{\"uri\":\"http://a/s\",\"duration\":\"0.000000001\",\"offset\":5,\"length\":100},{\"uri\":\"http://a/s\",\"duration\":\"0.000000002\",\"offset\":5,\"length\":100},{\"uri\":\"http://a/s\",\"duration\":\"0.000000003\",\"offset\":5,\"length\":100},{\"uri\":\"http://a/s\",\"duration\":\"0.000000004\",\"offset\":5,\"length\":100},{\"uri\":\"http://a/s\",\"duration\":\"0.000000005\",\"offset\":5,\"length\":100}]}") >>= segments_said (in_ad 0 1) before
+said_five_after before = json_of_decision_file (codes "{\"segments\":[{\"uri\":\"http://a/s\",\"duration\":\"0.000000001\",\"offset\":5,\"length\":100},{\"uri\":\"http://a/s\",\"duration\":\"0.000000002\",\"offset\":5,\"length\":100},{\"uri\":\"http://a/s\",\"duration\":\"0.000000003\",\"offset\":5,\"length\":100},{\"uri\":\"http://a/s\",\"duration\":\"0.000000004\",\"offset\":5,\"length\":100},{\"uri\":\"http://a/s\",\"duration\":\"0.000000005\",\"offset\":5,\"length\":100}]}") >>= segments_said_by_decision_file (in_ad 0 1) before
 
 abbrev pub ManySegmentsAreCounted : Type 0
 ManySegmentsAreCounted = HasValues said_five_after (

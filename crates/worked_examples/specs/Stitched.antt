@@ -9,7 +9,7 @@ use Rattle.pod_store.specs.Marks.{Mark, Marked, mark_in}
 use Rattle.stitcher.specs.Stitched.{Piece, Item, pod_pieces, can_be_numbered}
 use Rattle.stitcher.specs.Paced.{due, due_list, rest_pieces}
 use Rattle.stitcher.specs.Written.{written_item}
-use Rattle.stitcher.specs.Making.{is_same_run}
+use Rattle.stitcher.specs.Making.{is_same_stitched_run}
 use Rattle.stitcher.specs.KeyTags.{transition}
 use Rattle.worked_examples.specs.Pods as pods
 use Rattle.worked_examples.specs.Tables.{HasValues}
@@ -110,7 +110,7 @@ c = break (codes "c") (((2000, 10) ∷ []) ∷ ((2001, 10) ∷ []) ∷ [])
 
 -- a segment goes on the run of the one before it if both have a mark, of one break
 abbrev pub RunsGoOn : Type 0
-RunsGoOn = HasValues (λ (marks : Option (List ℕ) × Option (List ℕ)). is_same_run marks.0 marks.1) (
+RunsGoOn = HasValues (λ (marks : Option (List ℕ) × Option (List ℕ)). is_same_stitched_run marks.0 marks.1) (
     ((Some (codes "b"), Some (codes "b")), true)
     ∷ ((Some (codes "b"), Some (codes "c")), false)
     ∷ ((Some (codes "b"), None), false)

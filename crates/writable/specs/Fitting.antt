@@ -8,7 +8,7 @@ use Rattle.playlist_model.specs.Uri.{has_scheme}
 use Rattle.playlist_model.specs.Carried.{are_others}
 use Rattle.playlist_model.specs.LookBack.{are_sorted}
 use Rattle.playlist_model.specs.Said.{Said, date_range, Outcome, byte_range_end_fits, date_range_said}
-use Rattle.playlist_model.specs.Reading.{limited, needs_iv}
+use Rattle.playlist_model.specs.Reading.{limited, key_needs_iv}
 use Rattle.playlist_model.specs.declared.Key.{Key}
 use Rattle.playlist_model.specs.declared.ByteRange.{ByteRange}
 use Rattle.playlist_model.specs.declared.InitSection.{InitSection}
@@ -47,37 +47,37 @@ duration_fits nanos = nat_lt nanos (10 ^ 15)
 
 -- ---- keys (4.3.2.4)
 
-abbrev pub iv_fits : ℕ → Bool
-iv_fits iv = nat_lt iv (2 ^ 128)
+abbrev pub iv_is_writable : ℕ → Bool
+iv_is_writable iv = nat_lt iv (2 ^ 128)
 
 abbrev pub method_fits : List ℕ → Bool
 method_fits method = value_fits false method && not (bytes_eq method (codes "NONE"))
 
 -- attributes without a meaning of their own, each after a comma
-abbrev pub others_fit : List ℕ → Bool
-others_fit text = is_clean text && are_others text
+abbrev pub other_attributes_are_writable : List ℕ → Bool
+other_attributes_are_writable text = is_clean text && are_others text
 
-abbrev pub key_fits : Key → Bool
-key_fits k =
-    value_fits true k.format && method_fits k.method && quoted_uri_fits k.uri && if_some iv_fits k.iv
-    && others_fit k.other_attributes
+abbrev pub key_is_writable : Key → Bool
+key_is_writable k =
+    value_fits true k.format && method_fits k.method && quoted_uri_fits k.uri && if_some iv_is_writable k.iv
+    && other_attributes_are_writable k.other_attributes
 
 -- sorted by format, with one key for each
-abbrev pub keys_fit : List Key → Bool
-keys_fit keys = list_all key_fits keys && are_sorted keys
+abbrev pub keys_are_writable : List Key → Bool
+keys_are_writable keys = list_all key_is_writable keys && are_sorted keys
 
 -- a segment's keys are those that take effect, so that of the format `identity` has an IV (5.2)
-abbrev pub states_iv : Key → Bool
-states_iv k = not (bytes_eq k.format (codes "identity") && is_none k.iv)
+abbrev pub writable_key_states_iv : Key → Bool
+writable_key_states_iv k = not (bytes_eq k.format (codes "identity") && is_none k.iv)
 
 abbrev pub effective_keys_fit : List Key → Bool
-effective_keys_fit keys = keys_fit keys && list_all states_iv keys
+effective_keys_fit keys = keys_are_writable keys && list_all writable_key_states_iv keys
 
 -- ---- initialisation sections (4.3.2.5)
 
 abbrev pub init_section_fits : InitSection → Bool
 init_section_fits s =
-    quoted_uri_fits s.uri && if_some byte_range_fits s.byte_range && keys_fit s.keys && not (list_any needs_iv s.keys)
+    quoted_uri_fits s.uri && if_some byte_range_fits s.byte_range && keys_are_writable s.keys && not (list_any key_needs_iv s.keys)
 
 -- ---- date ranges (4.3.2.7)
 

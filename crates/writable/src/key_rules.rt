@@ -1,8 +1,8 @@
 //! Which keys and initialisation sections can be written (RFC 8216, sections 4.3.2.4 and 4.3.2.5).
 ghost use Rattle.std.specs.Prelude.{◌≡◌};
-ghost use Rattle.std.specs.List.{list_any, list_all};
+ghost use Rattle.std.specs.List.{list_all};
 ghost use Rattle.playlist_model.specs.LookBack.{is_before, are_sorted};
-ghost use Rattle.writable.specs.Fitting.{if_some, byte_range_fits, iv_fits, others_fit, method_fits, key_fits, keys_fit, states_iv, effective_keys_fit, init_section_fits};
+ghost use Rattle.writable.specs.Fitting.{if_some, byte_range_fits, iv_is_writable, other_attributes_are_writable, method_fits, key_is_writable, keys_are_writable, writable_key_states_iv, effective_keys_fit, init_section_fits};
 
 use crate::texts::{is_clean, quoted_uri_fits, value_fits};
 use playlist_model::{
@@ -20,8 +20,8 @@ pub fn byte_range_fits(byte_range: Option<ByteRange>) -> bool
 }
 
 // A key's other attributes are a list of such by their type.
-fn others_fit(others: &OtherAttributes) -> bool
-    ensures { result ≡ others_fit others.now }
+fn other_attributes_are_writable(others: &OtherAttributes) -> bool
+    ensures { result ≡ other_attributes_are_writable others.now }
 {
     is_clean(others.as_str())
 }
@@ -35,8 +35,8 @@ pub fn method_fits(method: &str) -> bool
 }
 
 // An IV is a number of 128 bits by its type.
-fn iv_fits(iv: Option<u128>) -> bool
-    ensures { result ≡ if_some iv_fits iv }
+fn iv_is_writable(iv: Option<u128>) -> bool
+    ensures { result ≡ if_some iv_is_writable iv }
 {
     match iv {
         Some(iv) => iv <= u128::MAX,
@@ -44,28 +44,28 @@ fn iv_fits(iv: Option<u128>) -> bool
     }
 }
 
-fn key_fits(key: &KeyRef<'_>) -> bool
-    ensures { result ≡ key_fits key.now }
+fn key_is_writable(key: &KeyRef<'_>) -> bool
+    ensures { result ≡ key_is_writable key.now }
 {
     value_fits(key.format(), true)
         && method_fits(key.method())
         && quoted_uri_fits(key.uri())
-        && iv_fits(key.iv())
-        && others_fit(key.other_attributes())
+        && iv_is_writable(key.iv())
+        && other_attributes_are_writable(key.other_attributes())
 }
 
-fn all_fit(keys: &KeysRef<'_>) -> bool
-    ensures { result ≡ list_all key_fits keys.now }
+fn all_keys_are_writable(keys: &KeysRef<'_>) -> bool
+    ensures { result ≡ list_all key_is_writable keys.now }
 {
     for key in keys.iter() {
-        if !key_fits(&key) {
+        if !key_is_writable(&key) {
             return false;
         }
     }
     true
 }
 
-fn stands_before(key: &KeyRef<'_>, later: KeysIter<'_>) -> bool
+fn writable_key_stands_before(key: &KeyRef<'_>, later: KeysIter<'_>) -> bool
     ensures { result ≡ list_all (is_before key.now) later.entry }
 {
     for other in later {
@@ -76,35 +76,35 @@ fn stands_before(key: &KeyRef<'_>, later: KeysIter<'_>) -> bool
     true
 }
 
-fn are_sorted(keys: &KeysRef<'_>) -> bool
+fn are_writable_keys_sorted(keys: &KeysRef<'_>) -> bool
     ensures { result ≡ are_sorted keys.now }
 {
     let mut later = keys.iter();
     while let Some(key) = later.next() {
-        if !stands_before(&key, later.rest()) {
+        if !writable_key_stands_before(&key, later.rest()) {
             return false;
         }
     }
     true
 }
 
-fn keys_fit(keys: &KeysRef<'_>) -> bool
-    ensures { result ≡ keys_fit keys.now }
+fn keys_are_writable(keys: &KeysRef<'_>) -> bool
+    ensures { result ≡ keys_are_writable keys.now }
 {
-    all_fit(keys) && are_sorted(keys)
+    all_keys_are_writable(keys) && are_writable_keys_sorted(keys)
 }
 
-fn states_iv(key: &KeyRef<'_>) -> bool
-    ensures { result ≡ states_iv key.now }
+fn writable_key_states_iv(key: &KeyRef<'_>) -> bool
+    ensures { result ≡ writable_key_states_iv key.now }
 {
     !(key.format() == "identity" && key.iv().is_none())
 }
 
-fn all_state_ivs(keys: &KeysRef<'_>) -> bool
-    ensures { result ≡ list_all states_iv keys.now }
+fn writable_keys_state_ivs(keys: &KeysRef<'_>) -> bool
+    ensures { result ≡ list_all writable_key_states_iv keys.now }
 {
     for key in keys.iter() {
-        if !states_iv(&key) {
+        if !writable_key_states_iv(&key) {
             return false;
         }
     }
@@ -116,7 +116,7 @@ fn all_state_ivs(keys: &KeysRef<'_>) -> bool
 pub fn effective_keys_fit(keys: &KeysRef<'_>) -> bool
     ensures { result ≡ effective_keys_fit keys.now }
 {
-    keys_fit(keys) && all_state_ivs(keys)
+    keys_are_writable(keys) && writable_keys_state_ivs(keys)
 }
 
 /// Whether `init_section` can be written (RFC 8216, section 4.3.2.5): its URI in quotes, its byte range and its keys, of
@@ -127,6 +127,6 @@ pub fn init_section_fits(init_section: &InitSection) -> bool
     let keys = init_section.keys.lent();
     quoted_uri_fits(init_section.uri.as_str())
         && byte_range_fits(init_section.byte_range)
-        && keys_fit(&keys)
+        && keys_are_writable(&keys)
         && !is_iv_needed(&keys)
 }

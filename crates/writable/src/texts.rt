@@ -1,7 +1,7 @@
 //! Which texts and durations can be written (RFC 8216, sections 4.2 and 4.3.2.1).
 ghost use Rattle.std.specs.Prelude.{◌≡◌, ◌==◌, true, false};
 ghost use Rattle.std.specs.List.{list_any, list_all};
-ghost use Rattle.attr_list.specs.Attributes.{is_name, is_name_byte, ends_plain, is_value};
+ghost use Rattle.attr_list.specs.Attributes.{is_name, is_attribute_name_byte, ends_plain, is_value};
 ghost use Rattle.writable.specs.Fitting.{is_clean, value_fits, uri_fits, quoted_uri_fits, duration_fits};
 
 use fixed_duration::Nanos;
@@ -14,8 +14,8 @@ pub fn is_clean(text: &str) -> bool
     !has_control(text)
 }
 
-fn are_name_bytes(text: &str) -> bool
-    ensures { result ≡ list_all is_name_byte text.now }
+fn are_writable_name_bytes(text: &str) -> bool
+    ensures { result ≡ list_all is_attribute_name_byte text.now }
 {
     text.as_bytes().iter().all(|b| b.is_ascii_uppercase() || b.is_ascii_digit() || *b == b'-')
 }
@@ -24,11 +24,11 @@ fn are_name_bytes(text: &str) -> bool
 pub fn is_name(text: &str) -> bool
     ensures { result ≡ is_name text.now }
 {
-    !text.is_empty() && are_name_bytes(text)
+    !text.is_empty() && are_writable_name_bytes(text)
 }
 
 // Whether a text holds what can't stand in a value without quotes.
-fn ends_plain(text: &str) -> bool
+fn ends_writable_plain_value(text: &str) -> bool
     ensures { result ≡ list_any ends_plain text.now }
 {
     text.as_bytes()
@@ -37,17 +37,17 @@ fn ends_plain(text: &str) -> bool
 }
 
 // Whether a text can stand between quotes.
-fn is_quotable(text: &str) -> bool
+fn is_writable_between_quotes(text: &str) -> bool
     ensures { result ≡ is_value true text.now }
 {
     !has_quote(text)
 }
 
 // Whether a text can stand without quotes.
-fn is_plain(text: &str) -> bool
+fn is_writable_without_quotes(text: &str) -> bool
     ensures { result ≡ is_value false text.now }
 {
-    !text.is_empty() && !ends_plain(text)
+    !text.is_empty() && !ends_writable_plain_value(text)
 }
 
 /// Whether `value` can be the value of an attribute (RFC 8216, section 4.2), in quotes if `quoted`, else without. It
@@ -61,9 +61,9 @@ pub fn value_fits(value: &str, quoted: bool) -> bool
     ensures { result ≡ value_fits quoted value.now }
 {
     let is_value = if quoted {
-        is_quotable(value)
+        is_writable_between_quotes(value)
     } else {
-        is_plain(value)
+        is_writable_without_quotes(value)
     };
     is_clean(value) && is_value
 }

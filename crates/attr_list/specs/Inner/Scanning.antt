@@ -7,9 +7,9 @@ use Rattle.attr_list.specs.declared.AttrFault.TheVariants.{BadName, NoEquals}
 use Rattle.attr_list.specs.Attributes.{Pair, is_comma, is_quote, is_name, is_value, is_pair, pair_spelling, piece_name, has_equals, value_spelling, pair_of_value}
 
 -- a pair may end before this text: it is empty or begins with a comma
-abbrev pub ends_pair : List ℕ → Bool
-ends_pair [] = true
-ends_pair (b ∷ bytes) = is_comma b
+abbrev pub ends_attribute_pair : List ℕ → Bool
+ends_attribute_pair [] = true
+ends_attribute_pair (b ∷ bytes) = is_comma b
 
 abbrev pub begins_quoted : List ℕ → Bool
 begins_quoted [] = false
@@ -28,7 +28,7 @@ name_fault piece =
 -- the text is a value's spelling and what follows it
 abbrev pub IsValued : List ℕ → Bool → List ℕ → List ℕ → Type 0
 IsValued text quoted value after =
-    IsTrue (is_value quoted value) × (text ≡ value_spelling quoted value ++ after) × IsTrue (ends_pair after)
+    IsTrue (is_value quoted value) × (text ≡ value_spelling quoted value ++ after) × IsTrue (ends_attribute_pair after)
 
 -- no value begins the text, and this is why
 abbrev pub HasValueFault : List ℕ → AttrFault → Type 0
@@ -38,4 +38,4 @@ HasValueFault text fault = (name : List ℕ) → pair_of_value name (first_piece
 pub record StartsWithPair (text : List ℕ) (pair : Pair) (after : List ℕ) : Type 0 where
   pub fits : IsTrue (is_pair pair)
   pub spelled : text ≡ pair_spelling pair ++ after
-  pub ended : IsTrue (ends_pair after)
+  pub ended : IsTrue (ends_attribute_pair after)

@@ -31,8 +31,8 @@ abbrev pub is_after : ℕ → Segment → Bool
 is_after number s = nat_lt number s.media_sequence
 
 -- the texts of the date ranges of other breaks than these
-abbrev pub texts_left : List (List ℕ) → List DateRange → List (List ℕ)
-texts_left ids date_ranges = map date_range_text (filter (λ (r : DateRange). not (is_one_of ids r.id)) date_ranges)
+abbrev pub date_range_texts_left_in_window : List (List ℕ) → List DateRange → List (List ℕ)
+date_range_texts_left_in_window ids date_ranges = map date_range_text (filter (λ (r : DateRange). not (is_one_of ids r.id)) date_ranges)
 
 -- each of these is one of those
 pub record AreAmong (some all : List (List ℕ)) : Type 0 where

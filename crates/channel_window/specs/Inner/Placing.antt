@@ -13,16 +13,16 @@ use Rattle.channel_window.specs.Inner.Listed.{IsFront}
 -- ---- where a window starts
 
 -- how many items stand for the rest of a pod
-abbrev pub rest_count : Store → Option Rest → ℕ
-rest_count store rest = length (rest_pieces (rest_in store rest))
+abbrev pub window_rest_count : Store → Option Rest → ℕ
+window_rest_count store rest = length (rest_pieces (rest_in store rest))
 
 -- wherever a window starts among these segments after this rest, its place can be told
 abbrev pub HasRoom : Store → Option Rest → List Held → Type 0
-HasRoom store rest list = (front : List Held) → IsFront front list → place_on store None 0 0 front + rest_count store rest < 2 ^ 64
+HasRoom store rest list = (front : List Held) → IsFront front list → place_on store None 0 0 front + window_rest_count store rest < 2 ^ 64
 
 -- all of them are among so many
 abbrev pub IsWithin : Store → Option Rest → List Held → ℕ → Type 0
-IsWithin store rest list most = (front : List Held) → IsFront front list → place_on store None 0 0 front + rest_count store rest ≤ most
+IsWithin store rest list most = (front : List Held) → IsFront front list → place_on store None 0 0 front + window_rest_count store rest ≤ most
 
 -- what a window that starts at this place has of the pod of the newest run of these segments, after so many items of a rest
 abbrev pub rest_of_newest_run : ℕ → ℕ → List Marked → Option PodRest

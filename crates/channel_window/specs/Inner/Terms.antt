@@ -13,31 +13,31 @@ use Rattle.channel_window.specs.declared.marking.Run.{Run}
 use Rattle.channel_window.specs.Marking.{stays, capped_in, length_before}
 
 -- a segment that begins at this instant stays in the break
-abbrev pub stays_in : Option Terms → Option ℤ → Bool
-stays_in None instant = false
-stays_in (Some terms) instant = stays_at terms.stay instant
+abbrev pub window_segment_stays_in : Option Terms → Option ℤ → Bool
+window_segment_stays_in None instant = false
+window_segment_stays_in (Some terms) instant = stays_at terms.stay instant
 
 -- as much of this length counts
-abbrev pub capped_at : Option Terms → ℕ → ℕ
-capped_at None length = 0
-capped_at (Some terms) length = min length terms.most
+abbrev pub window_run_length_capped_at : Option Terms → ℕ → ℕ
+window_run_length_capped_at None length = 0
+window_run_length_capped_at (Some terms) length = min length terms.most
 
 -- so it is for the run of a segment of this mark
 pub record AreTerms (m : Moment) (mark : Option (List ℕ)) (terms : Option Terms) : Type 0 where
-  pub stays : (instant : Option ℤ) → stays_in terms instant ≡ stays m mark instant
-  pub capped : (length : ℕ) → capped_at terms length ≡ capped_in m.store mark length
+  pub stays : (instant : Option ℤ) → window_segment_stays_in terms instant ≡ stays m mark instant
+  pub capped : (length : ℕ) → window_run_length_capped_at terms length ≡ capped_in m.store mark length
 
 -- an instant is one of these
-abbrev pub is_among : Option TimesWithin → Option ℤ → Bool
-is_among None instant = false
-is_among (Some times) None = false
-is_among (Some times) (Some instant) = is_within times.from times.to instant
+abbrev pub is_window_time_among : Option TimesWithin → Option ℤ → Bool
+is_window_time_among None instant = false
+is_window_time_among (Some times) None = false
+is_window_time_among (Some times) (Some instant) = is_within times.from times.to instant
 
 -- the terms are those of the run; its break, if any, is the last one entered; and no break is entered after that at the quiet instants
 pub record HasItsTerms (m : Moment) (run : Run) : Type 0 where
   pub terms : AreTerms m run.before run.terms
   pub entered : or_earlier run.before run.entered ≡ run.entered
-  pub quiet : (instant : Option ℤ) → is_among run.quiet instant ≡ true → entering.entered (limits m run.entered) m.store m.breaks instant ≡ None
+  pub quiet : (instant : Option ℤ) → is_window_time_among run.quiet instant ≡ true → entering.entered (limits m run.entered) m.store m.breaks instant ≡ None
 
 -- a run, with one segment more of this duration and this mark
 pub record IsExtended (store : Store) (duration : ℕ) (mark : Option (List ℕ)) (old new : Run) : Type 0 where

@@ -8,10 +8,10 @@ use Rattle.connections.specs.declared.devices.Passage.{Passage}
 use Rattle.connections.specs.declared.devices.Passage.TheVariants.{Bytes, WouldWait, HasFailed}
 
 -- it failed because it would wait
-abbrev pub would_wait : ErrorKind → Bool
-would_wait kind.WouldBlock = true
-would_wait _ = false
+abbrev pub device_would_wait : ErrorKind → Bool
+device_would_wait kind.WouldBlock = true
+device_would_wait _ = false
 
-abbrev pub passage_of : Result ℕ Error → Passage
-passage_of (Ok n) = Bytes n
-passage_of (Err e) = if would_wait (error_kind e) then WouldWait else HasFailed
+abbrev pub device_passage_of : Result ℕ Error → Passage
+device_passage_of (Ok n) = Bytes n
+device_passage_of (Err e) = if device_would_wait (error_kind e) then WouldWait else HasFailed

@@ -9,5 +9,5 @@ abbrev pub has_offset_form : List ℕ → Bool
 has_offset_form text = length text == 2 || length text == 4 || (length text == 5 && slice_index text 2 == colon)
 
 -- what stands after the hours and a colon
-abbrev pub minutes_of : List ℕ → List ℕ
-minutes_of text = if length text == 5 && slice_index text 2 == colon then drop 3 text else drop 2 text
+abbrev pub zone_offset_minutes : List ℕ → List ℕ
+zone_offset_minutes text = if length text == 5 && slice_index text 2 == colon then drop 3 text else drop 2 text

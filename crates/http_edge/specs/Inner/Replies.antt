@@ -7,7 +7,7 @@ use Rattle.channel_api.specs.Replies.{bad_base, bad_tolerance}
 
 -- ---- making a channel
 
-abbrev pub channel_fault_reply : ChannelFault → Reply
-channel_fault_reply made.BadBase = bad_base
-channel_fault_reply made.BadTolerance = bad_tolerance
-channel_fault_reply made.OutOfMemory = bare 503
+abbrev pub edge_reply_of_channel_fault : ChannelFault → Reply
+edge_reply_of_channel_fault made.BadBase = bad_base
+edge_reply_of_channel_fault made.BadTolerance = bad_tolerance
+edge_reply_of_channel_fault made.OutOfMemory = bare 503

@@ -21,11 +21,10 @@ use Rattle.owed_is_denoted.specs.Owed.{out_playlist}
 use Rattle.channel_spec.specs.declared.fault.RefreshFault.{RefreshFault}
 use Rattle.channel_spec.specs.declared.fault.RefreshFault.TheVariants.{OutOfMemory}
 use Rattle.playlist_model.specs.Reading.{reading, limited}
-use Rattle.read_is_writable.specs.Read.{uris_are_text}
 use Rattle.url.specs.Parts.{Parts}
 use Rattle.channel_spec.specs.Live.{date_range_text}
 use Rattle.channel_spec.specs.Live.{states_instant, in_use_with, date_ranges_left}
-use Rattle.channel_spec.specs.Successor.{heading_of, first_number}
+use Rattle.channel_spec.specs.Successor.{owed_heading_of, first_number}
 use Rattle.channel_spec.specs.Marking.{last_entered}
 use Rattle.channel_spec.specs.Kept.{Kept, kept_succession, shown_from, head_numbers, items_on, window_on, rest_after, kept_acceptance, kept_list, kept_length}
 use Rattle.live_channel.specs.declared.next.NextState.{NextState}
@@ -33,7 +32,7 @@ use Rattle.live_channel.specs.declared.next.NextWindow.{NextWindow}
 use Rattle.live_channel.specs.declared.next.ShownRefresh.{ShownRefresh}
 use Rattle.channel_window.specs.Marking.{history_in}
 use Rattle.channel_window.specs.Showing.{AreKept, IsLastEntered, kept_before, kept_in}
-use Rattle.channel_window.specs.Listed.{AreRising, IsRestDecided, RisesOn, segments_in}
+use Rattle.channel_window.specs.Listed.{AreRising, IsRestDecided, RisesOn, window_segments_in}
 use Rattle.channel_window.specs.ListEnd.{IsEndingOf, IsLastEnding}
 use Rattle.channel_window.specs.Checked.{AreContiguous, AreTaken}
 use Rattle.playlist_kept.specs.Kept.{playlist_in}
@@ -127,7 +126,6 @@ RisesNext state p = kept_succession (kept_in state) p ≡ None → RisesOn state
 -- the bytes are read as this playlist
 pub record BytesAreReadAs (base : Parts) (bytes : List ℕ) (p : Playlist) : Type 0 where
   pub read : reading limited base bytes ≡ Ok p
-  pub texts : list_all uris_are_text p.segments ≡ true
   pub numbers : AreContiguous p.segments
 
 -- the fault is the one that is owed, a failed allocation apart
@@ -144,7 +142,7 @@ abbrev pub state_with : ChannelState → Heading → NextState → ChannelState
 state_with state last next = record { store = kept_in_use next.in_use.items state.store; last = Some last; list = drop next.gone state.list; shown = next.shown }
 
 abbrev pub accepted_state : ChannelState → Playlist → NextState → ChannelState
-accepted_state state p next = state_with state (heading_of p) next
+accepted_state state p next = state_with state (owed_heading_of p) next
 
 -- ---- what holds when a playlist comes that was read
 
@@ -156,8 +154,8 @@ pub record IsJudged (tolerance : ℕ) (state : ChannelState) (written : Option W
   pub decided : AreKept state.store state
   pub entered : IsLastEntered (kept_in state)
   pub rising : RisesNext state (playlist_in read)
-  pub last : AreContiguous (segments_in state.list)
-  pub taken : AreTaken (segments_in state.list) read.taken.now
+  pub last : AreContiguous (window_segments_in state.list)
+  pub taken : AreTaken (window_segments_in state.list) read.taken.now
   pub front : read.front ≤ length read.playlist.segments
   pub ending : IsLastEnding (kept_in state) state.shown.ending
 

@@ -12,9 +12,9 @@ use Rattle.playlist_write.specs.Laid.{IsLaid, StandsAgain}
 use Rattle.live_channel.specs.declared.next.Again.{Again}
 
 -- how many segments it has the lines of
-abbrev pub count_in : Option WrittenText → ℕ
-count_in None = 0
-count_in (Some w) = w.count
+abbrev pub count_in_live_text : Option WrittenText → ℕ
+count_in_live_text None = 0
+count_in_live_text (Some w) = w.count
 
 -- as many of the first of these segments stand in it
 abbrev pub Stood : List OutSegment → Option WrittenText → Type 0
@@ -23,7 +23,7 @@ Stood segments (Some w) = IsLaid (take w.count segments) w
 
 -- it has the last window, with which these items begin
 pub record StoodIn (kept : Kept) (items : List Item) (written : Option WrittenText) : Type 0 where
-  pub count : count_in written ≡ length (last_pieces kept.last kept)
+  pub count : count_in_live_text written ≡ length (last_pieces kept.last kept)
   pub stood : Stood (map written_item (reverse items)) written
   pub on : GoesOn (last_items kept) items
 

@@ -20,8 +20,8 @@ marks_held first [] = []
 marks_held first (m ∷ later) = mark_held first m ++ marks_held first later
 
 -- and then this one, which was entered last
-abbrev pub marks_and_last : ℕ → List MarkedSegment → Option (List ℕ) → List (List ℕ)
-marks_and_last first held last = marks_held first held ++ ids_of_option last
+abbrev pub live_marks_and_last : ℕ → List MarkedSegment → Option (List ℕ) → List (List ℕ)
+live_marks_and_last first held last = marks_held first held ++ ids_of_option last
 
 abbrev pub rest_held : Option Rest → List (List ℕ)
 rest_held None = []
@@ -29,4 +29,4 @@ rest_held (Some rest) = rest.id ∷ []
 
 -- and the one with the rest of whose pod a window starts
 abbrev pub breaks_held : ℕ → List MarkedSegment → Option (List ℕ) → Option Rest → List (List ℕ)
-breaks_held first held last rest = marks_and_last first held last ++ rest_held rest
+breaks_held first held last rest = live_marks_and_last first held last ++ rest_held rest

@@ -7,5 +7,5 @@ abbrev pub delete : ℕ
 delete = 127
 
 -- an ASCII character that is no control character
-abbrev pub is_printable : ℕ → Bool
-is_printable b = nat_le space b && nat_lt b delete
+abbrev pub is_printable_playlist_byte : ℕ → Bool
+is_printable_playlist_byte b = nat_le space b && nat_lt b delete

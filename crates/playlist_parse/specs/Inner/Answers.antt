@@ -8,5 +8,5 @@ abbrev pub line_of_fault : FaultKind → ℕ → ℕ
 line_of_fault OutOfMemory line = 0
 line_of_fault _ line = line
 
-abbrev pub fault_at : FaultKind → ℕ → Fault
-fault_at kind line = record { kind = kind; line = line_of_fault kind line }
+abbrev pub fault_at_line : FaultKind → ℕ → Fault
+fault_at_line kind line = record { kind = kind; line = line_of_fault kind line }

@@ -2,7 +2,7 @@
 use Rattle.playlist_parse.specs.LineViews.{is_feed}
 use Rattle.std.specs.Prelude.{ℕ, Bool, not, ◌||◌, List}
 use Rattle.playlist_model.specs.Lines.{has_control}
-use Rattle.playlist_model.specs.Inner.Lines.{is_printable}
+use Rattle.playlist_model.specs.Inner.Lines.{is_printable_playlist_byte}
 use Rattle.playlist_model.specs.Said.{Name, version_tag, target_tag, sequence_tag, discontinuity_sequence_tag, type_tag, ended_tag, independent_tag, frames_tag, master_tag, duration_tag, byte_range_tag, discontinuity_tag, key_tag, init_section_tag, time_tag, date_range_tag, unknown_tag}
 use Rattle.playlist_parse.specs.declared.tag.Tag.{Tag}
 use Rattle.playlist_parse.specs.declared.tag.Tag.TheVariants as tag_name
@@ -12,7 +12,7 @@ line_text line = line.1
 
 -- a byte of a text whose lines have printable ASCII characters alone
 abbrev pub is_plain_byte : ℕ → Bool
-is_plain_byte b = is_feed b || is_printable b
+is_plain_byte b = is_feed b || is_printable_playlist_byte b
 
 -- a line without control characters
 abbrev pub is_free : List ℕ → Bool

@@ -3,18 +3,18 @@ use Rattle.std.specs.Prelude.{Bool, ◌&&◌, ◌==◌, List, ◌++◌, length, 
 use Rattle.playlist_model.specs.declared.Key.{Key}
 use Rattle.playlist_model.specs.Said.{Said, discontinuity}
 use Rattle.stitcher.specs.declared.OutSegment.{OutSegment}
-use Rattle.playlist_write.specs.Owed.{Current, changed_init_section, init_section_owed, keys_then, keys_owed}
+use Rattle.playlist_write.specs.Owed.{Current, changed_written_init_section, init_section_owed, written_keys_then, keys_owed}
 
 -- the discontinuities before a segment, and the tags of its initialisation section and its keys
 abbrev pub changes_owed : Current → OutSegment → List Said
 changes_owed current out =
-    let changed = changed_init_section current.init_section out.segment.init_section in
+    let changed = changed_written_init_section current.init_section out.segment.init_section in
     replicate out.discontinuities discontinuity
     ++ (init_section_owed current.keys changed
-    ++ keys_owed (keys_then current.keys changed) out.segment.keys)
+    ++ keys_owed (written_keys_then current.keys changed) out.segment.keys)
 
 -- no discontinuity, no initialisation section, and no keys before or after
-abbrev pub changes_nothing : List Key → OutSegment → Bool
-changes_nothing keys out =
+abbrev pub written_segment_changes_nothing : List Key → OutSegment → Bool
+written_segment_changes_nothing keys out =
     (out.discontinuities == 0)
     && (is_none out.segment.init_section && ((length keys == 0) && (length out.segment.keys == 0)))

@@ -10,16 +10,16 @@ abbrev pub is_quoted_id : Option Pair → Bool
 is_quoted_id None = false
 is_quoted_id (Some pair) = pair.quoted
 
-abbrev pub says_time : Pair → Bool
-says_time pair = is_some (instant_of pair.value)
+abbrev pub written_attribute_says_time : Pair → Bool
+written_attribute_says_time pair = is_some (instant_of pair.value)
 
-abbrev pub says_duration : Pair → Bool
-says_duration pair = is_ok (duration_of pair.value)
+abbrev pub written_attribute_says_duration : Pair → Bool
+written_attribute_says_duration pair = is_ok (duration_of pair.value)
 
-abbrev pub is_date_range : List Pair → Bool
-is_date_range pairs =
+abbrev pub is_written_date_range : List Pair → Bool
+is_written_date_range pairs =
     is_quoted_id (attribute pairs (codes "ID"))
-    && (if_some says_time (attribute pairs (codes "START-DATE"))
-    && (if_some says_time (attribute pairs (codes "END-DATE"))
-    && (if_some says_duration (attribute pairs (codes "DURATION"))
-    && if_some says_duration (attribute pairs (codes "PLANNED-DURATION")))))
+    && (if_some written_attribute_says_time (attribute pairs (codes "START-DATE"))
+    && (if_some written_attribute_says_time (attribute pairs (codes "END-DATE"))
+    && (if_some written_attribute_says_duration (attribute pairs (codes "DURATION"))
+    && if_some written_attribute_says_duration (attribute pairs (codes "PLANNED-DURATION")))))

@@ -10,5 +10,5 @@ abbrev pub text_after_uri : Key → List ℕ
 text_after_uri k = (quote ∷ after_commas (iv_pairs k.iv)) ++ (after_commas (format_pairs k.format) ++ (k.other_attributes ++ line_feed ∷ []))
 
 -- the key has the format that goes without saying
-abbrev pub is_identity : Key → Bool
-is_identity k = bytes_eq k.format (codes "identity")
+abbrev pub is_written_key_identity : Key → Bool
+is_written_key_identity k = bytes_eq k.format (codes "identity")

@@ -1,5 +1,5 @@
 -- What proofs and inner functions say with the definitions of `Writing`.
-use Rattle.scte35_codec.specs.Writing.{time_fits, command_length, section_length}
+use Rattle.scte35_codec.specs.Writing.{time_fits, command_length, splice_section_length}
 use Rattle.std.specs.Prelude.{◌≡◌, ℕ, ◌≤◌, List, ◌∷◌, ◌++◌, length, IsTrue}
 use Rattle.std.specs.List.{list_all}
 use Rattle.scte35_codec.specs.Layout.{BitField, Is, bytes_of, IsBytes, HoldsFields, IsWritten}
@@ -22,7 +22,7 @@ tail_fields s = (16, Is (length s.descriptors)) ∷ bytes_of s.descriptors ++ by
 -- the fields of a section that is written, up to CRC_32
 abbrev pub front_fields : Section → List BitField
 front_fields s =
-    start_fields (section_length s) ++ (heading_fields s (command_length s) ++ command_fields s.command ++ tail_fields s)
+    start_fields (splice_section_length s) ++ (heading_fields s (command_length s) ++ command_fields s.command ++ tail_fields s)
 
 -- new is old with these fields at its end, reserved bits as they are written
 pub record Appends (fields : List BitField) (old new : List ℕ) : Type 0 where

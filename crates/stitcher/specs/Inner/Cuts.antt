@@ -7,6 +7,6 @@ abbrev pub stretches_within : ℕ → List Stretch → ℕ
 stretches_within count [] = 0
 stretches_within count (s ∷ later) = if nat_le (length s.ads + length s.kept.now) count then stretches_within (count - length s.ads - length s.kept.now) later + 1 else 0
 
-abbrev pub left_from : ℕ → List Stretch → ℕ
-left_from count [] = count
-left_from count (s ∷ later) = if nat_le (length s.ads + length s.kept.now) count then left_from (count - length s.ads - length s.kept.now) later else count
+abbrev pub items_left_from_stretches : ℕ → List Stretch → ℕ
+items_left_from_stretches count [] = count
+items_left_from_stretches count (s ∷ later) = if nat_le (length s.ads + length s.kept.now) count then items_left_from_stretches (count - length s.ads - length s.kept.now) later else count

@@ -1,5 +1,5 @@
 -- What proofs and inner functions say with the definitions of `Making`.
-use Rattle.stitcher.specs.Making.{is_same_run, unmarked_piece, pod_with}
+use Rattle.stitcher.specs.Making.{is_same_stitched_run, unmarked_piece, pod_with}
 use Rattle.std.specs.Prelude.{◌≡◌, ℕ, ◌+◌, ◌-◌, ◌^◌, ◌==◌, Bool, true, false, not, ◌&&◌, ◌||◌, nat_le, nat_lt, List, [], ◌∷◌, ◌++◌, map, take, drop, ℤ, Option, Some, None, is_some, option_map, if◌then◌else◌}
 use Rattle.std.specs.List.{list_all}
 use Rattle.playlist_model.specs.Segments.{Segment}
@@ -7,7 +7,7 @@ use Rattle.playlist_model.specs.declared.Key.{Key}
 use Rattle.playlist_model.specs.declared.InitSection.{InitSection}
 use Rattle.pod_store.specs.Pods.{Ad}
 use Rattle.pod_store.specs.Rules.{ad_keeps}
-use Rattle.stitcher.specs.Stitched.{Piece, is_kept, Numbers, next_numbers, Item, with_keys}
+use Rattle.stitcher.specs.Stitched.{Piece, is_kept, Numbers, next_stitched_numbers, Item, with_keys}
 use Rattle.pod_store.specs.Store.{Store, pod_for}
 use Rattle.stitcher.specs.declared.OutSegment.{OutSegment}
 use Rattle.stitcher.specs.declared.marked.MarkedSegment.{MarkedSegment}
@@ -17,7 +17,7 @@ use Rattle.stitcher.specs.declared.ends.Ends.{Ends}
 use Rattle.stitcher.specs.declared.making.Part.{Part}
 use Rattle.stitcher.specs.StitchedSegments.{item_fits}
 use Rattle.stitcher.specs.Written.{written_item}
-use Rattle.stitcher.specs.Stretches.{segment_items, numbers_on}
+use Rattle.stitcher.specs.Stretches.{segment_items, stitched_numbers_on}
 
 -- ---- the list so far
 
@@ -58,7 +58,7 @@ steps_back (Some before) discontinuity = discontinuity - before
 -- the numbers of an item so many steps after the last; without a last, those of the first
 abbrev pub numbers_with : Numbers → Option Last → ℕ → Numbers
 numbers_with first None steps = first
-numbers_with first (Some last) steps = next_numbers last.numbers steps
+numbers_with first (Some last) steps = next_stitched_numbers last.numbers steps
 
 -- the steps to a kept segment; those of the first are its own
 abbrev pub steps_from : Option Last → ℕ → ℕ
@@ -89,9 +89,9 @@ abbrev pub kept_on : Made → List MarkedSegment → Numbers → Last → Made
 kept_on made kept n last = record { first = made.first; last = Some last; items = made.items ++ segment_items n kept; keys = []; init_section = None }
 
 -- the last of kept segments that follow each other, the first of which has these numbers
-abbrev pub last_of_run : Numbers → MarkedSegment → List MarkedSegment → Last
-last_of_run n m [] = record { numbers = n; origin = Some m.segment.discontinuity_sequence }
-last_of_run n m (next ∷ later) = last_of_run (numbers_on n m (next ∷ later)) next later
+abbrev pub last_of_stitched_run : Numbers → MarkedSegment → List MarkedSegment → Last
+last_of_stitched_run n m [] = record { numbers = n; origin = Some m.segment.discontinuity_sequence }
+last_of_stitched_run n m (next ∷ later) = last_of_stitched_run (stitched_numbers_on n m (next ∷ later)) next later
 
 -- pieces in order, with the numbers counted on
 abbrev pub counted : Numbers → Option Last → List Piece → List Item
@@ -120,8 +120,8 @@ abbrev pub is_nothing : ℕ → Bool
 is_nothing n = n == 0
 
 -- whether the next piece is shown
-abbrev pub shows_next : Part → Bool
-shows_next part = is_nothing part.skip && not part.done
+abbrev pub stitched_part_shows_next : Part → Bool
+stitched_part_shows_next part = is_nothing part.skip && not part.done
 
 -- the part that is shown of what stands after a piece of this duration
 abbrev pub part_after_one : Part → ℕ → Part
@@ -130,15 +130,15 @@ part_after_one part duration =
     else record { skip = part.skip - 1; whole = part.whole; left = part.left; done = part.done }
 
 abbrev pub part_here : Part → Piece → List Piece
-part_here part p = if shows_next part then p ∷ [] else []
+part_here part p = if stitched_part_shows_next part then p ∷ [] else []
 
 abbrev pub pieces_in_part : Part → List Piece → List Piece
 pieces_in_part part [] = []
 pieces_in_part part (p ∷ later) = part_here part p ++ pieces_in_part (part_after_one part p.segment.duration) later
 
-abbrev pub part_after : Part → List Piece → Part
-part_after part [] = part
-part_after part (p ∷ later) = part_after (part_after_one part p.segment.duration) later
+abbrev pub stitched_part_after : Part → List Piece → Part
+stitched_part_after part [] = part
+stitched_part_after part (p ∷ later) = stitched_part_after (part_after_one part p.segment.duration) later
 
 -- a whole pod, from this place on
 abbrev pub whole_from : ℕ → Part
@@ -155,12 +155,12 @@ mark_after previous [] = previous
 mark_after previous (m ∷ later) = mark_after m.mark later
 
 -- the run goes on to the last of these
-abbrev pub goes_on_to_last : Option (List ℕ) → List MarkedSegment → Bool
-goes_on_to_last previous [] = true
-goes_on_to_last previous (m ∷ later) = is_same_run m.mark previous && goes_on_to_last m.mark later
+abbrev pub stitched_run_goes_on_to_last : Option (List ℕ) → List MarkedSegment → Bool
+stitched_run_goes_on_to_last previous [] = true
+stitched_run_goes_on_to_last previous (m ∷ later) = is_same_stitched_run m.mark previous && stitched_run_goes_on_to_last m.mark later
 
-abbrev pub part_at : Option ℕ → Option (List ℕ) → List MarkedSegment → Part
-part_at so_far mark later = if goes_on_to_last mark later then part_due so_far else whole_from 0
+abbrev pub stitched_part_at : Option ℕ → Option (List ℕ) → List MarkedSegment → Part
+stitched_part_at so_far mark later = if stitched_run_goes_on_to_last mark later then part_due so_far else whole_from 0
 
 abbrev pub begun_with : Store → Part → MarkedSegment → Option (List ℕ) → List Piece
 begun_with store part m None = unmarked_piece m ∷ []
@@ -168,29 +168,29 @@ begun_with store part m (Some id) = pieces_in_part part (pod_with id (pod_for st
 
 -- what stands for a segment after one of this mark, before these
 abbrev pub pieces_at : Store → Option ℕ → Option (List ℕ) → MarkedSegment → List MarkedSegment → List Piece
-pieces_at store so_far previous m later = if is_same_run m.mark previous then [] else begun_with store (part_at so_far m.mark later) m m.mark
+pieces_at store so_far previous m later = if is_same_stitched_run m.mark previous then [] else begun_with store (stitched_part_at so_far m.mark later) m m.mark
 
 abbrev pub pieces_on : Store → Option ℕ → Option (List ℕ) → List MarkedSegment → List Piece
 pieces_on store so_far previous [] = []
 pieces_on store so_far previous (m ∷ later) = pieces_at store so_far previous m later ++ pieces_on store so_far m.mark later
 
 -- how many segments in front have no mark
-abbrev pub unmarked_front : List MarkedSegment → ℕ
-unmarked_front [] = 0
-unmarked_front (m ∷ later) = if is_some m.mark then 0 else unmarked_front later + 1
+abbrev pub unmarked_front_to_stitch : List MarkedSegment → ℕ
+unmarked_front_to_stitch [] = 0
+unmarked_front_to_stitch (m ∷ later) = if is_some m.mark then 0 else unmarked_front_to_stitch later + 1
 
 -- what stands for the first of segments, and, if it has no mark, for those without one that follow it
 abbrev pub begun_in : Store → Part → List MarkedSegment → Option (List ℕ) → List Piece
-begun_in store part segments None = map unmarked_piece (take (unmarked_front segments) segments)
+begun_in store part segments None = map unmarked_piece (take (unmarked_front_to_stitch segments) segments)
 begun_in store part segments (Some id) = pieces_in_part part (pod_with id (pod_for store id))
 
 abbrev pub front_pieces : Store → Option ℕ → Option (List ℕ) → List MarkedSegment → List Piece
 front_pieces store so_far previous [] = []
-front_pieces store so_far previous (m ∷ later) = if is_same_run m.mark previous then [] else begun_in store (part_at so_far m.mark later) (m ∷ later) m.mark
+front_pieces store so_far previous (m ∷ later) = if is_same_stitched_run m.mark previous then [] else begun_in store (stitched_part_at so_far m.mark later) (m ∷ later) m.mark
 
 -- the segments after that
 abbrev pub after_begun : List MarkedSegment → List MarkedSegment → Option (List ℕ) → List MarkedSegment
-after_begun segments later None = drop (unmarked_front segments) segments
+after_begun segments later None = drop (unmarked_front_to_stitch segments) segments
 after_begun segments later (Some id) = later
 
 abbrev pub after_front : List MarkedSegment → List MarkedSegment

@@ -10,5 +10,5 @@ pub record Walked (segments rest : List Segment) (stack : List (Option ℤ)) (af
   pub stack_is : stack ≡ stack_of later
   pub after_is : after ≡ reckoned later
 
-abbrev pub is_unstated : Segment → Bool
-is_unstated s = is_none s.program_date_time
+abbrev pub is_beginning_unstated : Segment → Bool
+is_beginning_unstated s = is_none s.program_date_time

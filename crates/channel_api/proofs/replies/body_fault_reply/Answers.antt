@@ -3,10 +3,10 @@ use Rattle.std.proofs.lemmas.Grind.{common_steps}
 use Rattle.channel_api.specs.declared.channel_body.BodyFault.{BodyFault}
 use Rattle.channel_api.specs.declared.channel_body.BodyFault.TheVariants.{NotJson, Shape, OutOfMemory}
 use Rattle.channel_api.specs.FaultTexts.{body_fault_text}
-use Rattle.channel_api.specs.Replies.{line, body_fault_reply}
+use Rattle.channel_api.specs.Replies.{reply_line, body_fault_reply}
 use Rattle.channel_api.proofs.replies.body_fault_reply.Goals as goal
 
-told : (fault : BodyFault) → (fault ≡ OutOfMemory → ⊥) → line 422 (body_fault_text fault) ≡ body_fault_reply fault
+told : (fault : BodyFault) → (fault ≡ OutOfMemory → ⊥) → reply_line 422 (body_fault_text fault) ≡ body_fault_reply fault
 told NotJson other = refl
 told Shape other = refl
 told OutOfMemory other = absurd (other refl)

@@ -7,4 +7,4 @@ use Rattle.channel_window.proofs.writing.date_ranges_left.Goals as goal
 pub returns : goal.returns
 returns c =
     let timed : list_any writes_time c.args.items.now ≡ true = search rules in
-    left_timed (λ v. v.items) _ _ _ _ _ timed c.in_ok-set.ensures c.texts_left.ensures
+    left_timed (λ v. v.items) _ _ _ _ _ timed c.in_ok-set.ensures c.date_range_texts_left_in_window.ensures

@@ -11,8 +11,8 @@ returns-in_err-first-clause-err c = grind (arith, common_steps, fit_is, handed_o
 pub returns-in_err-whole-clause-err : goal.returns-in_err-whole-clause-err
 returns-in_err-whole-clause-err c = grind (arith, common_steps, fit_is, handed_on)
 
-pub start_of-requires-clause-room : goal.start_of-requires-clause-room
-start_of-requires-clause-room c = grind (arith, common_steps, has_room)
+pub window_start_of-requires-clause-room : goal.window_start_of-requires-clause-room
+window_start_of-requires-clause-room c = grind (arith, common_steps, has_room)
 
 pub returns-clause-whole : goal.returns-clause-whole
 returns-clause-whole c = grind (arith, whole_is)

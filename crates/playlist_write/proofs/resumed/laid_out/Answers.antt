@@ -10,11 +10,11 @@ returns c =
     let front = front_text p in
     let body = lines none_yet p.segments in
     let ended = said_text (ended_owed p.end_list) in
-    let out : string_bytes c.push_all.new.out ≡ front ++ body = rw (c.items.ensures, c.new-nothing.ensures, c.none-no_keys.ensures, c.in_ok-text.ensures) at c.in_ok-end.ensures.text in
+    let out : string_bytes c.write_all_segment_lines.new.out ≡ front ++ body = rw (c.items.ensures, c.new-nothing.ensures, c.none-no_keys.ensures, c.in_ok-text.ensures) at c.in_ok-end.ensures.text in
     let force = rw (c.items.ensures, c.new-nothing.ensures, c.none-no_keys.ensures) at c.in_ok-end.ensures.force in
-    let w = c.in_ok-with_end.ensures in
-    let from = w.from ∙ (c.length_of-from.ensures ∙ ap length c.in_ok-text.ensures) in
-    let till = w.till ∙ (c.length_of-till.ensures ∙ ap length out) in
-    let text = w.text ∙ (c.in_ok-push_end.ensures ∙ (ap (λ t. t ++ ended) out ∙ append_assoc front body ended)) in
-    let h : Laid p c.in_ok-with_end.field-0 = is_laid p c.in_ok-with_end.field-0 body _ refl force text from till (w.count ∙ c.count-count.ensures) w.end in
+    let w = c.in_ok-written_text_with_end.ensures in
+    let from = w.from ∙ (c.written_text_length-from.ensures ∙ ap length c.in_ok-text.ensures) in
+    let till = w.till ∙ (c.written_text_length-till.ensures ∙ ap length out) in
+    let text = w.text ∙ (c.in_ok-write_end_line.ensures ∙ (ap (λ t. t ++ ended) out ∙ append_assoc front body ended)) in
+    let h : Laid p c.in_ok-written_text_with_end.field-0 = is_laid p c.in_ok-written_text_with_end.field-0 body _ refl force text from till (w.count ∙ c.count-count.ensures) w.end in
     grind arith

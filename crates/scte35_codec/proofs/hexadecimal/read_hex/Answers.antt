@@ -10,7 +10,7 @@ pub returns-clause-found : goal.returns-clause-found
 returns-clause-found c = grind (arith, common_steps, hex_found)
 
 pub returns-clause-only : goal.returns-clause-only
-returns-clause-only c = λ bytes s e is. subst (λ r. GivesOrSpliceFault section_of c.section_of_text.result r) (hex_again c.args.text.now bytes s e is) c.section_of_text.ensures.exact
+returns-clause-only c = λ bytes s e is. subst (λ r. GivesOrSpliceFault section_of c.splice_section_of_text.result r) (hex_again c.args.text.now bytes s e is) c.splice_section_of_text.ensures.exact
 
 pub returns-clause-not_hex : goal.returns-clause-not_hex
 returns-clause-not_hex c = grind (arith, common_steps, hex_fault_is, not_hex_is)

@@ -18,5 +18,5 @@ returns-in-Err-clause-fault g c one =
         to_end = said.to_end;
         sink = still_fair_sink _ _ _ said.sink;
       };
-      printed = c.print_fault.ensures;
+      printed = c.print_vod_fault.ensures;
     }

@@ -11,5 +11,5 @@ find-map p (attr ∷ attrs) = grind (arith, find-map p attrs)
 
 pub returns-clause-pair : goal.returns-clause-pair
 returns-clause-pair c =
-    let found = rw (c.deref.ensures.value, c.self.view_is) at c.find_named.ensures in
+    let found = rw (c.deref.ensures.value, c.self.view_is) at c.find_named_attribute.ensures in
     ap (option_map attr_pair) found ∙ find-map (is_named c.args.name.now) c.args.self.now

@@ -12,7 +12,7 @@ returns-in-Whole c =
     let bytes = c.args.bytes.now in
     let arrived = subst (IsArrived (c.new.result ++ bytes)) c.in-Whole.is c.in_ok-asked.ensures in
     let asked = subst (λ l. IsAsked (l ++ bytes) c.in-Whole.asked) c.new.ensures arrived in
-    subst (λ b. Decides b (BeginsWithRead bytes)) (sym c.is_read.ensures) (decides bytes c.in-Whole.asked asked)
+    subst (λ b. Decides b (BeginsWithRead bytes)) (sym c.is_playlist_read_by_client.ensures) (decides bytes c.in-Whole.asked asked)
 
 pub returns : goal.returns
 returns c =

@@ -23,7 +23,7 @@ returns c table s =
           rw w.result-is
           (is_added table name channel.base channel.tolerance before after channel seen AllocError w.bare.result (put_as naming.Done w.in-Done.is)
           (record { base = refl; tolerance = refl; stands = c.requires }) w.bare.ensures)
-      | in-Taken w ↦ rw w.result-is (is_taken table name channel.base channel.tolerance before after channel seen w.line.result (put_as naming.Taken w.in-Taken.is) w.line.ensures)
+      | in-Taken w ↦ rw w.result-is (is_taken table name channel.base channel.tolerance before after channel seen w.reply_line.result (put_as naming.Taken w.in-Taken.is) w.reply_line.ensures)
       | in-Full w ↦
           rw w.result-is (is_full table name channel.base channel.tolerance before after channel seen {E = AllocError} (Ok w.bare-in-Full.result) (put_as naming.Full w.in-Full.is) w.bare-in-Full.ensures)
     ]

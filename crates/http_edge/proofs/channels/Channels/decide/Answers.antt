@@ -12,5 +12,5 @@ returns-in_default c table s = grind (arith, common_steps, none_at, unmoved_turn
 pub returns : goal.returns
 returns c table s =
     let seen = subst (λ k. AreGiven k table) (sym c.self.view_is) s in
-    event_done c.self.inside.by_name.entries _ table c.args.name.now (decided c.args.body.now) (decisions_owed c.args.body.now) c.in-Some.channel.now c.decide.new.channel
-    c.decide.result seen c.in-Some.ensures.value (c.get_mut.follows.holds c.decide.new.channel).0 c.decide.ensures
+    event_done c.self.inside.by_name.entries _ table c.args.name.now (decided c.args.body.now) (decisions_owed c.args.body.now) c.in-Some.channel.now c.decide_on_edge.new.channel
+    c.decide_on_edge.result seen c.in-Some.ensures.value (c.get_mut.follows.holds c.decide_on_edge.new.channel).0 c.decide_on_edge.ensures

@@ -10,4 +10,4 @@ returns-in_default c table s = grind (arith, common_steps, none_at, unmoved_turn
 pub returns : goal.returns
 returns c table s =
     let seen = subst (λ k. AreGiven k table) (sym c.self.view_is) s in
-    live_turn c.self.inside.by_name.entries table c.args.name.now c.in-Some.channel.now c.live.result _ seen c.in-Some.ensures.value c.live.ensures s
+    live_turn c.self.inside.by_name.entries table c.args.name.now c.in-Some.channel.now c.live_playlist_of_edge.result _ seen c.in-Some.ensures.value c.live_playlist_of_edge.ensures s

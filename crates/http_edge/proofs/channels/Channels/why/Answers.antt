@@ -10,4 +10,4 @@ returns-in_default c table s = grind (arith, common_steps, none_at, unmoved_turn
 pub returns : goal.returns
 returns c table s =
     let seen = subst (λ k. AreGiven k table) (sym c.self.view_is) s in
-    why_turn c.self.inside.by_name.entries table c.args.name.now c.in-Some.channel.now c.why_reply.result _ seen c.in-Some.ensures.value c.why_reply.ensures.reply s
+    why_turn c.self.inside.by_name.entries table c.args.name.now c.in-Some.channel.now c.edge_why_reply.result _ seen c.in-Some.ensures.value c.edge_why_reply.ensures.reply s

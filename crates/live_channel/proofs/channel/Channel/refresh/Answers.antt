@@ -18,8 +18,8 @@ returns-in_err-read c =
     let refused : IfErr c.from_residual.result (λ e. Refused i.base i.tolerance i.state bytes e) = search rules in
     subst (λ (x : Channel). Refreshes x bytes c.from_residual.result x) c.self.view_is (stays i.base i.tolerance i.state (text_in i.written) bytes c.from_residual.result c.from_residual.ensures.0 refused)
 
-pub accept-requires : goal.accept-requires
-accept-requires c =
+pub accept_live_refresh-requires : goal.accept_live_refresh-requires
+accept_live_refresh-requires c =
     let i = c.self.inside in
     let bytes = c.args.bytes.now in
     let read = c.in_ok-read.read in
@@ -45,8 +45,8 @@ invariant_of-self-2 c =
     let i = c.self.inside in
     let bytes = c.args.bytes.now in
     let read = c.in_ok-read.read in
-    let new = c.accept.new.state in
-    let text = c.accept.new.written in
+    let new = c.accept_live_refresh.new.state in
+    let text = c.accept_live_refresh.new.written in
     let here = c.in_ok-read.ensures.ok in
     let sound : IsSound i.base i.tolerance i.state i.written = record { stands = c.self.invariant.0; kept = c.self.invariant.1; contiguous = c.self.invariant.2.1; laid = c.self.invariant.3 } in
     let s = is_sound i.base i.tolerance i.state i.written bytes read sound here new text c.in_ok-refreshed.refreshed c.in_ok-refreshed.ensures.ok in
@@ -58,8 +58,8 @@ returns c =
     let i = c.self.inside in
     let bytes = c.args.bytes.now in
     let read = c.in_ok-read.read in
-    let new = c.accept.new.state in
-    let text = c.accept.new.written in
+    let new = c.accept_live_refresh.new.state in
+    let text = c.accept_live_refresh.new.written in
     let sound : IsSound i.base i.tolerance i.state i.written = record { stands = c.self.invariant.0; kept = c.self.invariant.1; contiguous = c.self.invariant.2.1; laid = c.self.invariant.3 } in
     subst (λ (x : Channel). Refreshes x bytes (Ok c.in_ok-refreshed.refreshed) (channel_with i.base i.tolerance new (text_in text))) c.self.view_is
     (refreshes i.base i.tolerance i.state i.written bytes read sound c.in_ok-read.ensures.ok new text c.in_ok-refreshed.refreshed c.in_ok-refreshed.ensures.ok)

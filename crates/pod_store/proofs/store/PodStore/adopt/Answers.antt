@@ -4,5 +4,5 @@ use Rattle.pod_store.proofs.store.PodStore.adopt.Goals as goal
 
 pub returns-then-has_own-clause-ok : goal.returns-then-has_own-clause-ok
 returns-then-has_own-clause-ok c =
-    let used = marked_kept c.args.id.now c.self.inside.kept.entries c.mark.new.kept.entries c.self.inside.fallback c.args.self.now c.self.view_is c.mark.ensures.entries in
+    let used = marked_kept c.args.id.now c.self.inside.kept.entries c.mark_stored_pod_used.new.kept.entries c.self.inside.fallback c.args.self.now c.self.view_is c.mark_stored_pod_used.ensures.entries in
     search rules

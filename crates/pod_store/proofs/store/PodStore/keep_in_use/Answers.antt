@@ -2,6 +2,6 @@ use Rattle.std.proofs.Common.{refl}
 use Rattle.pod_store.proofs.UsedAgain.{used_again}
 use Rattle.pod_store.proofs.store.PodStore.keep_in_use.Goals as goal
 
-pub returns-then-are_used-clause-ok : goal.returns-then-are_used-clause-ok
-returns-then-are_used-clause-ok c =
-    used_again c.self.inside.kept.entries c.self.inside.fallback c.args.self.now c.args.ids.now c.self.view_is c.if-are_used.ensures.unique (c.if-are_used.ensures.used refl)
+pub returns-then-are_used_pods-clause-ok : goal.returns-then-are_used_pods-clause-ok
+returns-then-are_used_pods-clause-ok c =
+    used_again c.self.inside.kept.entries c.self.inside.fallback c.args.self.now c.args.ids.now c.self.view_is c.if-are_used_pods.ensures.unique (c.if-are_used_pods.ensures.used refl)

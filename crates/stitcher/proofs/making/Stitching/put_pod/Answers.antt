@@ -4,7 +4,7 @@ use Rattle.pod_store.specs.Marks.{Mark}
 use Rattle.pod_store.specs.Pods.{Ad}
 use Rattle.stitcher.specs.Stitched.{Piece, ad_pieces, pieces_of_ads}
 use Rattle.stitcher.specs.declared.making.Part.{Part}
-use Rattle.stitcher.specs.Inner.Making.{numbers_fit, pieces_in_part, part_after}
+use Rattle.stitcher.specs.Inner.Making.{numbers_fit, pieces_in_part, stitched_part_after}
 use Rattle.stitcher.proofs.Ads.{each_keeps, kept_first, kept_others}
 use Rattle.stitcher.proofs.Outcomes.{handed_on}
 use Rattle.stitcher.proofs.Parts.{part_append, done_of}
@@ -35,7 +35,7 @@ returns-in_err-left-clause-err c =
     (λ p mark.
     let here = ad_pieces mark ad ad.segments in
     let all = pieces_in_part c.args.part (pieces_of_ads mark c.args.pod.now.ads) in
-    passes_there c.args.self.now c.loop-ad.self all (pieces_in_part part here) (pieces_in_part (part_after part here) (pieces_of_ads mark later))
+    passes_there c.args.self.now c.loop-ad.self all (pieces_in_part part here) (pieces_in_part (stitched_part_after part here) (pieces_of_ads mark later))
     (subst (λ (ps : List Piece). Walks c.args.self.now c.loop-ad.self all ps) (part_append part here (pieces_of_ads mark later))
     (subst (λ (ads : List Ad). Walks c.args.self.now c.loop-ad.self all (pieces_in_part part (pieces_of_ads mark ads))) c.in-Some.ensures.cases.0 (c.loop-ad.invariant.walks mark))) (p mark))
 
@@ -52,7 +52,7 @@ loop-ad-preserved c =
           let here = ad_pieces mark ad ad.segments in
           let all = pieces_in_part c.args.part (pieces_of_ads mark c.args.pod.now.ads) in
           subst (λ (left : Part). Walks c.args.self.now c.put_ad.new.self all (pieces_in_part left (pieces_of_ads mark later))) (sym (c.in_ok-left.ensures.part mark))
-          (walks_on c.args.self.now c.loop-ad.self c.put_ad.new.self all (pieces_in_part part here) (pieces_in_part (part_after part here) (pieces_of_ads mark later))
+          (walks_on c.args.self.now c.loop-ad.self c.put_ad.new.self all (pieces_in_part part here) (pieces_in_part (stitched_part_after part here) (pieces_of_ads mark later))
           (subst (λ (ps : List Piece). Walks c.args.self.now c.loop-ad.self all ps) (part_append part here (pieces_of_ads mark later))
           (subst (λ (ads : List Ad). Walks c.args.self.now c.loop-ad.self all (pieces_in_part part (pieces_of_ads mark ads))) c.in-Some.ensures.cases.0 (c.loop-ad.invariant.walks mark))) (put mark));
     }

@@ -1,5 +1,0 @@
-use Rattle.connections.specs.Runs.{HasRun}
-use Rattle.adsplice.proofs.live.serve_all.Given as goal
-
-abbrev pub invariant-loop : goal.invariant-loop
-invariant-loop l = HasRun l.fn.connections l.connections

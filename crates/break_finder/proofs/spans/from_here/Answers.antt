@@ -1,6 +1,0 @@
-use Rattle.std.proofs.lemmas.List.Elements.{All-rest}
-use Rattle.break_finder.specs.Entrances.{TellsEntrances}
-use Rattle.break_finder.proofs.spans.from_here.Goals as goal
-
-pub returns-then-span-end : goal.returns-then-span-end
-returns-then-span-end c = λ tolerance found all. All-rest (TellsEntrances tolerance found) c.in-Some.span.now c.in-Some.later.now c.args.spans.now c.in-Some.ensures.cases.0 all

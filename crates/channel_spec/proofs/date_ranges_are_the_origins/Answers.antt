@@ -1,5 +1,0 @@
-use Rattle.channel_spec.proofs.OwedLaws.{date_ranges_are_the_origins}
-use Rattle.channel_spec.proofs.date_ranges_are_the_origins.Goals as goal
-
-pub returns : goal.returns
-returns c = date_ranges_are_the_origins

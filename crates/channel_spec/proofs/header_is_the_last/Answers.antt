@@ -1,5 +1,0 @@
-use Rattle.channel_spec.proofs.OwedLaws.{header_is_the_last}
-use Rattle.channel_spec.proofs.header_is_the_last.Goals as goal
-
-pub returns : goal.returns
-returns c = header_is_the_last

@@ -1,5 +1,0 @@
-use Rattle.channel_spec.proofs.WrittenPods.{in_use_is_written}
-use Rattle.channel_spec.proofs.in_use_is_written.Goals as goal
-
-pub returns : goal.returns
-returns c = in_use_is_written

@@ -1,5 +1,0 @@
-use Rattle.channel_spec.proofs.KeptWhole.{kept_follows}
-use Rattle.channel_spec.proofs.kept_follows.Goals as goal
-
-pub returns : goal.returns
-returns c = kept_follows

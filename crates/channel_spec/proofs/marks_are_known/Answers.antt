@@ -1,5 +1,0 @@
-use Rattle.channel_spec.proofs.MarkKnown.{marks_are_known}
-use Rattle.channel_spec.proofs.marks_are_known.Goals as goal
-
-pub returns : goal.returns
-returns c = marks_are_known

@@ -1,5 +1,0 @@
-use Rattle.channel_spec.proofs.Linked.{marks_follow}
-use Rattle.channel_spec.proofs.marks_follow.Goals as goal
-
-pub returns : goal.returns
-returns c = marks_follow

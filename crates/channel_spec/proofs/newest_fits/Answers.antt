@@ -1,5 +1,0 @@
-use Rattle.channel_spec.proofs.LastNumbers.{newest_fits}
-use Rattle.channel_spec.proofs.newest_fits.Goals as goal
-
-pub returns : goal.returns
-returns c = newest_fits

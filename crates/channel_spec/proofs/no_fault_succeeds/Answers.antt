@@ -1,5 +1,0 @@
-use Rattle.channel_spec.proofs.Decided.{no_fault_succeeds}
-use Rattle.channel_spec.proofs.no_fault_succeeds.Goals as goal
-
-pub returns : goal.returns
-returns c = no_fault_succeeds

@@ -1,5 +1,0 @@
-use Rattle.channel_spec.proofs.EachWindow.{only_grows}
-use Rattle.channel_spec.proofs.only_grows.Goals as goal
-
-pub returns : goal.returns
-returns c = only_grows

@@ -1,5 +1,0 @@
-use Rattle.channel_spec.proofs.RunPods.{runs_keep_their_pods}
-use Rattle.channel_spec.proofs.runs_keep_their_pods.Goals as goal
-
-pub returns : goal.returns
-returns c = runs_keep_their_pods

@@ -1,5 +1,0 @@
-use Rattle.channel_spec.proofs.OwedLaws.{store_stays_small}
-use Rattle.channel_spec.proofs.store_stays_small.Goals as goal
-
-pub returns : goal.returns
-returns c = store_stays_small

@@ -1,5 +1,0 @@
-use Rattle.channel_spec.proofs.OwedLaws.{window_is_stitched}
-use Rattle.channel_spec.proofs.window_is_stitched.Goals as goal
-
-pub returns : goal.returns
-returns c = window_is_stitched

@@ -1,5 +1,0 @@
-use Rattle.channel_spec.proofs.Agreeing.{windows_follow}
-use Rattle.channel_spec.proofs.windows_follow.Goals as goal
-
-pub returns : goal.returns
-returns c = windows_follow

@@ -1,5 +1,0 @@
-use Rattle.channel_spec.proofs.RunPods.{written_end_is_near}
-use Rattle.channel_spec.proofs.written_end_is_near.Goals as goal
-
-pub returns : goal.returns
-returns c = written_end_is_near

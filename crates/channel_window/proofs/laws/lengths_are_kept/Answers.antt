@@ -1,5 +1,0 @@
-use Rattle.channel_window.proofs.Marked.{lengths_are_kept}
-use Rattle.channel_window.proofs.laws.lengths_are_kept.Goals as goal
-
-pub returns : goal.returns
-returns c = lengths_are_kept

@@ -1,7 +1,0 @@
-use Rattle.std.proofs.Common.{rules}
-use Rattle.std.proofs.lemmas.Fn.{filter_same}
-use Rattle.connections.specs.Lines.{is_other}
-use Rattle.connections.proofs.line.leave.Goals as goal
-
-pub returns : goal.returns
-returns c = filter_same _ (is_other c.args.place) _ (λ x b f' t. search rules) _ _ c.retain.ensures.filtered

@@ -1,6 +1,0 @@
-use Rattle.std.proofs.Common.{◌≡◌, drop}
-use Rattle.connections.specs.Lines.{is_in_line}
-use Rattle.connections.proofs.line.stands_in.Given as goal
-
-abbrev pub invariant-loop-other : goal.invariant-loop-other
-invariant-loop-other l = is_in_line l.place (drop l.other-index l.places) ≡ is_in_line l.place l.places

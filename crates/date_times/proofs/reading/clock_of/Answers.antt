@@ -1,9 +1,0 @@
-use Rattle.std.proofs.Common.{sym, ◌∙◌}
-use Rattle.date_times.proofs.TimeForms.{clock_parts}
-use Rattle.date_times.proofs.reading.clock_of.Goals as goal
-
-pub field-minute-requires-clause-digits : goal.field-minute-requires-clause-digits
-field-minute-requires-clause-digits c = (clock_parts c.args.text.now (sym c.has_clock_form.ensures ∙ c.if-not-has_clock_form.false)).1
-
-pub field-second-requires-clause-digits : goal.field-second-requires-clause-digits
-field-second-requires-clause-digits c = (clock_parts c.args.text.now (sym c.has_clock_form.ensures ∙ c.if-not-has_clock_form.false)).2

@@ -1,6 +1,0 @@
-use Rattle.std.proofs.Common.{drop}
-use Rattle.http_messages.proofs.Lengths.{IsSaidSoFar}
-use Rattle.http_messages.proofs.head.stated_by.Given as goal
-
-abbrev pub invariant-loop-field : goal.invariant-loop-field
-invariant-loop-field l = IsSaidSoFar l.fields (drop l.field-index l.fields) l.said l.any

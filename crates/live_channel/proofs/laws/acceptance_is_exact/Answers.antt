@@ -1,5 +1,0 @@
-use Rattle.live_channel.proofs.Owed.{acceptance_is_exact}
-use Rattle.live_channel.proofs.laws.acceptance_is_exact.Goals as goal
-
-pub returns : goal.returns
-returns c = acceptance_is_exact

@@ -1,5 +1,0 @@
-use Rattle.live_channel.proofs.Owed.{stitched_list_grows}
-use Rattle.live_channel.proofs.laws.stitched_list_grows.Goals as goal
-
-pub returns : goal.returns
-returns c = stitched_list_grows

@@ -1,0 +1,9 @@
+use Rattle.std.proofs.Common.{arith}
+use Rattle.std.specs.Prelude.{string_bytes}
+use Rattle.std.proofs.lemmas.Grind.{common_steps}
+use Rattle.playlist_model.proofs.Rows.{text_put}
+use Rattle.playlist_model.proofs.segments.put_segment_text.Goals as goal
+
+pub returns-clause-there : goal.returns-clause-there
+returns-clause-there c =
+    text_put (string_bytes c.args.texts.now) (string_bytes c.push_str-2.new.self) c.args.front.now c.args.rest.now _ (grind (arith, common_steps)) (grind (arith, common_steps)) (grind (arith, common_steps)) c.utf8.front c.utf8.rest

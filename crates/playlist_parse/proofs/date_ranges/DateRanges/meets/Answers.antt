@@ -1,7 +1,0 @@
-use Rattle.std.proofs.Common.{arith}
-use Rattle.std.proofs.lemmas.Grind.{common_steps}
-use Rattle.playlist_parse.proofs.DateRanges.{met_next}
-use Rattle.playlist_parse.proofs.date_ranges.DateRanges.meets.Goals as goal
-
-pub returns-clause-met : goal.returns-clause-met
-returns-clause-met c e = grind (arith, common_steps, met_next)

@@ -1,6 +1,0 @@
-use Rattle.std.proofs.Common.{◌≡◌, ◌++◌, take, string_bytes}
-use Rattle.playlist_write.specs.Owed.{date_ranges_text}
-use Rattle.playlist_write.proofs.header.push_date_ranges.Given as goal
-
-abbrev pub invariant-loop-date_range : goal.invariant-loop-date_range
-invariant-loop-date_range l = string_bytes l.out ≡ string_bytes l.initial.out ++ date_ranges_text (take l.date_range-index l.date_ranges)

@@ -1,8 +1,0 @@
-use Rattle.std.proofs.Common.{arith}
-use Rattle.std.proofs.lemmas.List.{append-nil}
-use Rattle.std.proofs.lemmas.Grind.{common_steps}
-use Rattle.playlist_write.proofs.SameKeys.{same_keys_owe_nothing}
-use Rattle.playlist_write.proofs.keys.push_any_tags.Goals as goal
-
-pub returns-then-are_same_keys : goal.returns-then-are_same_keys
-returns-then-are_same_keys c = grind (arith, common_steps, append-nil, same_keys_owe_nothing)

@@ -1,0 +1,25 @@
+use Rattle.std.proofs.Common.{◌≡◌, ◌++◌, arith, string_bytes}
+use Rattle.std.proofs.lemmas.Grind.{common_steps}
+use Rattle.playlist_write.specs.Owed.{said_text, segments_owed, after_segment}
+use Rattle.playlist_write.proofs.Taken.{taken_of_held, front_of_held, front_taken, on_err}
+use Rattle.playlist_write.proofs.pieces.write_pieces_of_segments.Goals as goal
+
+pub returns-in_err-hand_out_written_piece-clause-err : goal.returns-in_err-hand_out_written_piece-clause-err
+returns-in_err-hand_out_written_piece-clause-err g c =
+    let later = said_text (segments_owed (after_segment c.loop-next.force c.in-Some.next) c.next.new.self) in
+    let held : string_bytes c.loop-next.held ++ said_text (segments_owed c.loop-next.force c.loop-next.segments) ≡ string_bytes c.write_next_segment_lines.new.out ++ later =
+    grind (arith, common_steps) in
+    on_err c.from_residual-in_err-hand_out_written_piece.result _ (front_of_held _ _ _ _ _ (string_bytes c.write_next_segment_lines.new.out) later c.loop-next.invariant.taken held c.in_err-hand_out_written_piece.ensures.err)
+
+pub loop-next-preserved : goal.loop-next-preserved
+loop-next-preserved g c =
+    let later = said_text (segments_owed c.in_ok-force.force c.next.new.self) in
+    let held : string_bytes c.loop-next.held ++ said_text (segments_owed c.loop-next.force c.loop-next.segments) ≡ string_bytes c.write_next_segment_lines.new.out ++ later =
+    grind (arith, common_steps) in
+    record {
+      taken = taken_of_held _ _ _ _ _ (string_bytes c.write_next_segment_lines.new.out) later _ c.loop-next.invariant.taken held c.in_ok-hand_out_written_piece.ensures.ok;
+      failed = grind arith;
+    }
+
+pub returns-in_err-force-clause-err : goal.returns-in_err-force-clause-err
+returns-in_err-force-clause-err g c = grind (arith, common_steps, on_err, front_taken)

@@ -1,8 +1,0 @@
-use Rattle.std.proofs.Common.{arith}
-use Rattle.std.proofs.lemmas.List.{append-nil}
-use Rattle.std.proofs.lemmas.Grind.{common_steps}
-use Rattle.playlist_write.proofs.Changes.{nothing_owed}
-use Rattle.playlist_write.proofs.segments.push_changes.Goals as goal
-
-pub returns-then-changes_nothing-clause-text : goal.returns-then-changes_nothing-clause-text
-returns-then-changes_nothing-clause-text c = grind (arith, common_steps, append-nil, nothing_owed)

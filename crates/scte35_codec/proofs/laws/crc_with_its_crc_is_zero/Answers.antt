@@ -1,5 +1,0 @@
-use Rattle.scte35_codec.proofs.Registers.{crc_is_zero}
-use Rattle.scte35_codec.proofs.laws.crc_with_its_crc_is_zero.Goals as goal
-
-pub returns : goal.returns
-returns c = crc_is_zero

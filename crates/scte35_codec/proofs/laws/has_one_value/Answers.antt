@@ -1,5 +1,0 @@
-use Rattle.scte35_codec.proofs.Whole.{one_value}
-use Rattle.scte35_codec.proofs.laws.has_one_value.Goals as goal
-
-pub returns : goal.returns
-returns c = one_value

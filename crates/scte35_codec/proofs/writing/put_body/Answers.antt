@@ -1,9 +1,0 @@
-use Rattle.scte35_codec.specs.Section.{body_fields}
-use Rattle.scte35_codec.proofs.Appends.{Appends-then}
-use Rattle.scte35_codec.proofs.writing.put_body.Goals as goal
-
-pub returns : goal.returns
-unfolding body_fields
-returns c =
-    let ids = Appends-then (Appends-then c.in_ok-put_u16.ensures c.in_ok-put_u8.ensures) c.in_ok-put_u8-2.ensures in
-    Appends-then (Appends-then (Appends-then c.in_ok-put_flags.ensures c.in_ok-put_target.ensures) c.in_ok-put_duration.ensures) ids

@@ -1,9 +1,0 @@
-use Rattle.std.proofs.Common.{rules, not}
-use Rattle.std.specs.Prelude.{bytes_eq}
-use Rattle.std.proofs.lemmas.Fn.{filter_same}
-use Rattle.playlist_model.specs.declared.Key.{Key}
-use Rattle.segment_state.proofs.keys.remove_format.Goals as goal
-
-pub returns-clause-items : goal.returns-clause-items
-returns-clause-items c =
-    filter_same _ (λ (k : Key). not (bytes_eq c.args.format.now k.format)) _ (λ x b f' t. search rules) _ _ c.retain.ensures.filtered
