@@ -119,6 +119,12 @@ def formats(count: int, length: int) -> bytes:
     return under(format_keys(16, length), count)
 
 
+def moved(count: int, length: int, gone: int) -> bytes:
+    """The same, once so many segments are gone and as many have come."""
+    each = b"".join(b"#EXTINF:1,\ns%d\n" % number for number in range(gone, gone + count))
+    return HEAD + b"#EXT-X-MEDIA-SEQUENCE:%d\n" % gone + format_keys(16, length) + each
+
+
 def with_last_title(text: bytes) -> bytes:
     """The text with another title at its last segment."""
     front, _, last = text.rpartition(b"#EXTINF:1,")
@@ -130,7 +136,9 @@ def changing_key(count: int, length: int, each: bytes) -> bytes:
     return HEAD + format_keys(15, length) + b"".join(each.replace(b"%d", b"%d" % number) + b"#EXTINF:1,\ns\n" for number in range(count))
 
 
+STEP = b"#EXT-X-DISCONTINUITY\n"
 KEY = b'#EXT-X-KEY:METHOD=AES-128,URI="k",IV=0x%d\n'
+SAME_MAP = KEY + b'#EXT-X-MAP:URI="m"\n'
 KEY_AND_MAP = KEY + b'#EXT-X-MAP:URI="m%d"\n#EXT-X-KEY:METHOD=AES-128,URI="j",IV=0x%d\n'
 
 
@@ -208,6 +216,11 @@ def other_title(part: float) -> Work:
     return Work([], [text, with_last_title(text), text])
 
 
+def moving(part: float) -> Work:
+    count, length = int(10_000 * part), int(250_000 * part)
+    return Work([], [moved(count, length, 0), moved(count, length, count * 2 // 5)])
+
+
 def long_base(part: float) -> Work:
     text = HEAD + segments(int(10_000 * part))
     return Work([], [text, text], base=b"http://origin.example/" + b"b" * int(20_000 * part) + b"/index.m3u8")
@@ -224,21 +237,18 @@ KINDS = [
     Kind("one break with a long ID", lambda part: twice(one_break(int(10_000 * part), int(4_000_000 * part)), FALLBACK)),
     Kind("a closed break with a long ID", lambda part: twice(closed_break(int(10_000 * part), int(3_500_000 * part)), FALLBACK)),
     Kind("two breaks with long IDs, entered in turns", lambda part: twice(breaks_in_turns(int(10_000 * part), int(200_000 * part)), FALLBACK),
-         "3.0 s a push of the largest size"),
+         "0.7 s a push of the largest size"),
     Kind("two breaks with long IDs among small ones", lambda part: twice(long_among_small(int(11_000 * part), int(1_200_000 * part)), FALLBACK)),
     Kind("why of breaks that ended, under a long fallback", reasons),
-    Kind("one EXT-X-MAP with a long URI", lambda part: twice(under(b'#EXT-X-MAP:URI="%s"\n' % (b"m" * int(4_000_000 * part)), int(10_000 * part))),
-         "1.9 s"),
-    Kind("one key with a long URI", lambda part: twice(under(b'#EXT-X-KEY:METHOD=AES-128,URI="%s",IV=0x1\n' % (b"k" * int(4_000_000 * part)), int(10_000 * part))),
-         "1.9 s"),
-    Kind("16 keys with long formats", lambda part: twice(formats(int(10_000 * part), int(250_000 * part))),
-         "1.9 s"),
-    Kind("16 keys with long formats, then another title", other_title,
-         "1.9 s, and 3.4 s with the other title"),
-    Kind("15 keys with long formats, and one that changes", lambda part: twice(changing_key(int(10_000 * part), int(230_000 * part), KEY)),
-         "5.0 s"),
-    Kind("15 keys with long formats, a key and a map that change", lambda part: twice(changing_key(int(10_000 * part), int(180_000 * part), KEY_AND_MAP)),
-         "7.9 s"),
+    Kind("one EXT-X-MAP with a long URI", lambda part: twice(under(b'#EXT-X-MAP:URI="%s"\n' % (b"m" * int(4_000_000 * part)), int(10_000 * part)))),
+    Kind("one key with a long URI", lambda part: twice(under(b'#EXT-X-KEY:METHOD=AES-128,URI="%s",IV=0x1\n' % (b"k" * int(4_000_000 * part)), int(10_000 * part)))),
+    Kind("16 keys with long formats", lambda part: twice(formats(int(10_000 * part), int(250_000 * part)))),
+    Kind("16 keys with long formats, then another title", other_title),
+    Kind("16 keys with long formats, and a window that moves", moving),
+    Kind("15 keys with long formats, and a discontinuity at each segment", lambda part: twice(changing_key(int(10_000 * part), int(250_000 * part), STEP))),
+    Kind("15 keys with long formats, and one that changes", lambda part: twice(changing_key(int(10_000 * part), int(230_000 * part), KEY))),
+    Kind("15 keys with long formats, one that changes and a map again", lambda part: twice(changing_key(int(10_000 * part), int(210_000 * part), SAME_MAP))),
+    Kind("15 keys with long formats, a key and a map that change", lambda part: twice(changing_key(int(10_000 * part), int(180_000 * part), KEY_AND_MAP))),
     Kind("a small text that is refused, over a large one", refused_small),
     Kind("a long base", long_base),
     Kind("short breaks under a long fallback", lambda part: twice(break_each(max(1, int(60 * part)), 5), fallback(500, int(8_000 * part)))),

@@ -1,7 +1,9 @@
 pub mod Extended
 pub mod Found
+pub mod Alike
 pub mod Listed
 pub mod Marked
+pub mod MarkedSoFar
 pub mod Passing
 pub mod Placed
 pub mod Ranges

@@ -3,3 +3,4 @@ pub mod NewItems
 pub mod Listed
 pub mod Placing
 pub mod Terms
+pub mod Marked

@@ -1,7 +1,9 @@
 -- The new segments of a refresh, marked in the order of the playlist.
 use mathlib.Core.List.{reverse_aux}
-use Rattle.std.specs.Prelude.{ℕ, ◌+◌, min, length, Bool, false, List, [], ◌∷◌, map, reverse, ℤ, Option, Some, None, if◌then◌else◌}
+use Rattle.std.specs.Prelude.{ℕ, ◌+◌, min, length, Bool, false, List, [], ◌∷◌, drop, map, reverse, ℤ, Option, Some, None, if◌then◌else◌}
 use Rattle.playlist_model.specs.Segments.{Segment}
+use Rattle.playlist_model.specs.InCommon.{nothing_in_common}
+use Rattle.playlist_model.specs.declared.in_common.InCommon.{InCommon}
 use Rattle.pod_store.specs.Pods.{Pod, total}
 use Rattle.pod_store.specs.Marks.{Marked}
 use Rattle.playlist_model.specs.LookBack.{or_earlier}
@@ -29,13 +31,18 @@ stays m (Some id) instant = is_still_inside m id instant (pod_for m.store id)
 abbrev pub next_id : Moment → Option (List ℕ) → Option (List ℕ) → Option ℤ → Option (List ℕ)
 next_id m newest last instant = if stays m newest instant then newest else entered (limits m last) m.store m.breaks instant
 
--- these segments, which begin at these instants, with their marks
-abbrev pub mark_on : Moment → Option (List ℕ) → Option (List ℕ) → List Segment → List (Option ℤ) → List Held
-mark_on m newest last [] instants = []
-mark_on m newest last (s ∷ later) [] = []
-mark_on m newest last (s ∷ later) (instant ∷ instants) =
-    record { segment = s; instant = instant; mark = next_id m newest last instant; goes_on = is_same_stitched_run (next_id m newest last instant) newest }
-    ∷ mark_on m (next_id m newest last instant) (or_earlier (next_id m newest last instant) last) later instants
+-- the first of these; nothing in common if none is left
+abbrev pub first_common : List InCommon → InCommon
+first_common [] = nothing_in_common
+first_common (common ∷ later) = common
+
+-- these segments, which begin at these instants, with their marks, and with what each has in common with the one before it
+abbrev pub mark_on : Moment → Option (List ℕ) → Option (List ℕ) → List InCommon → List Segment → List (Option ℤ) → List Held
+mark_on m newest last commons [] instants = []
+mark_on m newest last commons (s ∷ later) [] = []
+mark_on m newest last commons (s ∷ later) (instant ∷ instants) =
+    record { segment = s; instant = instant; mark = next_id m newest last instant; goes_on = is_same_stitched_run (next_id m newest last instant) newest; in_common = first_common commons }
+    ∷ mark_on m (next_id m newest last instant) (or_earlier (next_id m newest last instant) last) (drop 1 commons) later instants
 
 -- the first list, turned round, before the second
 abbrev pub reversed_onto : {A : Type 0} → List A → List A → List A

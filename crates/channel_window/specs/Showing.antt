@@ -1,9 +1,9 @@
 -- What is kept in a channel's state, and what it shows with a playlist.
-use Rattle.std.specs.Prelude.{◌≡◌, ℕ, List, None, filter, length}
+use Rattle.std.specs.Prelude.{◌≡◌, ℕ, List, filter, length}
 use Rattle.playlist_model.specs.declared.Playlist.{Playlist}
 use Rattle.playlist_model.specs.LookBack.{or_earlier}
 use Rattle.pod_store.specs.Store.{Store}
-use Rattle.stitcher.specs.StitchedSegments.{AreDecided, KnowRuns, rest_in}
+use Rattle.stitcher.specs.StitchedSegments.{AreDecided, KnowPrevious, rest_in}
 use Rattle.stitcher.specs.declared.marked.MarkedSegment.{MarkedSegment as Held}
 use Rattle.break_finder.specs.Known.{carry}
 use Rattle.channel_spec.specs.Marking.{is_new, last_entered}
@@ -31,11 +31,11 @@ kept_in state = record {
 abbrev pub kept_before : Before → ChannelState
 kept_before before = record before.state.now { list = before.list.now }
 
--- this store has the pod of each mark of a shown segment, and of the rest; and the segments know their runs
+-- this store has the pod of each mark of a shown segment, and of the rest; and the segments know of those before them
 pub record AreKept (store : Store) (state : ChannelState) : Type 0 where
   pub decided : AreDecided store state.list
   pub rest : IsRestDecided store state.shown.rest
-  pub runs : KnowRuns None state.list
+  pub previous : KnowPrevious state.list
 
 -- the break that the newest marked segment is marked with is the last one entered
 abbrev pub IsLastEntered : Kept → Type 0
@@ -50,5 +50,5 @@ pub record IsShown (tolerance : ℕ) (state : ChannelState) (p : Playlist) (held
   pub entered : a.entered ≡ or_earlier (last_entered (history_in state.store held)) state.shown.entered
   pub length : a.so_far ≡ kept_length tolerance (kept_in state) p
   pub decided : AreDecided state.store held
-  pub runs : KnowRuns None held
+  pub previous : KnowPrevious held
   pub rising : AreRising held

@@ -1,26 +1,31 @@
 //! The new segments of a refresh, with the breaks that they are marked with.
-ghost use Rattle.std.specs.Prelude.{◌≡◌, ◌++◌, ◌+◌, ℕ, ℤ, true, List, Option, IfOk, OnOk, None, is_some};
+ghost use Rattle.std.specs.Prelude.{◌≡◌, ◌+◌, ℕ, ℤ, true, List, Option, IfOk, IfSome, OnOk, Some, None, is_some};
 ghost use Rattle.std.specs.Option.{option_copied};
 ghost use Rattle.playlist_model.specs.LookBack.{or_earlier};
+ghost use Rattle.playlist_model.specs.Segments.{Segment};
+ghost use Rattle.playlist_model.specs.declared.in_common.InCommon.{InCommon};
 ghost use Rattle.pod_store.specs.Store.{has_no_pod};
 ghost use Rattle.break_finder.specs.Entering.{entered};
-ghost use Rattle.channel_spec.specs.Marking.{limits};
+ghost use Rattle.channel_spec.specs.Marking.{Moment, limits};
 ghost use Rattle.channel_spec.specs.Successor.{has_init_sections};
 ghost use Rattle.playlist_kept.specs.Kept.{playlist_in};
 ghost use Rattle.stitcher.specs.Making.{is_same_stitched_run};
+ghost use Rattle.stitcher.specs.StitchedSegments.{KnowCommon};
 ghost use Rattle.channel_window.specs.Marking.{next_id, mark_on, length_after};
 ghost use Rattle.channel_window.specs.Inner.Terms.{entered_after};
-ghost use Rattle.channel_window.specs.Inner.Terms.{AreTerms, IsExtended, HasItsTerms, window_run_length_capped_at, is_window_time_among, window_segment_stays_in};
+ghost use Rattle.channel_window.specs.Inner.Marked.{AreMarked};
+ghost use Rattle.channel_window.specs.Inner.Terms.{AreKnownTerms, AreTerms, IsExtended, HasItsTerms, window_run_length_capped_at, is_window_time_among, window_segment_stays_in};
 
 use crate::state::Shown;
 use crate::successor::successor_has_init_sections;
 use break_finder::{Entrances, Knowledge, Stay, TimesWithin};
 use fixed_duration::Nanos;
 use playlist_kept::Read;
-use playlist_model::{Instant, Member, Members, Shared, Text};
+use playlist_model::{InCommon, Instant, Member, Members, Shared, Text};
 use pod_store::PodStore;
 use std::alloc::{AllocError, Global};
 use std::marker::Model;
+use std::mem;
 use stitcher::{MarkedSegment, SharedMark, is_same_stitched_run};
 use timeline::{Beginnings, OptionalInstant};
 
@@ -105,6 +110,23 @@ pub struct Marks {
     pub so_far: Nanos,
 }
 
+// The terms of a break, as they were looked up.
+#[derive(Drop)]
+struct KnownTerms {
+    id: Shared<Text>,
+    terms: Option<Terms>,
+}
+
+// The terms of a break, if these are of it.
+fn known_terms_of_mark(known: &Option<KnownTerms>, id: &Text) -> Option<Option<Terms>>
+    ensures { (m : Moment) → AreKnownTerms m known.now → IfSome result (AreTerms m (Some id.now)) }
+{
+    match known {
+        Some(known) if known.id.as_str() == id.as_str() => Some(known.terms),
+        _ => None,
+    }
+}
+
 /// What decides the marks of a refresh's segments, with the breaks that can be entered in it.
 #[derive(Drop)]
 pub struct Marker<'a> {
@@ -116,18 +138,22 @@ pub struct Marker<'a> {
     entrances: Entrances<'a>,
     // None, which the segments without a mark own together.
     unmarked: SharedMark,
+    // The terms that were looked up last, and those before them: segments may enter two breaks in turns.
+    last_terms: Option<KnownTerms>,
+    earlier_terms: Option<KnownTerms>,
 }
 
 impl<'a> Model for Marker<'a> {
     ghost use Rattle.std.specs.Prelude.{◌≡◌, None};
     ghost use Rattle.break_finder.specs.Entrances.{entrances_in};
     ghost use Rattle.channel_spec.specs.Marking.{Moment};
+    ghost use Rattle.channel_window.specs.Inner.Terms.{AreKnownTerms};
 
     ghost Value = { Moment };
 
     ghost view = { λ a. record { tolerance = a.tolerance; target_duration = a.target_duration; with_init_sections = a.with_init_sections; breaks = a.knowledge.now; store = a.store.now } };
 
-    ghost invariant = { λ a. (a.entrances ≡ record { tolerance = a.tolerance; found = entrances_in a.target_duration a.with_init_sections a.store.now a.knowledge.now }) × (a.unmarked ≡ None) };
+    ghost invariant = { λ a. (a.entrances ≡ record { tolerance = a.tolerance; found = entrances_in a.target_duration a.with_init_sections a.store.now a.knowledge.now }) × (a.unmarked ≡ None) × AreKnownTerms (record { tolerance = a.tolerance; target_duration = a.target_duration; with_init_sections = a.with_init_sections; breaks = a.knowledge.now; store = a.store.now }) a.last_terms × AreKnownTerms (record { tolerance = a.tolerance; target_duration = a.target_duration; with_init_sections = a.with_init_sections; breaks = a.knowledge.now; store = a.store.now }) a.earlier_terms };
 }
 
 // Notes the break that marks a segment, if one does, as the last one entered.
@@ -164,14 +190,16 @@ fn window_segment_marked_with(
     segment: Member,
     instant: OptionalInstant,
     next: NextMark,
+    in_common: InCommon,
 ) -> MarkedSegment
-    ensures { result ≡ record { segment = segment; instant = instant; mark = next.mark; goes_on = next.goes_on } }
+    ensures { result ≡ record { segment = segment; instant = instant; mark = next.mark; goes_on = next.goes_on; in_common = in_common } }
 {
     MarkedSegment {
         segment,
         instant,
         mark: next.mark,
         goes_on: next.goes_on,
+        in_common,
     }
 }
 
@@ -206,11 +234,13 @@ impl<'a> Marker<'a> {
                 segments,
             )?,
             unmarked: Shared::new(alloc, None)?,
+            last_terms: None,
+            earlier_terms: None,
         })
     }
 
     // The terms of the break of a mark, if it has a pod.
-    fn terms_of(&self, mark: &Option<Shared<Text>>) -> Option<Terms>
+    fn look_up_terms(&self, mark: &Option<Shared<Text>>) -> Option<Terms>
         ensures { AreTerms self.now mark.now result }
     {
         let Some(id) = mark else {
@@ -223,6 +253,32 @@ impl<'a> Marker<'a> {
             }),
             None => None,
         }
+    }
+
+    // The same. A long ID costs much to look up: the terms of the last two are kept.
+    fn terms_of(&mut self, mark: &Option<Shared<Text>>) -> Result<Option<Terms>, AllocError>
+        ensures terms { IfOk result (AreTerms self.old mark.now) }
+        ensures kept { self.new ≡ self.old }
+    {
+        let Some(id) = mark else {
+            return Ok(None);
+        };
+        // In turns it is the one before the last.
+        if let Some(terms) = known_terms_of_mark(&self.earlier_terms, id) {
+            mem::swap(&mut self.last_terms, &mut self.earlier_terms);
+            return Ok(terms);
+        }
+        if let Some(terms) = known_terms_of_mark(&self.last_terms, id) {
+            return Ok(terms);
+        }
+        let terms = self.look_up_terms(mark);
+        let known = KnownTerms {
+            id: id.clone()?,
+            terms,
+        };
+        self.earlier_terms = self.last_terms.take();
+        self.last_terms = Some(known);
+        Ok(terms)
     }
 
     #[tactic(auto, using(crate::proofs::Marked::none_entered))]
@@ -311,7 +367,7 @@ impl<'a> Marker<'a> {
         let before = if goes_on { run.so_far } else { Nanos(0) };
         enter_window_mark(&mut run.entered, &mark)?;
         run.before = mark.clone()?;
-        run.terms = self.terms_of(&mark);
+        run.terms = self.terms_of(&mark)?;
         run.quiet = self.quiet_around(instant.get(), mark_text_in_window(&run.entered));
         run.so_far = window_run_length_capped_at(&run.terms, duration, before);
         Ok(NextMark { mark, goes_on })
@@ -347,24 +403,25 @@ impl<'a> Marker<'a> {
         self.begin(alloc, run, instant, duration)
     }
 
-    // The next segment with its mark; `run` is then as far as it.
+    // The next segment with its mark, and with what it has in common with the one before it; `run` is then as far as it.
     fn next(
         &mut self,
         alloc: Global,
         run: &mut Run,
         segment: Member,
         instant: OptionalInstant,
+        in_common: InCommon,
     ) -> Result<MarkedSegment, AllocError>
         requires { HasItsTerms self.old run.old }
         ensures marked { IfOk result
-            (λ m. m ≡ record { segment = segment; instant = instant; mark = next_id self.old run.old.before run.old.entered instant; goes_on = is_same_stitched_run (next_id self.old run.old.before run.old.entered instant) run.old.before }) }
+            (λ m. m ≡ record { segment = segment; instant = instant; mark = next_id self.old run.old.before run.old.entered instant; goes_on = is_same_stitched_run (next_id self.old run.old.before run.old.entered instant) run.old.before; in_common = in_common }) }
         ensures goes { IfOk result
             (λ m. IsExtended self.old.store segment.duration m.mark run.old run.new) }
         ensures run { OnOk result (HasItsTerms self.old run.new) }
         ensures kept { self.new ≡ self.old }
     {
         let mark = self.next_mark(alloc, run, &segment, instant)?;
-        Ok(window_segment_marked_with(segment, instant, mark))
+        Ok(window_segment_marked_with(segment, instant, mark, in_common))
     }
 
     // Puts these segments, which begin at these instants, after those that are done, with their marks.
@@ -377,23 +434,21 @@ impl<'a> Marker<'a> {
         done: &mut Vec<MarkedSegment>,
     ) -> Result<(), AllocError>
         requires { HasItsTerms self.old run.old }
-        ensures list { OnOk result
-            (done.new.items ≡ done.old.items
-            ++ mark_on self.old run.old.before run.old.entered segments.old instants.old) }
-        ensures entered { OnOk result
-            (run.new.entered ≡ entered_after run.old.entered
-            (mark_on self.old run.old.before run.old.entered segments.old instants.old)) }
-        ensures so_far { OnOk result
-            (run.new.so_far ≡ length_after self.old.store run.old.before run.old.so_far
-            (mark_on self.old run.old.before run.old.entered segments.old instants.old)) }
+        ensures marked { OnOk result
+            (AreMarked self.old run.old run.new segments.old instants.old done.old.items done.new.items) }
     {
-        while let Some(segment) = segments.next()? {
+        let mut in_common = InCommon::nothing();
+        loop {
+            let next_in_common = segments.second_in_common();
+            let Some(segment) = segments.next()? else {
+                return Ok(());
+            };
             let Some(instant) = instants.next()? else {
                 return Ok(());
             };
-            done.push(self.next(alloc, run, segment, instant)?)?;
+            done.push(self.next(alloc, run, segment, instant, in_common)?)?;
+            in_common = next_in_common;
         }
-        Ok(())
     }
 
     // The same if no break is decided, with no fallback, and the segment before has no mark: none of these has one.
@@ -406,17 +461,15 @@ impl<'a> Marker<'a> {
     ) -> Result<(), AllocError>
         requires empty { has_no_pod self.now.store ≡ true }
         requires unmarked { run.old.before ≡ None }
-        ensures list { OnOk result
-            (done.new.items ≡ done.old.items
-            ++ mark_on self.now run.old.before run.old.entered segments.old instants.old) }
-        ensures entered { OnOk result
-            (run.new.entered ≡ entered_after run.old.entered
-            (mark_on self.now run.old.before run.old.entered segments.old instants.old)) }
-        ensures so_far { OnOk result
-            (run.new.so_far ≡ length_after self.now.store run.old.before run.old.so_far
-            (mark_on self.now run.old.before run.old.entered segments.old instants.old)) }
+        ensures marked { OnOk result
+            (AreMarked self.now run.old run.new segments.old instants.old done.old.items done.new.items) }
     {
-        while let Some(segment) = segments.next()? {
+        let mut in_common = InCommon::nothing();
+        loop {
+            let next_in_common = segments.second_in_common();
+            let Some(segment) = segments.next()? else {
+                return Ok(());
+            };
             let Some(begun) = instants.next()? else {
                 return Ok(());
             };
@@ -425,9 +478,9 @@ impl<'a> Marker<'a> {
                 mark: self.unmarked.clone()?,
                 goes_on: false,
             };
-            done.push(window_segment_marked_with(segment, begun, unmarked))?;
+            done.push(window_segment_marked_with(segment, begun, unmarked, in_common))?;
+            in_common = next_in_common;
         }
-        Ok(())
     }
 
     // How far the marks are before the first new segment.
@@ -439,7 +492,7 @@ impl<'a> Marker<'a> {
         ensures so_far { IfOk result (λ run. run.so_far ≡ shown.now.so_far) }
     {
         Ok(Run {
-            terms: self.terms_of(&newest),
+            terms: self.look_up_terms(&newest),
             before: newest,
             entered: copied_window_mark(&shown.entered)?,
             quiet: None,
@@ -448,7 +501,8 @@ impl<'a> Marker<'a> {
     }
 
     /// The new `segments`, which begin at the `instants`, with their marks, after those of `shown`, the newest of which
-    /// has the mark `newest`. A segment enters a break, or stays in the break of the segment before it, or has no mark.
+    /// has the mark `newest`. A segment enters a break, or stays in the break of the segment before it, or has no mark. Each knows
+    /// what it has in common with the one before it, and the first says that it has nothing in common with any other.
     /// Fails only if an allocation fails.
     pub fn mark(
         self,
@@ -460,8 +514,10 @@ impl<'a> Marker<'a> {
     ) -> Result<Marks, AllocError>
         requires { or_earlier newest shown.now.entered ≡ shown.now.entered }
         ensures list { IfOk result
-            (λ marks. marks.list.items
-            ≡ mark_on self.entry newest shown.now.entered segments.entry instants.entry) }
+            (λ marks. (commons : List InCommon) × (marks.list.items
+            ≡ mark_on self.entry newest shown.now.entered commons segments.entry instants.entry)) }
+        ensures common { IfOk result
+            (λ marks. (before : Option Segment) → KnowCommon before marks.list.items) }
         ensures entered { IfOk result
             (λ marks. marks.entered ≡ entered_after shown.now.entered marks.list.items) }
         ensures so_far { IfOk result

@@ -1,6 +1,6 @@
 //! The breaks that are known after a refresh, and the segments that are shown then.
-ghost use Rattle.std.specs.Prelude.{None, IfOk, ◌++◌, ◌≤◌, length};
-ghost use Rattle.stitcher.specs.StitchedSegments.{AreDecided, KnowRuns};
+ghost use Rattle.std.specs.Prelude.{IfOk, ◌++◌, ◌≤◌, length};
+ghost use Rattle.stitcher.specs.StitchedSegments.{AreDecided, KnowPrevious};
 ghost use Rattle.playlist_kept.specs.Kept.{playlist_in};
 ghost use Rattle.channel_window.specs.Checked.{AreContiguous, AreTaken};
 ghost use Rattle.channel_window.specs.Listed.{RisesOn, window_segments_in};
@@ -47,7 +47,7 @@ pub fn shown_with(
     requires taken { AreTaken (window_segments_in state.now.list) read.now.taken.now }
     requires front { read.now.front ≤ length read.now.playlist.segments }
     requires decided { AreDecided state.now.store state.now.list }
-    requires runs { KnowRuns None state.now.list }
+    requires previous { KnowPrevious state.now.list }
     requires entered { IsLastEntered (kept_in state.now) }
     requires rising { RisesOn state.now.list (playlist_in read.now).segments }
     ensures { IfOk result

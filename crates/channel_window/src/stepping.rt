@@ -4,7 +4,7 @@ ghost use Rattle.std.specs.List.{list_all};
 ghost use Rattle.pod_store.specs.Store.{Store};
 ghost use Rattle.stitcher.specs.Stitched.{stitched};
 ghost use Rattle.stitcher.specs.Paced.{due_with, rest_pieces};
-ghost use Rattle.stitcher.specs.StitchedSegments.{AreDecided, KnowRuns, item_fits, rest_in, stitched_segments};
+ghost use Rattle.stitcher.specs.StitchedSegments.{AreDecided, KnowPrevious, KnowRuns, item_fits, rest_in, stitched_segments};
 ghost use Rattle.channel_spec.specs.Kept.{items_on};
 ghost use Rattle.channel_spec.specs.LastWindow.{last_items, last_pieces};
 ghost use Rattle.channel_spec.specs.LiveLaws.{GoesOn};
@@ -55,7 +55,7 @@ fn stitch_window_if_in_range<'a>(
     ends: &Ends,
 ) -> Result<Option<StitchedList<'a>>, AllocError>
     requires decided { AreDecided store.now list.now }
-    requires runs { KnowRuns None list.now }
+    requires previous { KnowPrevious list.now }
     ensures { IfOk result
         (λ some. IfSome some (λ v. (v ≡ stitched_segments store.now first ends.now list.now)
         × (list_all item_fits v ≡ true))) }
@@ -86,7 +86,7 @@ fn window_run_items<'a>(
     lasted: Nanos,
 ) -> Result<Option<StitchedList<'a>>, AllocError>
     requires decided { AreDecided store.now list.now }
-    requires runs { KnowRuns None list.now }
+    requires previous { KnowPrevious list.now }
     ensures { IfOk result
         (λ some. IfSome some
         (λ v. (v ≡ out_of first (due_with ended lasted (history_in store.now list.now)))
@@ -109,7 +109,7 @@ fn window_front_items<'a>(
     rest: &Option<Rest>,
 ) -> Result<Option<StitchedList<'a>>, AllocError>
     requires decided { AreDecided store.now list.now }
-    requires runs { KnowRuns None list.now }
+    requires previous { KnowPrevious list.now }
     ensures { IfOk result
         (λ some. IfSome some
         (λ v. v ≡ out_of first
@@ -191,7 +191,7 @@ pub fn window_run_end(
     items: &StitchedList<'_>,
 ) -> Result<Option<Ending>, AllocError>
     requires decided { AreDecided store.now list.now }
-    requires runs { KnowRuns None list.now }
+    requires previous { KnowPrevious list.now }
     ensures { IfOk result
         (λ some. IfSome some (IsEndOf store.now ended lasted list.now items.now)) }
 {
@@ -227,7 +227,7 @@ fn later_window_items<'a>(
     ending: &Ending,
 ) -> Result<Option<Later<'a>>, AllocError>
     requires decided { AreDecided (kept_before before.now).store list.now }
-    requires runs { KnowRuns None list.now }
+    requires previous { KnowPrevious list.now }
     requires stands { take (length (kept_before before.now).list) list.now ≡ (kept_before before.now).list }
     requires stood { stood ≡ length (last_pieces (kept_before before.now).last (kept_in (kept_before before.now))) }
     requires goes_on { GoesOn (last_items (kept_in (kept_before before.now)))
@@ -278,7 +278,7 @@ fn next_window_end(
     later: &Later<'_>,
 ) -> Result<Option<Ending>, AllocError>
     requires decided { AreDecided store.now list.now }
-    requires runs { KnowRuns None list.now }
+    requires previous { KnowPrevious list.now }
     requires begins { BeginsAt store.now later.now.begin list.now }
     requires within { later.now.begin ≤ length list.now }
     requires items { length later.now.items
@@ -312,7 +312,7 @@ fn first_window_items<'a>(
     list: &'a [MarkedSegment],
 ) -> Result<Option<StitchedList<'a>>, AllocError>
     requires decided { AreDecided (kept_before before.now).store list.now }
-    requires runs { KnowRuns None list.now }
+    requires previous { KnowPrevious list.now }
     ensures { IfOk result
         (λ some. IfSome some (IsFirst (kept_before before.now) list.now)) }
 {
@@ -338,7 +338,7 @@ pub fn stepped_window_of<'a>(
     ending: &Ending,
 ) -> Result<Option<SteppedList<'a>>, AllocError>
     requires decided { AreDecided (kept_before before.now).store list.now }
-    requires runs { KnowRuns None list.now }
+    requires previous { KnowPrevious list.now }
     requires rising { AreRising list.now }
     requires rest { IsRestDecided (kept_before before.now).store (kept_before before.now).shown.rest }
     requires stands { take (length (kept_before before.now).list) list.now ≡ (kept_before before.now).list }

@@ -1,15 +1,19 @@
 //! Which playlist may follow which (RFC 8216, sections 6.2.1 and 6.2.2).
-ghost use Rattle.std.specs.Prelude.{◌≡◌, true, false, not, ◌&&◌, option_map};
+ghost use Rattle.std.specs.Prelude.{◌≡◌, List, Some, None, slice_get, true, false, not, ◌&&◌, option_map};
+ghost use Rattle.playlist_model.specs.Segments.{Segment};
+ghost use Rattle.playlist_model.specs.InCommon.{AreAlike, HaveInCommon};
+ghost use Rattle.stitcher.specs.declared.marked.MarkedSegment.{MarkedSegment};
+ghost use Rattle.stitcher.specs.StitchedSegments.{KnowCommon};
 ghost use Rattle.channel_spec.specs.declared.fault.RefreshFault.TheVariants.{Changed};
 ghost use Rattle.channel_spec.specs.Successor.{end_number, first_changed, first_discontinuity, first_number, discontinuity_out_of_range, has_init_sections, is_same_window, last_discontinuity, answer_of, following_fault};
 ghost use Rattle.playlist_kept.specs.Kept.{playlist_in};
 ghost use Rattle.channel_window.specs.Checked.{AreContiguous, AreTaken};
 ghost use Rattle.channel_window.specs.Listed.{window_segments_in};
-ghost use Rattle.channel_window.specs.Inner.Checked.{is_as_before};
+ghost use Rattle.channel_window.specs.Inner.Checked.{IsAlike, is_as_before};
 
 use channel_spec::{Heading, RefreshFault};
 use playlist_kept::{Read, is_same_kind};
-use playlist_model::{SegmentRef, SegmentSlice, same_segment};
+use playlist_model::{InCommon, SegmentRef, SegmentSlice, same_segment};
 use stitcher::MarkedSegment;
 
 /// The Media Sequence Number of the first segment of the playlist that was `read` (RFC 8216, section 4.3.3.2); 0 if it has
@@ -88,31 +92,95 @@ pub fn shown_have_init_sections(shown: &[MarkedSegment]) -> bool
     }
 }
 
-// Whether a segment is as it is shown, or isn't shown.
-fn is_segment_as_shown(shown: &[MarkedSegment], segment: &SegmentRef<'_>) -> bool
-    requires { AreContiguous (window_segments_in shown.now) }
+// What a segment has in common with the shown one at a place. It says nothing of other places.
+#[derive(Clone, Copy)]
+struct Alike {
+    place: usize,
+    in_common: InCommon,
+}
+
+impl Alike {
+    // What is known at a place.
+    fn at(&self, place: usize) -> InCommon
+        ensures { (shown : List MarkedSegment) → (segment : Segment) → (other : MarkedSegment)
+            → IsAlike shown self.now segment → slice_get shown place ≡ Some other
+            → AreAlike result segment other.segment }
+    {
+        if place == self.place {
+            return self.in_common;
+        }
+        InCommon::nothing()
+    }
+}
+
+// Nothing is known.
+fn successor_not_yet_alike() -> Alike
+    ensures { (shown : List MarkedSegment) → (segment : Segment) → IsAlike shown result segment }
+{
+    Alike {
+        place: 0,
+        in_common: InCommon::nothing(),
+    }
+}
+
+// What the segment after this one has in common with the shown one at its place, if this one is as it is shown: both follow
+// segments that are the same. `in_common` is what it has in common with this one.
+fn successor_alike_after(
+    shown: &[MarkedSegment],
+    segment: &SegmentRef<'_>,
+    in_common: InCommon,
+) -> Alike
+    requires contiguous { AreContiguous (window_segments_in shown.now) }
+    requires common { KnowCommon None shown.now }
+    requires same { is_as_before (window_segments_in shown.now) segment.now ≡ true }
+    ensures { (next : Segment) → HaveInCommon in_common segment.now next → IsAlike shown.now result next }
+{
+    let (first, number) = (first_shown_number(shown), segment.media_sequence());
+    if number < first {
+        return successor_not_yet_alike();
+    }
+    let Some(place) = ((number - first) as usize).checked_add(1) else {
+        return successor_not_yet_alike();
+    };
+    match shown.get(place) {
+        Some(next) => Alike {
+            place,
+            in_common: in_common.after_same(next.in_common),
+        },
+        None => successor_not_yet_alike(),
+    }
+}
+
+// Whether a segment is as it is shown, or isn't shown. What it has in common with a shown one is known.
+fn is_segment_as_shown(shown: &[MarkedSegment], segment: &SegmentRef<'_>, alike: &Alike) -> bool
+    requires contiguous { AreContiguous (window_segments_in shown.now) }
+    requires alike { IsAlike shown.now alike.now segment.now }
     ensures { result ≡ is_as_before (window_segments_in shown.now) segment.now }
 {
     let (first, number) = (first_shown_number(shown), segment.media_sequence());
     if number < first {
         return true;
     }
-    match shown.get((number - first) as usize) {
-        Some(other) => same_segment(segment, &other.segment.get()),
+    let place = (number - first) as usize;
+    match shown.get(place) {
+        Some(other) => same_segment(segment, &other.segment.get(), alike.at(place)),
         None => true,
     }
 }
 
 // The number of the first of these segments that isn't as it is shown.
 fn first_changed_of_successor(shown: &[MarkedSegment], new: &SegmentSlice<'_>) -> Option<u64>
-    requires { AreContiguous (window_segments_in shown.now) }
+    requires contiguous { AreContiguous (window_segments_in shown.now) }
+    requires common { KnowCommon None shown.now }
     ensures { option_map Changed result ≡ first_changed (window_segments_in shown.now) new.now }
 {
     let mut rest = new.again();
+    let mut alike = successor_not_yet_alike();
     while let Some((segment, later)) = rest.split_first() {
-        if !is_segment_as_shown(shown, &segment) {
+        if !is_segment_as_shown(shown, &segment, &alike) {
             return Some(segment.media_sequence());
         }
+        alike = successor_alike_after(shown, &segment, rest.second_in_common());
         rest = later;
     }
     None
@@ -122,6 +190,7 @@ fn first_changed_of_successor(shown: &[MarkedSegment], new: &SegmentSlice<'_>) -
 // The number of the first segment that isn't as it is shown. Those that were taken over are.
 fn first_changed_from_shown(shown: &[MarkedSegment], read: &Read<'_>) -> Option<u64>
     requires contiguous { AreContiguous (window_segments_in shown.now) }
+    requires common { KnowCommon None shown.now }
     requires taken { AreTaken (window_segments_in shown.now) read.now.taken.now }
     ensures { option_map Changed result
         ≡ first_changed (window_segments_in shown.now) (playlist_in read.now).segments }
@@ -167,6 +236,7 @@ pub fn check_successor(
     read: &Read<'_>,
 ) -> Result<(), RefreshFault>
     requires contiguous { AreContiguous (window_segments_in shown.now) }
+    requires common { KnowCommon None shown.now }
     requires taken { AreTaken (window_segments_in shown.now) read.now.taken.now }
     ensures { result
         ≡ answer_of (following_fault old.now (window_segments_in shown.now) (playlist_in read.now)) }

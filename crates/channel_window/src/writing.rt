@@ -4,7 +4,7 @@ ghost use Rattle.std.specs.List.{list_all, list_any};
 ghost use Rattle.stitcher.specs.Stitched.{can_be_numbered};
 ghost use Rattle.pod_store.specs.Store.{Store, pod_for};
 ghost use Rattle.playlist_model.specs.declared.DateRange.{DateRange};
-ghost use Rattle.stitcher.specs.StitchedSegments.{AreDecided, IsDecided, KnowRuns, ends_in, item_fits, rest_in, stitched_segments};
+ghost use Rattle.stitcher.specs.StitchedSegments.{AreDecided, IsDecided, KnowPrevious, KnowRuns, ends_in, item_fits, rest_in, stitched_segments};
 ghost use Rattle.stitcher.specs.Written.{written_item};
 ghost use Rattle.channel_spec.specs.Kept.{items_on, listed, numbers_on, rest_after, next_rest, start_on, window_on};
 ghost use Rattle.channel_spec.specs.Inner.Kept.{ends_of};
@@ -45,7 +45,7 @@ fn stitch_window_segments<'a>(
     ends: &Ends,
 ) -> Result<StitchedList<'a>, RefreshFault>
     requires decided { AreDecided store.now list.now }
-    requires runs { KnowRuns None list.now }
+    requires previous { KnowPrevious list.now }
     ensures ok { IfOk result
         (λ v. (v ≡ stitched_segments store.now first ends.now list.now)
         × (list_all item_fits v ≡ true)) }
@@ -244,7 +244,7 @@ pub fn placed_of<'a>(
     stood: usize,
 ) -> Result<PlacedList<'a>, RefreshFault>
     requires decided { AreDecided (kept_before before.now).store list.now }
-    requires runs { KnowRuns None list.now }
+    requires previous { KnowPrevious list.now }
     requires rising { AreRising list.now }
     requires rest { IsRestDecided (kept_before before.now).store (kept_before before.now).shown.rest }
     requires stood { stood ≡ length (last_pieces (kept_before before.now).last (kept_in (kept_before before.now))) }

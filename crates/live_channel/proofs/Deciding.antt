@@ -58,7 +58,7 @@ module _ (base : Parts) (tolerance : ℕ) (state : ChannelState) (text : Option 
       let stay = all_stay (at old) stands.0 new shown state.shown.rest stands.1 refl refl d.decided d.rest keeps_new in
       record {
         stands = (event ∷ stands.0, changed old new event stands.0 stands.1 d keeps_new (follows_new stands.0 stands.1));
-        decided = record { decided = stay.marks.decided; rest = stay.rest.decided; runs = d.runs };
+        decided = record { decided = stay.marks.decided; rest = stay.rest.decided; previous = d.previous };
         changes = (h, moved old new stay);
         on = λ given s. changed old new event given s d keeps_new (follows_new given s);
       }

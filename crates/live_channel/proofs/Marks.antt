@@ -3,7 +3,8 @@ use Rattle.std.proofs.Common.{◌≡◌, ℕ, ◌<◌, ◌≤◌, true, List, []
 use Rattle.std.proofs.lemmas.Bool.{lt-leb}
 use Rattle.std.proofs.lemmas.Slice.Eq.{bytes_eq-Decides}
 use Rattle.std.proofs.lemmas.List.{append-nil}
-use Rattle.std.specs.Prelude.{Option, Some, None, IsSome, option_map}
+use Rattle.std.proofs.lemmas.List.Folds.{list_any-append}
+use Rattle.std.specs.Prelude.{Option, Some, None, IsSome, option_map, bytes_eq, ◌||◌}
 use mathlib.Core.List.{reverse_aux}
 use Rattle.pod_store.specs.Pods.{Pod}
 use Rattle.pod_store.specs.Marks.{Marked, mark_with, mark_in}
@@ -98,3 +99,7 @@ put_again marks new more e = grind arith
 
 pub put_none : (marks more : List (List ℕ)) → more ≡ [] → NameTheSame marks (marks ++ more)
 put_none marks more e = grind (arith, append-nil, itself)
+
+-- a break among those before the last is one of them
+pub named_in_front : (marks before : List (List ℕ)) (last id : List ℕ) → marks ≡ before ++ last ∷ [] → is_one_of before id ≡ true → is_one_of marks id ≡ true
+named_in_front marks before last id e h = ap (λ l. is_one_of l id) e ∙ (list_any-append (bytes_eq id) before (last ∷ []) ∙ ap (λ b. b || is_one_of (last ∷ []) id) h)

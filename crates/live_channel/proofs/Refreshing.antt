@@ -181,7 +181,7 @@ module _ (base : Parts) (tolerance : ℕ) (state : ChannelState) (text : Option 
     goes_so : WasGivenSomething before → Goes (accepted_state grown p a) a.refreshed
     goes_so s =
         let r = steps_refresh before bytes (Ok a.refreshed) after steps in
-        record { stands = (refreshed bytes ∷ s.0, (r s.0 s.1).stands); decided = record { decided = stay.marks.decided; rest = stay.rest.decided; runs = accepted.runs }; refreshes = r }
+        record { stands = (refreshed bytes ∷ s.0, (r s.0 s.1).stands); decided = record { decided = stay.marks.decided; rest = stay.rest.decided; previous = accepted.previous }; refreshes = r }
 
     pub goes : (new : ChannelState) (done : Refreshed) → new ≡ accepted_state grown p a → done ≡ a.refreshed → WasGivenSomething before → Goes new done
     goes new done e k s = subst (λ (x : ChannelState). Goes x done) (sym e) (subst (Goes (accepted_state grown p a)) (sym k) (goes_so s))

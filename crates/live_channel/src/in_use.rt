@@ -21,12 +21,24 @@ fn is_last_live_mark(marks: &[Shared<Text>], id: &Text) -> bool
     }
 }
 
+#[tactic(auto, using(crate::proofs::Marks::named_in_front))]
+// Whether a break is one of the last two of these: segments may enter two breaks in turns.
+fn is_recent_live_mark(marks: &[Shared<Text>], id: &Text) -> bool
+    ensures { result ≡ true → is_one_of marks.now id.now ≡ true }
+{
+    match marks.split_last() {
+        // In turns it is the one before the last.
+        Some((_, before)) => is_last_live_mark(before, id) || is_last_live_mark(marks, id),
+        None => false,
+    }
+}
+
 #[tactic(auto, using(crate::proofs::Marks::put_once, crate::proofs::Marks::put_again))]
-// Puts a break after others, if it isn't the last of them.
+// Puts a break after others, if it isn't one of the last two of them.
 fn push_live_mark_once(marks: &mut Vec<Shared<Text>>, id: &Shared<Text>) -> Result<(), AllocError>
     ensures { OnOk result (NameTheSame marks.new.items (marks.old.items ++ id.now ∷ [])) }
 {
-    if is_last_live_mark(marks.as_slice(), id) {
+    if is_recent_live_mark(marks.as_slice(), id) {
         return Ok(());
     }
     marks.push(id.clone()?)?;

@@ -1,8 +1,9 @@
 //! A refresh in its phases: the playlist is read, it may follow the last one, it is shown, its text is written, and what the
 //! channel comes to is kept.
-ghost use Rattle.std.specs.Prelude.{◌≡◌, ◌≤◌, ℕ, [], Some, IfOk, IfErr, OnOk, OnErr, false, length};
+ghost use Rattle.std.specs.Prelude.{◌≡◌, ◌≤◌, ℕ, [], None, Some, IfOk, IfErr, OnOk, OnErr, false, length};
 ghost use Rattle.std.specs.List.{list_all};
 ghost use Rattle.stitcher.specs.Stitched.{can_be_numbered};
+ghost use Rattle.stitcher.specs.StitchedSegments.{KnowCommon};
 ghost use Rattle.channel_spec.specs.Kept.{kept_items, kept_refusal, kept_succession};
 ghost use Rattle.channel_spec.specs.Successor.{answer_of};
 ghost use Rattle.channel_window.specs.Checked.{AreContiguous, AreTaken};
@@ -28,6 +29,7 @@ use uri_resolver::Base;
 // Whether the playlist that was read may follow what is shown.
 fn live_refresh_may_follow(state: &ChannelState, read: &Read<'_>) -> Result<(), RefreshFault>
     requires contiguous { AreContiguous (window_segments_in state.now.list) }
+    requires common { KnowCommon None state.now.list }
     requires taken { AreTaken (window_segments_in state.now.list) read.now.taken.now }
     ensures { result ≡ answer_of (kept_succession (kept_in state.now) (playlist_in read.now)) }
 {

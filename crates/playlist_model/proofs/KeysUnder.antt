@@ -5,7 +5,7 @@ use Rattle.playlist_model.specs.declared.Key.{Key}
 use Rattle.playlist_model.specs.EffectiveKeys.{effective_key, key_under}
 
 -- a key with this IV if it is supplied
-abbrev supplied : Bool → ℕ → Key → Key
+abbrev pub supplied : Bool → ℕ → Key → Key
 supplied b n k = if b then record k { iv = Some n } else k
 
 format_supplied : (b : Bool) (n : ℕ) (k : Key) → k.format ≡ (supplied b n k).format
@@ -24,7 +24,7 @@ others_supplied : (b : Bool) (n : ℕ) (k : Key) → k.other_attributes ≡ (sup
 others_supplied true n k = refl
 others_supplied false n k = refl
 
-abbrev takes_iv : Key → Bool
+abbrev pub takes_iv : Key → Bool
 takes_iv k = bytes_eq k.format (codes "identity") && is_none k.iv
 
 pub format_stays : (n : Option ℕ) (k : Key) → k.format ≡ (key_under n k).format

@@ -10,4 +10,7 @@ pub mod SameParts
 pub mod SameSegments
 pub mod MemberLists
 pub mod KeysUnder
+pub mod InCommons
+pub mod SameInCommon
+pub mod ComparedRows
 pub mod Rows

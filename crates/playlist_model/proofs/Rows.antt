@@ -7,7 +7,7 @@ use Rattle.std.proofs.lemmas.List.{get_or_append_left, take-append-le, drop-appe
 use Rattle.std.proofs.Math.Seq.{drop-append_seam, get_or-append_seam, take-length}
 use Rattle.std.proofs.lemmas.Str.{IsUtf8-append}
 use Rattle.std.proofs.lemmas.Option.{get_or_from_slice_get, slice_get_within}
-use Rattle.playlist_model.specs.declared.segments.Place.{Place}
+use Rattle.playlist_model.specs.declared.places.Place.{Place}
 use Rattle.playlist_model.specs.declared.segments.Standing.{Standing}
 use Rattle.playlist_model.specs.declared.segments.Tables.{Tables}
 use Rattle.playlist_model.specs.declared.segments.Row.{Row}
@@ -126,19 +126,19 @@ pub row_listed : (t u v : List ℕ) (ranges : List ByteRange) (new : List Standi
     → Grows t u → Grows u v → HasText u row.title → segment_text_at u row.title ≡ parts.title.now
     → HasText v row.uri → segment_text_at v row.uri ≡ parts.uri_front.now ++ parts.uri_rest.now
     → HasRange ranges row.byte_range → range_at ranges row.byte_range ≡ parts.byte_range
-    → slice_get new row.standing ≡ Some s → s ≡ record { discontinuities = parts.discontinuities; keys = keys; init_section = init_section }
+    → slice_get new row.standing ≡ Some s → s.discontinuities ≡ parts.discontinuities → s.keys ≡ keys → s.init_section ≡ init_section
     → row ≡ record row { media_sequence = parts.media_sequence; discontinuity_sequence = parts.discontinuity_sequence; duration = parts.duration; program_date_time = parts.program_date_time }
     → Fits tables row × (row_segment tables row ≡ segment_under keys init_section parts)
-row_listed t u v ranges new tables row parts keys init_section s e r f g h title is uri there has range_is found s_is row_is =
+row_listed t u v ranges new tables row parts keys init_section s e r f g h title is uri there has range_is found steps_are keys_are section_is row_is =
     let later = has_text_grown u v row.title h title in
     let same = range_grown u v row.title.from row.title.to h title.ordered title.within ∙ is in
-    let here = get_or_from_slice_get new row.standing s no_standing found ∙ s_is in
+    let here = get_or_from_slice_get new row.standing s no_standing found in
     let place = slice_get_within new row.standing s found in
     let fits : Fits tables row = record { uri = subst (λ x. HasText x row.uri) (sym e) uri; title = subst (λ x. HasText x row.title) (sym e) later; byte_range = subst (λ x. HasRange x row.byte_range) (sym r) has; standing = subst (λ x. row.standing < length x) (sym f) place } in (
       fits,
       ap (λ x. row_segment_over x tables.byte_ranges.items (row_standing tables.standings.items row.standing) row) e
           ∙ ap (λ x. row_segment_over v x (row_standing tables.standings.items row.standing) row) r
-          ∙ ap (λ x. row_segment_over v ranges (row_standing x row.standing) row) f ∙ grind (arith, here, same, there, range_is, row_is),
+          ∙ ap (λ x. row_segment_over v ranges (row_standing x row.standing) row) f ∙ grind (arith, here, steps_are, keys_are, section_is, same, there, range_is, row_is),
     )
 
 pub front_fits : (t : Tables) (rows front : List Row) (row : Row) → rows ≡ front ++ row ∷ [] → AllByRecursion (Fits t) rows → AllByRecursion (Fits t) front
@@ -177,3 +177,7 @@ pub all_taken : {A : Type 0} (xs : List A) (count : ℕ) → [] ≡ drop count x
 all_taken xs zero h = h
 all_taken [] (suc count) h = refl
 all_taken (x ∷ xs) (suc count) h = ap (λ ys. x ∷ ys) (all_taken xs count h)
+
+pub no_rows : (tables : Tables) (rows : List Row) → length rows ≡ 0 → [] ≡ row_segments tables rows
+no_rows tables [] h = refl
+no_rows tables (row ∷ rows) h = absurd (cc h)

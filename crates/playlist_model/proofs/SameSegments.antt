@@ -1,5 +1,5 @@
 -- Segments that are the same have equal parts.
-use Rattle.std.proofs.Common.{◌≡◌, ℕ, true, List, refl, sym, ◌↔◌, [], arith}
+use Rattle.std.proofs.Common.{◌≡◌, ℕ, true, List, refl, ap, sym, ◌↔◌, [], arith}
 use Rattle.std.specs.Prelude.{◌==◌, bytes_eq, Some, None, Option}
 use Rattle.std.specs.Cmp.Lexicographic.{pointwise}
 use Rattle.std.proofs.lemmas.Bool.{and_parts, and_from, eqb-true, eq-eqb}
@@ -19,6 +19,10 @@ byte_range_same a b h = grind arith
 
 init_section_same : (a b : Option InitSection) → a ≡ b → same_option same_init_section a b ≡ true
 init_section_same a b h = grind (arith, some_is, and_from, bytes_eq-Decides, byte_range_same, keys_same)
+
+-- a section is the same as itself
+pub one_init_section : (i j : InitSection) → i ≡ j → true ≡ same_init_section i j
+one_init_section i j e = sym (init_section_same (Some i) (Some j) (ap Some e))
 
 init_sections_are : (a b : Option InitSection) → same_option same_init_section a b ≡ true → a ≡ b
 init_sections_are None None h = refl

@@ -15,5 +15,6 @@ pub mod Numbering
 pub mod ShortTexts
 pub mod Members
 pub mod Segments
+pub mod InCommon
 pub mod Rows
 pub mod Inner

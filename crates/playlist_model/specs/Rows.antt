@@ -1,5 +1,5 @@
 -- What the rows of a list mean by its tables.
-use Rattle.std.specs.Prelude.{◌≡◌, ℕ, zero, suc, string_bytes, ◌<◌, ◌≤◌, ◌-◌, List, [], Option, Some, None, map, get_or, length, slice_range}
+use Rattle.std.specs.Prelude.{◌≡◌, ℕ, zero, suc, ◌+◌, string_bytes, ◌<◌, ◌≤◌, ◌-◌, List, [], Option, Some, None, map, get_or, length, slice_range}
 use Rattle.std.specs.List.{slice_get}
 use Rattle.std.specs.Str.{IsUtf8}
 use Rattle.playlist_model.specs.declared.Key.{Key}
@@ -7,14 +7,16 @@ use Rattle.playlist_model.specs.declared.ByteRange.{ByteRange}
 use Rattle.playlist_model.specs.declared.InitSection.{InitSection}
 use Rattle.playlist_model.specs.EffectiveKeys.{effective_key}
 use Rattle.playlist_model.specs.Segments.{Segment}
-use Rattle.playlist_model.specs.declared.segments.Place.{Place}
+use Rattle.playlist_model.specs.declared.in_common.InCommon.{InCommon}
+use Rattle.playlist_model.specs.InCommon.{AreSameAt, IsInCommon, init_section_keys, nothing_in_common}
+use Rattle.playlist_model.specs.declared.places.Place.{Place}
 use Rattle.playlist_model.specs.declared.segments.Standing.{Standing}
 use Rattle.playlist_model.specs.declared.segments.Tables.{Tables}
 use Rattle.playlist_model.specs.declared.segments.Row.{Row}
 
 -- what stands past the end
 abbrev pub no_standing : Standing
-no_standing = record { discontinuities = 0; keys = []; init_section = None }
+no_standing = record { discontinuities = 0; keys = []; init_section = None; in_common = nothing_in_common; whole = nothing_in_common }
 
 abbrev pub segment_text_at : List ℕ → Place → List ℕ
 segment_text_at texts place = slice_range texts place.from place.to
@@ -76,3 +78,14 @@ pub record IsLastOf (standings : List Standing) (keys : List Key) (init_section 
   pub found : slice_get standings (length standings - 1) ≡ Some last
   pub keys_are : last.keys ≡ keys
   pub init_section_is : last.init_section ≡ init_section
+
+-- each of these knows what it has in common with the one before it, and with its own initialisation section
+pub record AreCompared (standings : List Standing) : Type 0 where
+  pub with_before : (place : ℕ) (before now : Standing) → slice_get standings place ≡ Some before → slice_get standings (place + 1) ≡ Some now → IsInCommon now.in_common before.keys before.init_section now.keys now.init_section
+  pub own : (place : ℕ) (now : Standing) → slice_get standings place ≡ Some now → AreSameAt now.in_common.own_keys now.keys (init_section_keys now.init_section)
+  pub whole : (place : ℕ) (now : Standing) → slice_get standings place ≡ Some now → IsInCommon now.whole now.keys now.init_section now.keys now.init_section
+
+-- what these keys and this initialisation section have in common with the last of these, and with each other
+pub record IsComparedWithLast (standings : List Standing) (common : InCommon) (keys : List Key) (init_section : Option InitSection) : Type 0 where
+  pub with_last : (last : Standing) → slice_get standings (length standings - 1) ≡ Some last → IsInCommon common last.keys last.init_section keys init_section
+  pub own : AreSameAt common.own_keys keys (init_section_keys init_section)

@@ -13,12 +13,14 @@ use std::alloc::{AllocError, AllocFailed};
 use std::marker::Model;
 
 mod fault;
+mod in_common;
 mod in_force;
 mod items;
 pub mod laws;
 mod limits;
 mod member;
 mod other_attributes;
+mod places;
 mod same;
 mod segments;
 mod short_text;
@@ -26,12 +28,16 @@ mod uri;
 
 pub use date_times::{Instant, TimeFault, read_instant, write_instant};
 pub use fault::FaultText;
+pub use in_common::{InCommon, KeyPlaces};
 pub use in_force::{KeyRef, Keys, KeysIter, KeysRef, is_iv_needed};
 pub use items::{Items, Shared, Text};
 pub use limits::{MAX_BYTES, MAX_FORMATS, MAX_SEGMENTS};
 pub use member::{Member, Members};
 pub use other_attributes::OtherAttributes;
-pub use same::{are_same_keys, is_same_init_section, is_same_key, same_segment};
+pub use same::{
+    are_same_keys, are_same_keys_in_common, is_same_init_section, is_same_init_section_in_common,
+    is_same_key, is_same_key_in_common, same_segment,
+};
 pub use segments::{GrowingSegments, SegmentParts, SegmentRef, SegmentSlice, Segments};
 pub use short_text::ShortText;
 pub use uri::{has_quote, has_scheme, same_resource};

@@ -1,7 +1,9 @@
 //! Owners of a shared list of segments, each of which stands for one of them.
-ghost use Rattle.std.specs.Prelude.{◌≡◌, ◌<◌, [], ◌∷◌, IfOk, IfErr, MatchOption, length, drop};
+ghost use Rattle.std.specs.Prelude.{◌≡◌, ◌<◌, [], ◌∷◌, IfOk, IfErr, MatchOption, List, length, drop};
+ghost use Rattle.playlist_model.specs.InCommon.{HaveInCommon};
+ghost use Rattle.playlist_model.specs.Segments.{Segment};
 
-use crate::{SegmentRef, Segments, Shared};
+use crate::{InCommon, SegmentRef, Segments, Shared};
 use std::alloc::AllocError;
 use std::marker::Model;
 
@@ -52,6 +54,7 @@ impl Clone for Member {
 pub struct Members<'a> {
     list: &'a Shared<Segments>,
     place: usize,
+    is_bare: bool,
 }
 
 impl<'a> Model for Members<'a> {
@@ -68,7 +71,11 @@ impl<'a> Members<'a> {
     pub fn from_place(list: &'a Shared<Segments>, place: usize) -> Members<'a>
         ensures { result ≡ drop place list.now }
     {
-        Members { list, place }
+        Members {
+            list,
+            place,
+            is_bare: list.is_bare(),
+        }
     }
 
     /// How many segments are left.
@@ -76,6 +83,18 @@ impl<'a> Members<'a> {
         ensures { result ≡ length self.now }
     {
         self.list.len().saturating_sub(self.place)
+    }
+
+    /// What the second segment has in common with the first; nothing if there is no second one.
+    #[inline(always)]
+    pub fn second_in_common(&self) -> InCommon
+        ensures { (before now : Segment) (later : List Segment) → self.now ≡ before ∷ (now ∷ later) → HaveInCommon result before now }
+    {
+        if self.is_bare {
+            return InCommon::nothing();
+        }
+        let (_, left) = self.list.as_slice().split_at(self.place);
+        left.second_in_common()
     }
 
     /// The next segment, if there is one. Takes no memory, and fails only if a list would have more than 2^64 - 1 owners;

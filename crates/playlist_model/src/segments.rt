@@ -1,23 +1,21 @@
 //! Segments. A list of them holds their texts together: each is a row of places among these.
-ghost use Rattle.std.specs.Prelude.{◌≡◌, ℕ, ◌∷◌, ◌++◌, ◌+◌, ◌<◌, [], true, None, Some, IfOk, OnOk, OnErr, MatchOption, length, take, drop, slice_get, string_bytes, IsTrue};
+ghost use Rattle.std.specs.Prelude.{◌≡◌, ℕ, List, ◌∷◌, ◌++◌, ◌+◌, ◌<◌, [], true, None, Some, IfOk, OnOk, OnErr, MatchOption, length, take, drop, slice_get, IsTrue};
 ghost use Rattle.std.specs.List.{AllByRecursion};
 ghost use Rattle.std.specs.Str.{is_utf8};
-ghost use Rattle.playlist_model.specs.Segments.{segment_under};
-ghost use Rattle.playlist_model.specs.Rows.{Fits, HasRange, HasText, IsLastOf, segment_text_at, range_at, row_segment};
-ghost use Rattle.playlist_model.specs.Inner.Rows.{Extends, Grows};
+ghost use Rattle.playlist_model.specs.InCommon.{AreSameAt, HaveInCommon, IsInCommon, init_section_keys};
+ghost use Rattle.playlist_model.specs.Segments.{Segment, segment_under};
+ghost use Rattle.playlist_model.specs.Rows.{AreCompared, Fits, IsComparedWithLast, IsLastOf, row_segment};
+ghost use Rattle.playlist_model.specs.Inner.Rows.{AreInForceOf, Extends, Grows, LastOwnKeys, StandsAt};
 
-use crate::{ByteRange, InitSection, Keys, KeysRef, Shared};
+use crate::places::{
+    Place, put_segment_byte_range, put_segment_text, put_segment_title, segment_text_at,
+    segment_text_place,
+};
+use crate::{ByteRange, InCommon, InitSection, KeyPlaces, Keys, KeysRef, Shared};
 use date_times::Instant;
 use fixed_duration::Nanos;
 use std::alloc::{AllocError, Global};
 use std::marker::Model;
-
-// Where a text lies among those of a list: its first byte, and the first after it.
-#[derive(Clone, Copy)]
-struct Place {
-    from: u32,
-    to: u32,
-}
 
 // What stands over segments until a tag changes it.
 #[derive(Drop)]
@@ -26,6 +24,10 @@ struct Standing {
     // The keys as their tags state them.
     keys: Keys,
     init_section: Option<Shared<InitSection>>,
+    // What these have in common with what stood before.
+    in_common: InCommon,
+    // What segments have in common over which these stand.
+    whole: InCommon,
 }
 
 // What the rows of a list point to.
@@ -74,89 +76,6 @@ pub struct SegmentParts<'a> {
     pub program_date_time: Option<Instant>,
 }
 
-// A number as a place; none if it has more than 32 bits.
-fn segment_text_place(number: usize) -> Result<u32, AllocError>
-    ensures { IfOk result (λ place. place ≡ number) }
-{
-    match u32::try_from(number) {
-        Ok(place) => Ok(place),
-        Err(_) => Err(AllocError),
-    }
-}
-
-#[tactic(auto, using(crate::proofs::Rows::text_put))]
-// Puts a text of two parts after those of a list.
-#[inline(always)]
-fn put_segment_text(texts: &mut String, front: &str, rest: &str) -> Result<Place, AllocError>
-    ensures grows { Grows (string_bytes texts.old) (string_bytes texts.new) }
-    ensures there { IfOk result
-        (λ place. HasText (string_bytes texts.new) place
-        × (segment_text_at (string_bytes texts.new) place ≡ front.now ++ rest.now)) }
-{
-    let from = segment_text_place(texts.len())?;
-    texts.push_str(front)?;
-    texts.push_str(rest)?;
-    let to = segment_text_place(texts.len())?;
-    Ok(Place { from, to })
-}
-
-// The same of a title. Most are empty.
-#[inline(always)]
-fn put_segment_title(texts: &mut String, title: &str) -> Result<Place, AllocError>
-    ensures grows { Grows (string_bytes texts.old) (string_bytes texts.new) }
-    ensures there { IfOk result
-        (λ place. HasText (string_bytes texts.new) place
-        × (segment_text_at (string_bytes texts.new) place ≡ title.now)) }
-{
-    if title.is_empty() {
-        return Ok(Place { from: 0, to: 0 });
-    }
-    put_segment_text(texts, title, "")
-}
-
-// The text at a place.
-#[inline(always)]
-fn segment_text_at(texts: &str, place: Place) -> &str
-    requires { HasText texts.now place }
-    ensures { result.now ≡ segment_text_at texts.now place }
-{
-    let bytes = &texts.as_bytes()[place.from as usize..place.to as usize];
-    // Each place has a text.
-    unsafe { str::from_utf8_unchecked(bytes) }
-}
-
-// The place of a byte range, which is put after those of a list, from 1; 0 if there is none.
-#[inline(always)]
-fn put_segment_byte_range(
-    byte_ranges: &mut Vec<ByteRange>,
-    byte_range: Option<ByteRange>,
-) -> Result<u32, AllocError>
-    ensures grows { Grows byte_ranges.old.items byte_ranges.new.items }
-    ensures there { IfOk result
-        (λ place. HasRange byte_ranges.new.items place
-        × (range_at byte_ranges.new.items place ≡ byte_range)) }
-{
-    match byte_range {
-        Some(byte_range) => push_segment_byte_range(byte_ranges, byte_range),
-        None => Ok(0),
-    }
-}
-
-#[tactic(auto, using(crate::proofs::Rows::range_put))]
-#[inline(never)]
-fn push_segment_byte_range(
-    byte_ranges: &mut Vec<ByteRange>,
-    byte_range: ByteRange,
-) -> Result<u32, AllocError>
-    ensures grows { Grows byte_ranges.old.items byte_ranges.new.items }
-    ensures there { IfOk result
-        (λ place. HasRange byte_ranges.new.items place
-        × (range_at byte_ranges.new.items place ≡ Some byte_range)) }
-{
-    byte_ranges.push(byte_range)?;
-    segment_text_place(byte_ranges.len())
-}
-
 // The place of the last of these, if so many discontinuities stand before its segments.
 #[inline(always)]
 fn last_standing_place(standings: &[Standing], discontinuities: u64) -> Option<usize>
@@ -182,12 +101,14 @@ fn put_segment_standing(
     discontinuities: u64,
     keys: &Keys,
     init_section: &Option<Shared<InitSection>>,
+    in_common: InCommon,
 ) -> Result<u32, AllocError>
-    requires { is_listed ≡ true → IsLastOf standings.old.items keys.now init_section.now }
+    requires listed { is_listed ≡ true → IsLastOf standings.old.items keys.now init_section.now }
+    requires common { AreCompared standings.old.items }
+    requires last { IsComparedWithLast standings.old.items in_common keys.now init_section.now }
     ensures grows { Grows standings.old.items standings.new.items }
-    ensures there { IfOk result
-        (λ place. slice_get standings.new.items place
-        ≡ Some (record { discontinuities = discontinuities; keys = keys.now; init_section = init_section.now })) }
+    ensures there { IfOk result (StandsAt standings.new.items discontinuities keys.now init_section.now) }
+    ensures common { AreCompared standings.new.items }
     ensures last { OnOk result (IsLastOf standings.new.items keys.now init_section.now) }
     ensures refused { OnErr result (standings.new.items ≡ standings.old.items) }
 {
@@ -196,7 +117,7 @@ fn put_segment_standing(
             return segment_text_place(place);
         }
     }
-    push_segment_standing(standings, discontinuities, keys, init_section)
+    push_segment_standing(standings, discontinuities, keys, init_section, in_common)
 }
 
 #[inline(never)]
@@ -205,11 +126,13 @@ fn push_segment_standing(
     discontinuities: u64,
     keys: &Keys,
     init_section: &Option<Shared<InitSection>>,
+    in_common: InCommon,
 ) -> Result<u32, AllocError>
+    requires common { AreCompared standings.old.items }
+    requires last { IsComparedWithLast standings.old.items in_common keys.now init_section.now }
     ensures grows { Grows standings.old.items standings.new.items }
-    ensures there { IfOk result
-        (λ place. slice_get standings.new.items place
-        ≡ Some (record { discontinuities = discontinuities; keys = keys.now; init_section = init_section.now })) }
+    ensures there { IfOk result (StandsAt standings.new.items discontinuities keys.now init_section.now) }
+    ensures common { AreCompared standings.new.items }
     ensures last { OnOk result (IsLastOf standings.new.items keys.now init_section.now) }
     ensures refused { OnErr result (standings.new.items ≡ standings.old.items) }
 {
@@ -218,12 +141,14 @@ fn push_segment_standing(
         discontinuities,
         keys: keys.clone()?,
         init_section: init_section.clone()?,
+        in_common,
+        whole: InCommon::whole(in_common.own_keys, init_section.is_some()),
     })?;
     Ok(place)
 }
 
 // Puts the row of the next segment after the others, and into the tables all that it points to. `is_listed` says that the last
-// standing has the keys and the initialisation section.
+// standing has the keys and the initialisation section, and `in_common` what they have in common with it.
 #[inline(always)]
 fn push_segment_row(
     tables: &mut Tables,
@@ -231,29 +156,34 @@ fn push_segment_row(
     is_listed: bool,
     keys: &Keys,
     init_section: &Option<Shared<InitSection>>,
+    in_common: InCommon,
     parts: &SegmentParts<'_>,
 ) -> Result<(), AllocError>
-    requires { is_listed ≡ true → IsLastOf tables.old.standings.items keys.now init_section.now }
+    requires listed { is_listed ≡ true → IsLastOf tables.old.standings.items keys.now init_section.now }
+    requires common { AreCompared tables.old.standings.items }
+    requires last { IsComparedWithLast tables.old.standings.items in_common keys.now init_section.now }
     ensures extends { Extends tables.old tables.new }
     ensures row { OnOk result
         ((row : Row) × (rows.new.items ≡ rows.old.items ++ row ∷ []) × Fits tables.new row
         × (row_segment tables.new row ≡ segment_under keys.now init_section.now parts.now)) }
+    ensures common { AreCompared tables.new.standings.items }
     ensures last { OnOk result (IsLastOf tables.new.standings.items keys.now init_section.now) }
-    ensures still { is_listed ≡ true
-        → IsLastOf tables.new.standings.items keys.now init_section.now }
     ensures refused { OnErr result (rows.new.items ≡ rows.old.items) }
+    ensures still { OnErr result (tables.new.standings.items ≡ tables.old.standings.items) }
 {
     rows.reserve(1)?;
+    let byte_range = put_segment_byte_range(&mut tables.byte_ranges, parts.byte_range)?;
+    let title = put_segment_title(&mut tables.texts, parts.title)?;
+    let uri = put_segment_text(&mut tables.texts, parts.uri_front, parts.uri_rest)?;
+    // The standing comes last: if an allocation fails, the last one is as it was.
     let standing = put_segment_standing(
         &mut tables.standings,
         is_listed,
         parts.discontinuities,
         keys,
         init_section,
+        in_common,
     )?;
-    let byte_range = put_segment_byte_range(&mut tables.byte_ranges, parts.byte_range)?;
-    let title = put_segment_title(&mut tables.texts, parts.title)?;
-    let uri = put_segment_text(&mut tables.texts, parts.uri_front, parts.uri_rest)?;
     rows.push_reserved(Row {
         media_sequence: parts.media_sequence,
         discontinuity_sequence: parts.discontinuity_sequence,
@@ -267,6 +197,47 @@ fn push_segment_row(
     Ok(())
 }
 
+// The places at which the last of these has its keys in its initialisation section too; none if it has no such section.
+fn last_own_keys(standings: &[Standing]) -> KeyPlaces
+    requires { AreCompared standings.now }
+    ensures { LastOwnKeys standings.now result }
+{
+    let Some((last, _)) = standings.split_last() else {
+        return KeyPlaces::none();
+    };
+    if last.init_section.is_none() {
+        return KeyPlaces::none();
+    }
+    last.in_common.own_keys
+}
+
+// Whether this place of a standing comes directly after the other, if that one is known.
+fn is_next_standing(last: Option<u32>, place: u32) -> bool
+    ensures { result ≡ true → (before : ℕ) × (last ≡ Some before) × (before + 1 ≡ place) }
+{
+    match last {
+        Some(last) => u64::from(last) + 1 == u64::from(place),
+        None => false,
+    }
+}
+
+// What the segment of a row has in common with that of the row before it.
+fn rows_in_common(tables: &Tables, before: &Row, now: &Row) -> InCommon
+    requires common { AreCompared tables.now.standings.items }
+    requires before { Fits tables.now before.now }
+    requires now { Fits tables.now now.now }
+    ensures { HaveInCommon result (row_segment tables.now before.now) (row_segment tables.now now.now) }
+{
+    let standing = &tables.standings[now.standing as usize];
+    if now.standing == before.standing {
+        return standing.whole;
+    }
+    if u64::from(before.standing) + 1 == u64::from(now.standing) {
+        return standing.in_common;
+    }
+    InCommon::nothing()
+}
+
 /// A list of segments.
 #[derive(Drop)]
 pub struct Segments {
@@ -278,13 +249,13 @@ impl Model for Segments {
     ghost use Rattle.std.specs.Prelude.{List};
     ghost use Rattle.std.specs.List.{AllByRecursion};
     ghost use Rattle.playlist_model.specs.Segments.{Segment};
-    ghost use Rattle.playlist_model.specs.Rows.{Fits, row_segments};
+    ghost use Rattle.playlist_model.specs.Rows.{AreCompared, Fits, row_segments};
 
     ghost Value = { List Segment };
 
     ghost view = { λ a. row_segments a.tables a.rows.items };
 
-    ghost invariant = { λ a. AllByRecursion (Fits a.tables) a.rows.items };
+    ghost invariant = { λ a. AllByRecursion (Fits a.tables) a.rows.items × AreCompared a.tables.standings.items };
 }
 
 impl Segments {
@@ -317,6 +288,16 @@ impl Segments {
         let segments = self.as_slice();
         segments.get(place)
     }
+
+    // Whether it is seen at once that no segment has a key or an initialisation section. No proof rests on it: it saves that what
+    // bare segments have in common is looked up.
+    pub(crate) fn is_bare(&self) -> bool {
+        match self.tables.standings.as_slice() {
+            [] => true,
+            [standing] => standing.keys.len() == 0 && standing.init_section.is_none(),
+            _ => false,
+        }
+    }
 }
 
 /// Segments that are listed one after the other, and the keys and the initialisation section in force after them.
@@ -328,19 +309,21 @@ pub struct GrowingSegments {
     init_section: Option<Shared<InitSection>>,
     // Whether these two are those of the last standing.
     is_listed: bool,
+    // What they have in common with it.
+    in_common: InCommon,
 }
 
 impl Model for GrowingSegments {
     ghost use Rattle.std.specs.Prelude.{◌≡◌, true};
     ghost use Rattle.std.specs.List.{AllByRecursion};
     ghost use Rattle.playlist_model.specs.Segments.{Growing};
-    ghost use Rattle.playlist_model.specs.Rows.{Fits, IsLastOf, row_segments};
+    ghost use Rattle.playlist_model.specs.Rows.{AreCompared, Fits, IsComparedWithLast, IsLastOf, row_segments};
 
     ghost Value = { Growing };
 
     ghost view = { λ a. record { segments = row_segments a.tables a.rows.items; keys = a.keys; init_section = a.init_section } };
 
-    ghost invariant = { λ a. AllByRecursion (Fits a.tables) a.rows.items × (a.is_listed ≡ true → IsLastOf a.tables.standings.items a.keys a.init_section) };
+    ghost invariant = { λ a. AllByRecursion (Fits a.tables) a.rows.items × (a.is_listed ≡ true → IsLastOf a.tables.standings.items a.keys a.init_section) × AreCompared a.tables.standings.items × IsComparedWithLast a.tables.standings.items a.in_common a.keys a.init_section };
 }
 
 impl GrowingSegments {
@@ -358,6 +341,7 @@ impl GrowingSegments {
             keys: Keys::none(),
             init_section: None,
             is_listed: false,
+            in_common: InCommon::nothing(),
         }
     }
 
@@ -394,18 +378,26 @@ impl GrowingSegments {
         &self.init_section
     }
 
-    /// From here on `keys` are in force, as their tags state them (RFC 8216, section 4.3.2.4).
-    pub fn set_keys(&mut self, keys: Keys)
+    /// From here on `keys` are in force, as their tags state them (RFC 8216, section 4.3.2.4). At the places `same` they are the
+    /// keys that were in force, but for their initialisation vectors.
+    pub fn set_keys(&mut self, keys: Keys, same: KeyPlaces)
+        requires { AreSameAt same self.old.keys keys }
         ensures { self.new ≡ record self.old { keys = keys } }
     {
+        self.in_common = self.in_common.with_keys(same);
         self.keys = keys;
         self.is_listed = false;
     }
 
-    /// From here on `init_section` is in force (RFC 8216, section 4.3.2.5).
-    pub fn set_init_section(&mut self, init_section: Option<Shared<InitSection>>)
+    /// From here on `init_section` is in force (RFC 8216, section 4.3.2.5). At the places `same` its keys are those in force, but
+    /// for their initialisation vectors.
+    pub fn set_init_section(&mut self, init_section: Option<Shared<InitSection>>, same: KeyPlaces)
+        requires { AreSameAt same self.old.keys (init_section_keys init_section) }
         ensures { self.new ≡ record self.old { init_section = init_section } }
     {
+        self.in_common = self
+            .in_common
+            .with_init_section(last_own_keys(self.tables.standings.as_slice()), same);
         self.init_section = init_section;
         self.is_listed = false;
     }
@@ -427,9 +419,13 @@ impl GrowingSegments {
             self.is_listed,
             &self.keys,
             &self.init_section,
+            self.in_common,
             parts,
         )?;
-        self.is_listed = true;
+        if !self.is_listed {
+            self.in_common = InCommon::whole(self.in_common.own_keys, self.init_section.is_some());
+            self.is_listed = true;
+        }
         Ok(())
     }
 
@@ -439,10 +435,52 @@ impl GrowingSegments {
         ensures pushed { OnOk result (self.new.segments ≡ self.old.segments ++ segment.now ∷ []) }
         ensures refused { OnErr result (self.new.segments ≡ self.old.segments) }
     {
-        let (tables, row) = (segment.tables, segment.row);
+        self.push_row_copy(segment.tables, segment.row, None)
+    }
+
+    // From here on is in force what stands there. `is_next` says that what is in force stands at the place before.
+    fn take_standing(&mut self, standing: &Standing, is_next: bool) -> Result<(), AllocError>
+        requires next { is_next ≡ true
+            → IsInCommon standing.now.in_common self.old.keys self.old.init_section standing.now.keys standing.now.init_section }
+        requires own { AreSameAt standing.now.in_common.own_keys standing.now.keys (init_section_keys standing.now.init_section) }
+        ensures taken { OnOk result
+            (self.new ≡ record self.old { keys = standing.now.keys; init_section = standing.now.init_section }) }
+        ensures refused { OnErr result (self.new.segments ≡ self.old.segments) }
+    {
+        let in_common = if is_next {
+            standing.in_common
+        } else {
+            InCommon::nothing()
+        };
+        self.set_keys(standing.keys.clone()?, in_common.keys);
+        if in_common.init_section && standing.init_section.is_some() {
+            return Ok(());
+        }
+        self.set_init_section(standing.init_section.clone()?, standing.in_common.own_keys);
+        Ok(())
+    }
+
+    // Lists a copy of the segment of a row, after that of a row over which stands what is at the place `last` of its list, if it is
+    // known. What those have in common, the copies have.
+    fn push_row_copy(
+        &mut self,
+        tables: &Tables,
+        row: &Row,
+        last: Option<u32>,
+    ) -> Result<(), AllocError>
+        requires fits { Fits tables.now row.now }
+        requires common { AreCompared tables.now.standings.items }
+        requires last { AreInForceOf tables.now.standings.items last self.old.keys self.old.init_section }
+        ensures pushed { OnOk result (self.new.segments ≡ self.old.segments ++ row_segment tables.now row.now ∷ []) }
+        ensures last { OnOk result
+            (AreInForceOf tables.now.standings.items (Some row.now.standing) self.new.keys self.new.init_section) }
+        ensures refused { OnErr result (self.new.segments ≡ self.old.segments) }
+    {
         let standing = &tables.standings[row.standing as usize];
-        self.set_keys(standing.keys.clone()?);
-        self.set_init_section(standing.init_section.clone()?);
+        if last != Some(row.standing) {
+            self.take_standing(standing, is_next_standing(last, row.standing))?;
+        }
+        let segment = SegmentRef { tables, row };
         self.push(&SegmentParts {
             media_sequence: row.media_sequence,
             discontinuity_sequence: row.discontinuity_sequence,
@@ -463,9 +501,11 @@ impl GrowingSegments {
         ensures refused { OnErr result
             ((count : ℕ) × (self.new.segments ≡ self.old.segments ++ take count segments.entry)) }
     {
-        let mut rest = segments;
-        while let Some((segment, later)) = rest.split_first() {
-            self.push_copy(&segment)?;
+        let (tables, mut rest) = (segments.tables, segments.rows);
+        let mut last = None;
+        while let Some((row, later)) = rest.split_first() {
+            self.push_row_copy(tables, row, last)?;
+            last = Some(row.standing);
             rest = later;
         }
         Ok(())
@@ -493,13 +533,13 @@ impl<'a> Model for SegmentSlice<'a> {
     ghost use Rattle.std.specs.Prelude.{List};
     ghost use Rattle.std.specs.List.{AllByRecursion};
     ghost use Rattle.playlist_model.specs.Segments.{Segment};
-    ghost use Rattle.playlist_model.specs.Rows.{Fits, row_segments};
+    ghost use Rattle.playlist_model.specs.Rows.{AreCompared, Fits, row_segments};
 
     ghost Value = { List Segment };
 
     ghost view = { λ a. row_segments a.tables.now a.rows.now };
 
-    ghost invariant = { λ a. AllByRecursion (Fits a.tables.now) a.rows.now };
+    ghost invariant = { λ a. AllByRecursion (Fits a.tables.now) a.rows.now × AreCompared a.tables.now.standings.items };
 }
 
 impl<'a> SegmentSlice<'a> {
@@ -545,6 +585,17 @@ impl<'a> SegmentSlice<'a> {
                 rows: later,
             },
         ))
+    }
+
+    /// What the second segment has in common with the first; nothing if there is no second one.
+    pub fn second_in_common(&self) -> InCommon
+        ensures { (before now : Segment) (later : List Segment) → self.now ≡ before ∷ (now ∷ later) → HaveInCommon result before now }
+    {
+        let (tables, rows) = (self.tables, self.rows);
+        let [before, now, ..] = rows else {
+            return InCommon::nothing();
+        };
+        rows_in_common(tables, before, now)
     }
 
     /// The last segment, and those before it, if there is one.
@@ -601,13 +652,13 @@ pub struct SegmentRef<'a> {
 
 impl<'a> Model for SegmentRef<'a> {
     ghost use Rattle.playlist_model.specs.Segments.{Segment};
-    ghost use Rattle.playlist_model.specs.Rows.{Fits, row_segment};
+    ghost use Rattle.playlist_model.specs.Rows.{AreCompared, Fits, row_segment};
 
     ghost Value = { Segment };
 
     ghost view = { λ a. row_segment a.tables.now a.row.now };
 
-    ghost invariant = { λ a. Fits a.tables.now a.row.now };
+    ghost invariant = { λ a. Fits a.tables.now a.row.now × AreCompared a.tables.now.standings.items };
 }
 
 impl<'a> SegmentRef<'a> {

@@ -1,26 +1,36 @@
--- Segments with no mark, one more at a time.
+-- Segments with no mark, and with nothing in common, one more at a time.
 use Rattle.std.proofs.Common.{◌≡◌, List, [], ◌∷◌, ◌++◌, refl, sym, subst}
-use Rattle.std.specs.Prelude.{ℕ, Option, None}
+use Rattle.std.specs.Prelude.{ℕ, Option, Some, None}
+use Rattle.playlist_model.specs.Segments.{Segment}
+use Rattle.playlist_model.specs.InCommon.{HaveInCommon}
 use Rattle.pod_store.specs.Store.{Store}
 use Rattle.stitcher.specs.declared.marked.MarkedSegment.{MarkedSegment}
-use Rattle.stitcher.specs.StitchedSegments.{IsDecided, AreDecided, KnowsRun, KnowRuns}
+use Rattle.stitcher.specs.StitchedSegments.{IsDecided, AreDecided, KnowsRun, KnowRuns, KnowsCommon, KnowCommon, KnowPrevious}
 
--- none of these has a mark
+-- none of these has a mark, and each may stand after any segment
 abbrev pub AreUnmarked : List MarkedSegment → Type 0
 AreUnmarked [] = Unit {0}
-AreUnmarked (m ∷ later) = (m.mark ≡ None) × AreUnmarked later
+AreUnmarked (m ∷ later) = (m.mark ≡ None) × ((before : Segment) → HaveInCommon m.in_common before m.segment) × AreUnmarked later
 
-pub one_more : (done : List MarkedSegment) (m : MarkedSegment) → m.mark ≡ None → AreUnmarked done → AreUnmarked (done ++ m ∷ [])
-one_more [] m h u = (h, tt)
-one_more (x ∷ done) m h u = (u.0, one_more done m h u.1)
+pub one_more : (done : List MarkedSegment) (m : MarkedSegment) → m.mark ≡ None → ((before : Segment) → HaveInCommon m.in_common before m.segment) → AreUnmarked done → AreUnmarked (done ++ m ∷ [])
+one_more [] m h k u = (h, k, tt)
+one_more (x ∷ done) m h k u = (u.0, u.1, one_more done m h k u.2)
 
 pub decided : (store : Store) (list : List MarkedSegment) → AreUnmarked list → AreDecided store list
 decided store [] u = tt
-decided store (m ∷ later) u = (subst (IsDecided store) (sym u.0) tt, decided store later u.1)
+decided store (m ∷ later) u = (subst (IsDecided store) (sym u.0) tt, decided store later u.2)
 
 known_on : (list : List MarkedSegment) (previous : Option (List ℕ)) → previous ≡ None → AreUnmarked list → KnowRuns previous list
 known_on [] previous e u = tt
-known_on (m ∷ later) previous e u = (subst (λ o. KnowsRun o m) (sym e) tt, known_on later m.mark u.0 u.1)
+known_on (m ∷ later) previous e u = (subst (λ o. KnowsRun o m) (sym e) tt, known_on later m.mark u.0 u.2)
 
-pub known : (list : List MarkedSegment) → AreUnmarked list → KnowRuns None list
-known list u = known_on list None refl u
+knows_common : (m : MarkedSegment) (previous : Option Segment) → ((before : Segment) → HaveInCommon m.in_common before m.segment) → KnowsCommon previous m
+knows_common m None k = tt
+knows_common m (Some before) k = k before
+
+common_on : (list : List MarkedSegment) (previous : Option Segment) → AreUnmarked list → KnowCommon previous list
+common_on [] previous u = tt
+common_on (m ∷ later) previous u = (knows_common m previous u.1, common_on later (Some m.segment) u.2)
+
+pub known : (list : List MarkedSegment) → AreUnmarked list → KnowPrevious list
+known list u = record { runs = known_on list None refl u; common = common_on list None u }

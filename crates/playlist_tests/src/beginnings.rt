@@ -1,6 +1,6 @@
 //! Segments that are listed again. When they begin is tried on the built program (`tests/run_playlists`).
 use fixed_duration::Nanos;
-use playlist_model::{GrowingSegments, Instant, SegmentParts, same_segment};
+use playlist_model::{GrowingSegments, InCommon, Instant, SegmentParts, same_segment};
 use std::alloc::{AllocError, Global};
 
 /// What a segment of `duration` and `title` has of its own: it is a whole resource, and states no time.
@@ -30,7 +30,7 @@ fn is_listed_again(alloc: Global, duration: Nanos) -> Result<bool, AllocError> {
         return Ok(false);
     };
     match later.first() {
-        Some(again) => Ok(same_segment(&first, &again)),
+        Some(again) => Ok(same_segment(&first, &again, InCommon::nothing())),
         None => Ok(false),
     }
 }

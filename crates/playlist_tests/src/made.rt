@@ -1,9 +1,9 @@
 //! Values that several tests are about.
-ghost use Rattle.std.specs.Prelude.{◌≡◌, IfOk, None, codes, []};
+ghost use Rattle.std.specs.Prelude.{◌≡◌, IfOk, codes, []};
 ghost use Rattle.pod_store.specs.Store.{nothing_decided};
-ghost use Rattle.stitcher.specs.StitchedSegments.{AreDecided, KnowRuns};
+ghost use Rattle.stitcher.specs.StitchedSegments.{AreDecided, KnowPrevious};
 
-use playlist_model::{Key, Members, OtherAttributes, Segments, Shared};
+use playlist_model::{InCommon, Key, Members, OtherAttributes, Segments, Shared};
 use pod_store::PodStore;
 use std::alloc::{AllocError, Global};
 use std::hash::RandomState;
@@ -25,13 +25,13 @@ pub fn key(alloc: Global, format: &str, uri: &str, iv: Option<u128>) -> Result<K
 }
 
 #[tactic(auto, using(crate::proofs::Unmarked::decided, crate::proofs::Unmarked::known))]
-/// The `segments` with a time and no mark.
+/// The `segments` with a time and no mark. None says what it has in common with the one before it.
 pub(crate) fn unmarked(
     alloc: Global,
     segments: &Shared<Segments>,
 ) -> Result<Vec<MarkedSegment>, AllocError>
     ensures decided { IfOk result (λ v. AreDecided nothing_decided v.items) }
-    ensures runs { IfOk result (λ v. KnowRuns None v.items) }
+    ensures previous { IfOk result (λ v. KnowPrevious v.items) }
 {
     let mut done = Vec::new(alloc);
     let mut segments = Members::from_place(segments, 0);
@@ -41,6 +41,7 @@ pub(crate) fn unmarked(
             instant: OptionalInstant::from_nanos(Some(1_714_564_800_000_000_000)),
             mark: Shared::new(alloc, None)?,
             goes_on: false,
+            in_common: InCommon::nothing(),
         })?;
     }
     Ok(done)
@@ -55,7 +56,7 @@ pub(crate) fn listed<'a>(
     marked: &'a [MarkedSegment],
 ) -> Result<StitchedList<'a>, AllocError>
     requires decided { AreDecided nothing_decided marked.now }
-    requires runs { KnowRuns None marked.now }
+    requires previous { KnowPrevious marked.now }
 {
     let first = Numbers {
         media_sequence: 7,

@@ -5,7 +5,8 @@ use crate::made::{key, listed, unmarked};
 use byte_streams::TestSink;
 use fixed_duration::Nanos;
 use playlist_model::{
-    ByteRange, GrowingSegments, InitSection, Items, Keys, PlaylistKind, Segments, Shared, Text,
+    ByteRange, GrowingSegments, InitSection, Items, KeyPlaces, Keys, PlaylistKind, Segments,
+    Shared, Text,
 };
 use playlist_write::resumed::laid_out;
 use playlist_write::{OutPlaylist, WriteFault, write};
@@ -61,8 +62,11 @@ fn segments(alloc: Global, count: usize) -> Result<Shared<Segments>, AllocError>
         offset: 120,
     });
     let mut segments = GrowingSegments::new(alloc);
-    segments.set_keys(keys(alloc, "http://origin.example/ch/kb", 2)?);
-    segments.set_init_section(Some(init_section(alloc)?));
+    segments.set_keys(
+        keys(alloc, "http://origin.example/ch/kb", 2)?,
+        KeyPlaces::none(),
+    );
+    segments.set_init_section(Some(init_section(alloc)?), KeyPlaces::none());
     for _ in 0..count {
         segments.push(&parts)?;
     }

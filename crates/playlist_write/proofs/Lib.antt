@@ -15,3 +15,4 @@ pub mod Taken
 pub mod GoesOn
 pub mod SameKeys
 pub mod Changes
+pub mod CommonKeys

@@ -33,5 +33,5 @@ same_lead : (keys : List Key) → transition keys keys ≡ []
 same_lead keys =
     ap (λ b. cond b (map Set (filter (is_new_key keys) keys)) (End ∷ map Set keys)) (formats_there [] keys) ∙ ap (map Set) (none_new [] keys)
 
-pub same_keys_owe_nothing : (old new : List Key) → pointwise same_key new old ≡ true → [] ≡ said_text (keys_owed old new)
-same_keys_owe_nothing old new h = sym (ap (λ keys. said_text (keys_owed keys new)) (sym (keys_are new old h)) ∙ ap (λ tags. said_text (map key_tag_said tags)) (same_lead new))
+pub same_keys_owe_nothing : (old new : List Key) → pointwise same_key old new ≡ true → [] ≡ said_text (keys_owed old new)
+same_keys_owe_nothing old new h = sym (ap (λ keys. said_text (keys_owed keys new)) (keys_are old new h) ∙ ap (λ tags. said_text (map key_tag_said tags)) (same_lead new))

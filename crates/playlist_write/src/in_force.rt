@@ -2,9 +2,11 @@
 //! 4.3.2.5).
 ghost use Rattle.std.specs.Prelude.{◌≡◌};
 ghost use Rattle.playlist_model.specs.LookBack.{or_earlier};
+ghost use Rattle.stitcher.specs.Stretches.{SecondHasInCommon};
 
-use playlist_model::{InitSection, Keys, KeysRef, SegmentRef, Shared};
+use playlist_model::{InCommon, InitSection, Keys, KeysRef, SegmentRef, Shared};
 use std::marker::Model;
+use stitcher::StitchedItems;
 
 /// Keys and an initialisation section that are in force.
 #[derive(Drop)]
@@ -32,6 +34,18 @@ impl<'a> InForce<'a> {
             keys: keys.lent(),
             init_section,
         }
+    }
+
+    /// What the second of these `segments` has in common with the first. It isn't looked up if neither keys nor an initialisation
+    /// section are in force before these: then most segments have none.
+    #[inline(always)]
+    pub fn in_common_after_next(&self, segments: &StitchedItems<'_>) -> InCommon
+        ensures { SecondHasInCommon result segments.now }
+    {
+        if self.keys.is_empty() && self.init_section.is_none() {
+            return InCommon::nothing();
+        }
+        segments.second_in_common()
     }
 
     /// What is in force after `segment`: its keys, and its initialisation section if it has one.

@@ -1,9 +1,10 @@
 //! Key tags and map tags (RFC 8216, sections 4.3.2.4 and 4.3.2.5).
-ghost use Rattle.std.specs.Prelude.{◌≡◌, ◌∷◌, ◌++◌, [], Bool, codes, filter, ◌&&◌, not, true};
+ghost use Rattle.std.specs.Prelude.{◌≡◌, ◌∷◌, ◌++◌, [], Bool, Some, codes, drop, filter, ◌&&◌, not, true};
 ghost use Rattle.spec_words.specs.Bytes.{line_feed, quote};
 ghost use Rattle.attr_list.specs.Attributes.{pair_spelling};
 ghost use Rattle.playlist_write.specs.Spelling.{in_quotes, iv_pairs, format_pairs, part_pairs};
 ghost use Rattle.playlist_model.specs.Carried.{after_commas};
+ghost use Rattle.playlist_model.specs.InCommon.{AreSameAt, key_at, without_iv};
 ghost use Rattle.playlist_write.specs.Inner.KeyParts.{text_after_uri, is_written_key_identity};
 ghost use Rattle.playlist_model.specs.Said as Said;
 ghost use Rattle.playlist_write.specs.Owed.{line_saying, said_text, keys_owed};
@@ -17,7 +18,8 @@ ghost use Rattle.fixed_duration.specs.Appended.{Appends};
 use crate::digits::{write_last_iv, write_quote_and_iv};
 use crate::lines::{write_byte_range, write_line, write_line_feed};
 use playlist_model::{
-    ByteRange, InitSection, KeyRef, KeysIter, KeysRef, are_same_keys, is_same_key,
+    ByteRange, InitSection, KeyPlaces, KeyRef, KeysIter, KeysRef, are_same_keys_in_common,
+    is_same_key_in_common,
 };
 use std::alloc::AllocError;
 use stitcher::{is_new_key, keeps_formats};
@@ -119,31 +121,39 @@ fn write_key_lines(out: &mut String, keys: &KeysRef<'_>) -> Result<(), AllocErro
     Ok(())
 }
 
-// Whether `key` is the first of these keys, which is passed.
-fn passes_same_written_key(keys: &mut KeysIter<'_>, key: &KeyRef<'_>) -> bool
+// Whether `key` is the first of these keys, which is passed. If one tag stated both, `is_common` says so.
+fn passes_same_written_key(keys: &mut KeysIter<'_>, key: &KeyRef<'_>, is_common: bool) -> bool
+    requires { is_common ≡ true → key_at 0 keys.old ≡ Some (without_iv key.now) }
     ensures same { result ≡ true → list_any (same_key key.now) keys.old ≡ true }
     ensures rest { (holds : Key → Bool) → list_any holds keys.new ≡ true → list_any holds keys.old ≡ true }
+    ensures left { keys.new ≡ drop 1 keys.old }
 {
     match keys.next() {
-        Some(first) => is_same_key(key, &first),
+        Some(first) => is_same_key_in_common(key, &first, is_common),
         None => false,
     }
 }
 
+// Appends a tag for each key of `new` that isn't among `old`. At the places `same` both have the same key, but for its
+// initialisation vector.
 fn write_new_key_lines(
     out: &mut String,
     old: &KeysRef<'_>,
     new: &KeysRef<'_>,
+    same: KeyPlaces,
 ) -> Result<(), AllocError>
+    requires { AreSameAt same old.now new.now }
     ensures { Appends result out.old out.new
         (said_text (set_tags (filter (is_new_key old.now) new.now))) }
 {
-    let mut others = old.iter();
+    let (mut others, mut places) = (old.iter(), same);
     for key in new.iter() {
-        // Mostly a key is compared with the one at its place alone: long ones cost much.
-        if !passes_same_written_key(&mut others, &key) && is_new_key(old, &key) {
+        let is_common = places.holds_first();
+        // Mostly a key is compared with the one at its place alone, or with none: long ones cost much.
+        if !passes_same_written_key(&mut others, &key, is_common) && is_new_key(old, &key) {
             write_key_line(out, &key)?;
         }
+        places = places.later();
     }
     Ok(())
 }
@@ -155,21 +165,24 @@ fn write_no_keys_line(out: &mut String) -> Result<(), AllocError>
     write_line(out, "#EXT-X-KEY:METHOD=NONE")
 }
 
-// Appends the key tags that lead from any keys to others.
+// Appends the key tags that lead from any keys to others. At the places `same` both have the same key, but for its
+// initialisation vector.
 #[inline(never)]
 fn write_any_key_tag_lines(
     out: &mut String,
     old: &KeysRef<'_>,
     new: &KeysRef<'_>,
+    same: KeyPlaces,
 ) -> Result<(), AllocError>
+    requires { AreSameAt same old.now new.now }
     ensures { Appends result out.old out.new (said_text (keys_owed old.now new.now)) }
 {
-    // Mostly no tag stands between two segments: then each key is compared once.
-    if are_same_keys(new, old) {
+    // Mostly no tag stands between two segments: then each key is compared once at most.
+    if are_same_keys_in_common(old, new, same) {
         return Ok(());
     }
-    if keeps_formats(old, new) {
-        return write_new_key_lines(out, old, new);
+    if keeps_formats(old, new, same) {
+        return write_new_key_lines(out, old, new, same);
     }
     write_no_keys_line(out)?;
     write_key_lines(out, new)
@@ -201,7 +214,9 @@ fn write_key_tag_lines_between(
     out: &mut String,
     old: &KeysRef<'_>,
     new: &KeysRef<'_>,
+    same: KeyPlaces,
 ) -> Result<(), AllocError>
+    requires { AreSameAt same old.now new.now }
     ensures { Appends result out.old out.new (said_text (keys_owed old.now new.now)) }
 {
     // Most segments have one key, with an initialisation vector of their own (RFC 8216, 5.2).
@@ -213,24 +228,26 @@ fn write_key_tag_lines_between(
             }
         }
     }
-    write_any_key_tag_lines(out, old, new)
+    write_any_key_tag_lines(out, old, new, same)
 }
 
-/// Appends to `out` the key tags that lead from the keys `old` to the keys `new` (RFC 8216, section 4.3.2.4). Fails
-/// only if an allocation fails.
+/// Appends to `out` the key tags that lead from the keys `old` to the keys `new` (RFC 8216, section 4.3.2.4). At the
+/// places `same` both have the same key, but for its initialisation vector. Fails only if an allocation fails.
 #[inline(always)]
 pub fn write_key_tag_lines(
     out: &mut String,
     old: &KeysRef<'_>,
     new: &KeysRef<'_>,
+    same: KeyPlaces,
 ) -> Result<(), AllocError>
+    requires { AreSameAt same old.now new.now }
     ensures { Appends result out.old out.new (said_text (keys_owed old.now new.now)) }
 {
     // Most playlists have no keys.
     if old.is_empty() && new.is_empty() {
         return Ok(());
     }
-    write_key_tag_lines_between(out, old, new)
+    write_key_tag_lines_between(out, old, new, same)
 }
 
 fn write_init_section_part(out: &mut String, part: Option<ByteRange>) -> Result<(), AllocError>

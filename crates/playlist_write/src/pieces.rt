@@ -12,6 +12,7 @@ use crate::last_duration::LastDuration;
 use crate::segments::write_next_segment_lines;
 use byte_streams::{Sink, SinkFailed, hand_out};
 use date_times::TimeWriter;
+use playlist_model::InCommon;
 use std::alloc::Global;
 use stitcher::{StitchedItems, TextRef};
 
@@ -97,9 +98,12 @@ pub fn write_pieces_of_segments<'a, S: Sink>(
     let mut segments = segments;
     let mut times = TimeWriter::new();
     let mut last = LastDuration::new(alloc);
-    let mut force = before;
+    let (mut force, mut common) = (before, InCommon::nothing());
+    let mut later = force.in_common_after_next(&segments);
     while let Some(next) = segments.next() {
-        force = write_next_segment_lines(held, &mut times, &mut last, force, &next)?;
+        force = write_next_segment_lines(held, &mut times, &mut last, force, &next, common)?;
+        common = later;
+        later = force.in_common_after_next(&segments);
         hand_out_written_piece(held, sink)?;
     }
     Ok(())

@@ -13,7 +13,7 @@ use crate::room::written_text_room_for;
 use crate::segments::write_next_segment_lines;
 use crate::{OutPlaylist, written_lines_before_date_ranges};
 use date_times::TimeWriter;
-use playlist_model::{InitSection, Keys, Shared, Text};
+use playlist_model::{InCommon, InitSection, Keys, Shared, Text};
 use std::alloc::{AllocError, Global};
 use stitcher::{StitchedItems, StitchedList};
 
@@ -52,12 +52,15 @@ fn write_first_segment_lines<'a>(
     let mut times = TimeWriter::new();
     let mut last = LastDuration::new(alloc);
     let mut force = before;
+    let mut common = InCommon::nothing();
     let mut left = most;
     while left > 0 {
+        let later = force.in_common_after_next(&segments);
         let Some(next) = segments.next() else {
             return Ok(force);
         };
-        force = write_next_segment_lines(out, &mut times, &mut last, force, &next)?;
+        force = write_next_segment_lines(out, &mut times, &mut last, force, &next, common)?;
+        common = later;
         left -= 1;
     }
     Ok(force)
@@ -78,9 +81,12 @@ fn write_all_segment_lines<'a>(
     let mut segments = segments;
     let mut times = TimeWriter::new();
     let mut last = LastDuration::new(alloc);
-    let mut force = before;
+    let (mut force, mut common) = (before, InCommon::nothing());
+    let mut later = force.in_common_after_next(&segments);
     while let Some(next) = segments.next() {
-        force = write_next_segment_lines(out, &mut times, &mut last, force, &next)?;
+        force = write_next_segment_lines(out, &mut times, &mut last, force, &next, common)?;
+        common = later;
+        later = force.in_common_after_next(&segments);
     }
     Ok(force)
 }

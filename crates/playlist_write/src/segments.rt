@@ -1,10 +1,13 @@
 //! The lines of segments (RFC 8216, section 4.3.2).
-ghost use Rattle.std.specs.Prelude.{◌≡◌, ◌++◌, ◌∷◌, IfOk, OnOk, string_bytes, replicate, Some, false, true};
+ghost use Rattle.std.specs.Prelude.{◌≡◌, ◌++◌, ◌∷◌, IfOk, List, OnOk, Option, string_bytes, replicate, Some, false, true};
 ghost use Rattle.std.specs.Option.{option_copied};
 ghost use Rattle.spec_words.specs.Bytes.{comma};
+ghost use Rattle.playlist_model.specs.InCommon.{AreSameAt, IsInCommon, init_section_keys};
 ghost use Rattle.playlist_model.specs.Said as Said;
 ghost use Rattle.playlist_model.specs.Same.{same_option, same_init_section};
-ghost use Rattle.playlist_write.specs.Inner.Changes.{written_segment_changes_nothing, changes_owed};
+ghost use Rattle.playlist_model.specs.declared.InitSection.{InitSection};
+ghost use Rattle.playlist_model.specs.declared.Key.{Key};
+ghost use Rattle.playlist_write.specs.Inner.Changes.{HasInCommon, written_segment_changes_nothing, changes_owed};
 ghost use Rattle.playlist_write.specs.Owed.{line_saying, with_feed, said_text, changed_written_init_section, init_section_owed, written_keys_then, time_owed, byte_range_owed, media_owed, segment_owed, after_segment};
 ghost use Rattle.fixed_duration.specs.Appended.{Appends};
 
@@ -15,7 +18,8 @@ use crate::lines::{write_byte_range, write_line, write_line_feed};
 use date_times::TimeWriter;
 use fixed_duration::Nanos;
 use playlist_model::{
-    ByteRange, InitSection, Instant, KeysRef, SegmentRef, Shared, is_same_init_section,
+    ByteRange, InCommon, InitSection, Instant, KeyPlaces, KeysRef, SegmentRef, Shared,
+    is_same_init_section_in_common,
 };
 use std::alloc::AllocError;
 use stitcher::OutSegment;
@@ -36,27 +40,42 @@ fn write_discontinuity_lines(out: &mut String, steps: u64) -> Result<(), AllocEr
     Ok(())
 }
 
-// Whether an initialisation section is the one in force.
-fn is_written_init_section_current(current: Option<&InitSection>, new: &InitSection) -> bool
+// Whether an initialisation section is the one in force, of which `common` may say something.
+fn is_written_init_section_current(
+    current: Option<&InitSection>,
+    new: &InitSection,
+    common: InCommon,
+) -> bool
+    requires known { common.init_section ≡ true → option_copied current ≡ Some new.now }
+    requires keys { AreSameAt common.init_section_keys
+        (init_section_keys (option_copied current)) new.now.keys }
     ensures { result ≡ same_option same_init_section (Some new.now) (option_copied current.entry) }
 {
+    if common.init_section {
+        return true;
+    }
     match current {
-        Some(old) => is_same_init_section(new, old),
+        Some(old) => is_same_init_section_in_common(new, old, common.init_section_keys),
         None => false,
     }
 }
 
-// The initialisation section, if it is another than the one in force.
+// The initialisation section, if it is another than the one in force, of which `common` may say something.
 fn changed_written_init_section<'a>(
     current: Option<&InitSection>,
     init_section: &'a Option<Shared<InitSection>>,
+    common: InCommon,
 ) -> Option<&'a InitSection>
+    requires known { (new : InitSection) → common.init_section ≡ true → init_section.now ≡ Some new
+        → option_copied current ≡ Some new }
+    requires keys { AreSameAt common.init_section_keys
+        (init_section_keys (option_copied current)) (init_section_keys init_section.now) }
     ensures { option_copied result
         ≡ changed_written_init_section (option_copied current.entry) init_section.now }
 {
     match init_section {
         Some(new) => {
-            if is_written_init_section_current(current, new) {
+            if is_written_init_section_current(current, new, common) {
                 None
             } else {
                 Some(new)
@@ -76,6 +95,20 @@ fn written_keys_then<'a>(keys: &KeysRef<'a>, changed: Option<&'a InitSection>) -
     }
 }
 
+// The places at which these keys are known to be those of the next segment, but for their initialisation vectors.
+fn places_of_written_keys_then(changed: Option<&InitSection>, common: InCommon) -> KeyPlaces
+    ensures { (keys now : List Key) (current init_section : Option InitSection)
+        → IsInCommon common keys current now init_section
+        → ((new : InitSection) → option_copied changed.entry ≡ Some new → init_section ≡ Some new)
+        → AreSameAt result (written_keys_then keys (option_copied changed.entry)) now }
+{
+    if changed.is_some() {
+        common.own_keys
+    } else {
+        common.keys
+    }
+}
+
 // Whether the segment `next` says nothing before its time, after lines at whose end `keys` are in force: it has no
 // discontinuity and no initialisation section, and there are no keys.
 #[inline(always)]
@@ -89,17 +122,20 @@ fn written_segment_changes_nothing(keys: &KeysRef<'_>, next: &OutSegment<'_>) ->
 }
 
 // Appends the EXT-X-MAP of the initialisation section that changed, if one did, under its keys (RFC 8216, section
-// 4.3.2.5).
+// 4.3.2.5). At the places `same` these are `keys`, but for their initialisation vectors.
 fn write_changed_init_section_line(
     out: &mut String,
     keys: &KeysRef<'_>,
     changed: Option<&InitSection>,
+    same: KeyPlaces,
 ) -> Result<(), AllocError>
+    requires { (new : InitSection) → option_copied changed ≡ Some new
+        → AreSameAt same keys.now new.keys }
     ensures { Appends result out.old out.new
         (said_text (init_section_owed keys.now (option_copied changed.entry))) }
 {
     if let Some(init_section) = changed {
-        write_key_tag_lines(out, keys, &init_section.keys.lent())?;
+        write_key_tag_lines(out, keys, &init_section.keys.lent(), same)?;
         write_init_section_line(out, init_section)?;
     }
     Ok(())
@@ -211,15 +247,20 @@ fn write_each_change_before_segment(
     keys: &KeysRef<'_>,
     init_section: Option<&InitSection>,
     next: &OutSegment<'_>,
+    common: InCommon,
 ) -> Result<(), AllocError>
+    requires { HasInCommon common
+        (record { keys = keys.now; init_section = option_copied init_section }) next.now }
     ensures { Appends result out.old out.new
         (said_text (changes_owed
         (record { keys = keys.now; init_section = option_copied init_section.entry }) next.now)) }
 {
-    let changed = changed_written_init_section(init_section, next.segment.init_section());
+    let changed = changed_written_init_section(init_section, next.segment.init_section(), common);
     write_discontinuity_lines(out, next.discontinuities)?;
-    write_changed_init_section_line(out, keys, changed)?;
-    write_key_tag_lines(out, &written_keys_then(keys, changed), &next.segment.keys())?;
+    write_changed_init_section_line(out, keys, changed, common.keys.both(common.own_keys))?;
+    let then = written_keys_then(keys, changed);
+    let same = places_of_written_keys_then(changed, common);
+    write_key_tag_lines(out, &then, &next.segment.keys(), same)?;
     Ok(())
 }
 
@@ -230,7 +271,10 @@ fn write_changes_before_segment(
     keys: &KeysRef<'_>,
     init_section: Option<&InitSection>,
     next: &OutSegment<'_>,
+    common: InCommon,
 ) -> Result<bool, AllocError>
+    requires { HasInCommon common
+        (record { keys = keys.now; init_section = option_copied init_section }) next.now }
     ensures text { OnOk result
         (string_bytes out.new ≡ string_bytes out.old
         ++ said_text (changes_owed
@@ -241,7 +285,7 @@ fn write_changes_before_segment(
     if written_segment_changes_nothing(keys, next) {
         return Ok(false);
     }
-    write_each_change_before_segment(out, keys, init_section, next)?;
+    write_each_change_before_segment(out, keys, init_section, next, common)?;
     Ok(true)
 }
 
@@ -257,7 +301,8 @@ fn written_init_section_in(init_section: &Option<Shared<InitSection>>) -> Option
 
 /// Appends to `out` the lines of the segment `next`, after lines with `before` in force (RFC 8216, section 4.3.2), and
 /// answers what is in force then. `times` and `last` keep the time and the duration that were written last, so that
-/// equal ones are copied. Fails only if an allocation fails.
+/// equal ones are copied. `common` is what `next` is known to have in common with `before`. Fails only if an allocation
+/// fails.
 #[tactic(auto, using(crate::proofs::Changes::nothing_after))]
 #[inline(always)]
 pub fn write_next_segment_lines<'a>(
@@ -266,14 +311,16 @@ pub fn write_next_segment_lines<'a>(
     last: &mut LastDuration<'a>,
     before: InForce<'a>,
     next: &OutSegment<'a>,
+    common: InCommon,
 ) -> Result<InForce<'a>, AllocError>
+    requires { HasInCommon common before next.now }
     ensures text { OnOk result
         (string_bytes out.new ≡ string_bytes out.old
         ++ said_text (segment_owed before.entry next.now)) }
     ensures force { IfOk result (λ f. f ≡ after_segment before.entry next.now) }
 {
     let init_section = written_init_section_in(before.init_section);
-    let changes = write_changes_before_segment(out, &before.keys, init_section, next)?;
+    let changes = write_changes_before_segment(out, &before.keys, init_section, next, common)?;
     write_optional_instant_line(out, times, next.program_date_time)?;
     write_segment_media_lines(out, last, &next.segment)?;
     if changes {

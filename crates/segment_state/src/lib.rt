@@ -20,8 +20,8 @@ use crate::tags::{byte_range_tag_numbers, said_by_init_section_tag, said_by_key_
 use date_times::TimeReader;
 use fixed_duration::Nanos;
 use playlist_model::{
-    ByteRange, FaultKind, GrowingSegments, InitSection, Instant, KeyTag, Keys, MAX_SEGMENTS,
-    SegmentParts, SegmentSlice, Segments, Shared, ShortText, is_iv_needed,
+    ByteRange, FaultKind, GrowingSegments, InitSection, Instant, KeyPlaces, KeyTag, Keys,
+    MAX_SEGMENTS, SegmentParts, SegmentSlice, Segments, Shared, ShortText, is_iv_needed,
 };
 use std::alloc::{AllocError, Global};
 use std::marker::Model;
@@ -183,10 +183,10 @@ impl<'a> ReaderState<'a> {
         ensures segments { self.new.segments ≡ self.old.segments }
     {
         match said_by_key_tag(self.alloc, self.references.base(), rest)? {
-            KeyTag::End => self.segments.set_keys(Keys::none()),
+            KeyTag::End => self.segments.set_keys(Keys::none(), KeyPlaces::none()),
             KeyTag::Set(key) => {
-                let keys = keys_in_reader_state_with(self.alloc, self.segments.keys(), key)?;
-                self.segments.set_keys(keys);
+                let after = keys_in_reader_state_with(self.alloc, self.segments.keys(), key)?;
+                self.segments.set_keys(after.keys, after.same);
             }
         }
         Ok(())
@@ -211,7 +211,8 @@ impl<'a> ReaderState<'a> {
             keys,
         };
         let shared = Shared::new(self.alloc, init_section)?;
-        self.segments.set_init_section(Some(shared));
+        self.segments
+            .set_init_section(Some(shared), KeyPlaces::all());
         Ok(())
     }
 

@@ -6,7 +6,7 @@ ghost use Rattle.segment_state.specs.Views.{extent_after};
 
 use crate::{Part, ReaderState};
 use playlist_model::{
-    InitSection, Keys, MAX_SEGMENTS, Shared, are_same_keys, is_same_init_section,
+    InitSection, KeyPlaces, Keys, MAX_SEGMENTS, Shared, are_same_keys, is_same_init_section,
 };
 use std::alloc::AllocError;
 use std::marker::Model;
@@ -172,8 +172,9 @@ impl<'a> ReaderState<'a> {
         self.durations.end();
         self.byte_range = None;
         self.program_date_time = None;
-        self.segments.set_keys(keys);
-        self.segments.set_init_section(init_section);
+        self.segments.set_keys(keys, KeyPlaces::none());
+        self.segments
+            .set_init_section(init_section, KeyPlaces::none());
         self.last = last;
     }
 

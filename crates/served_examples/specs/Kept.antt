@@ -1,6 +1,7 @@
 -- What a channel keeps, is owed and answers, by what it was given.
 use Rattle.std.specs.Prelude.{ℕ, true, false, List, [], ◌∷◌, map, codes, Option, Some, None, option_map, Result, Ok, Err}
 use Rattle.url.specs.Parts.{Parts}
+use Rattle.playlist_model.specs.InCommon.{nothing_in_common}
 use Rattle.playlist_model.specs.Uri.{base_of}
 use Rattle.playlist_model.specs.declared.FaultKind.TheVariants.{NoHeader}
 use Rattle.playlist_write.specs.declared.resumed.WrittenText.{WrittenText}
@@ -32,7 +33,7 @@ abbrev pub state : ChannelState
 state = record {
   store = ab;
   last = Some (owed_heading_of five);
-  list = record { segment = stepped 5 3 1; instant = None; mark = None; goes_on = false } ∷ record { segment = stepped 6 3 0; instant = None; mark = Some (codes "a"); goes_on = false } ∷ [];
+  list = record { segment = stepped 5 3 1; instant = None; mark = None; goes_on = false; in_common = nothing_in_common } ∷ record { segment = stepped 6 3 0; instant = None; mark = Some (codes "a"); goes_on = false; in_common = nothing_in_common } ∷ [];
   shown = record {
     knowledge = record { id = codes "a"; said = nothing_said } ∷ [];
     entered = Some (codes "a");
@@ -63,7 +64,7 @@ StatesAreMeant = (base : Parts) → HasValues (channel_with base 5 state) (
 
 -- the same with five segments
 abbrev pub five_shown : ChannelState
-five_shown = record state { list = record { segment = stepped 5 3 0; instant = None; mark = None; goes_on = false } ∷ record { segment = stepped 6 3 0; instant = None; mark = None; goes_on = false } ∷ record { segment = stepped 7 3 0; instant = None; mark = None; goes_on = false } ∷ record { segment = stepped 8 3 0; instant = None; mark = None; goes_on = false } ∷ record { segment = stepped 9 3 0; instant = None; mark = None; goes_on = false } ∷ [] }
+five_shown = record state { list = record { segment = stepped 5 3 0; instant = None; mark = None; goes_on = false; in_common = nothing_in_common } ∷ record { segment = stepped 6 3 0; instant = None; mark = None; goes_on = false; in_common = nothing_in_common } ∷ record { segment = stepped 7 3 0; instant = None; mark = None; goes_on = false; in_common = nothing_in_common } ∷ record { segment = stepped 8 3 0; instant = None; mark = None; goes_on = false; in_common = nothing_in_common } ∷ record { segment = stepped 9 3 0; instant = None; mark = None; goes_on = false; in_common = nothing_in_common } ∷ [] }
 
 -- the segments that it holds, the oldest first
 abbrev pub SegmentsAreHeld : Type 0

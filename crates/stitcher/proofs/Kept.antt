@@ -4,6 +4,7 @@ use Rattle.std.specs.Prelude.{ℤ, Option, Some, None}
 use Rattle.std.specs.List.{list_all}
 use Rattle.std.proofs.lemmas.List.Folds.{list_all-append}
 use Rattle.playlist_model.specs.Segments.{Segment}
+use Rattle.playlist_model.specs.declared.in_common.InCommon.{InCommon}
 use Rattle.pod_store.specs.Store.{Store}
 use Rattle.stitcher.specs.Stitched.{Piece, Numbers}
 use Rattle.stitcher.specs.Written.{written_item}
@@ -51,23 +52,23 @@ passes_run made n m later same unfit more =
 
 -- ---- the segments in front that have no mark
 
-unmarked_more : (store : Store) (so_far : Option ℕ) (s : Segment) (instant : Option ℤ) (goes : Bool) (mark : Option (List ℕ)) (later : List MarkedSegment)
+unmarked_more : (store : Store) (so_far : Option ℕ) (s : Segment) (instant : Option ℤ) (goes : Bool) (common : InCommon) (mark : Option (List ℕ)) (later : List MarkedSegment)
     → pieces_on store so_far None later ≡ map unmarked_piece (take (unmarked_front_to_stitch later) later) ++ pieces_on store so_far None (drop (unmarked_front_to_stitch later) later)
-    → let m : MarkedSegment = record { segment = s; instant = instant; mark = mark; goes_on = goes } in
+    → let m : MarkedSegment = record { segment = s; instant = instant; mark = mark; goes_on = goes; in_common = common } in
     pieces_on store so_far None (m ∷ later)
     ≡ map unmarked_piece (take (unmarked_front_to_stitch (m ∷ later)) (m ∷ later)) ++ pieces_on store so_far None (drop (unmarked_front_to_stitch (m ∷ later)) (m ∷ later))
-unmarked_more store so_far s instant goes mark later h = grind arith
+unmarked_more store so_far s instant goes common mark later h = grind arith
 
 unmarked_pieces : (store : Store) (so_far : Option ℕ) (list : List MarkedSegment)
     → pieces_on store so_far None list ≡ map unmarked_piece (take (unmarked_front_to_stitch list) list) ++ pieces_on store so_far None (drop (unmarked_front_to_stitch list) list)
 unmarked_pieces store so_far [] = refl
-unmarked_pieces store so_far (m ∷ later) = unmarked_more store so_far m.segment m.instant m.goes_on m.mark later (unmarked_pieces store so_far later)
+unmarked_pieces store so_far (m ∷ later) = unmarked_more store so_far m.segment m.instant m.goes_on m.in_common m.mark later (unmarked_pieces store so_far later)
 
-front_with : (store : Store) (so_far : Option ℕ) (previous : Option (List ℕ)) (s : Segment) (instant : Option ℤ) (goes : Bool) (mark : Option (List ℕ)) (later : List MarkedSegment)
-    → let m : MarkedSegment = record { segment = s; instant = instant; mark = mark; goes_on = goes } in
+front_with : (store : Store) (so_far : Option ℕ) (previous : Option (List ℕ)) (s : Segment) (instant : Option ℤ) (goes : Bool) (common : InCommon) (mark : Option (List ℕ)) (later : List MarkedSegment)
+    → let m : MarkedSegment = record { segment = s; instant = instant; mark = mark; goes_on = goes; in_common = common } in
     pieces_on store so_far previous (m ∷ later) ≡ front_pieces store so_far previous (m ∷ later) ++ pieces_on store so_far mark (after_front (m ∷ later))
-front_with store so_far previous s instant goes None later = grind (arith, unmarked_pieces)
-front_with store so_far previous s instant goes (Some id) later = refl
+front_with store so_far previous s instant goes common None later = grind (arith, unmarked_pieces)
+front_with store so_far previous s instant goes common (Some id) later = refl
 
 pieces_front : (store : Store) (so_far : Option ℕ) (previous : Option (List ℕ)) (m : MarkedSegment) (later : List MarkedSegment)
     → pieces_on store so_far previous (m ∷ later) ≡ front_pieces store so_far previous (m ∷ later) ++ pieces_on store so_far m.mark (after_front (m ∷ later))

@@ -9,3 +9,4 @@ pub mod Kept
 pub mod Cursors
 pub mod Cuts
 pub mod Known
+pub mod Seconds

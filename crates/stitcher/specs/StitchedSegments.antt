@@ -2,6 +2,8 @@
 use Rattle.std.specs.Prelude.{◌≡◌, ℕ, ◌^◌, Bool, ◌&&◌, nat_lt, List, [], ◌∷◌, map, reverse, Option, Some, None, IsSome, option_map}
 use Rattle.std.specs.List.{AllByRecursion}
 use Rattle.pod_store.specs.Marks.{Mark, Marked as Meant, mark_in}
+use Rattle.playlist_model.specs.Segments.{Segment}
+use Rattle.playlist_model.specs.InCommon.{HaveInCommon}
 use Rattle.stitcher.specs.Stitched.{Numbers, numbered}
 use Rattle.stitcher.specs.Paced.{PodRest, StitchedEnds, stitched_with}
 use Rattle.pod_store.specs.Store.{Store, pod_for}
@@ -34,6 +36,21 @@ KnowsRun (Some id) m = m.goes_on ≡ is_same_stitched_run m.mark (Some id)
 abbrev pub KnowRuns : Option (List ℕ) → List MarkedSegment → Type 0
 KnowRuns previous [] = Unit {0}
 KnowRuns previous (m ∷ later) = KnowsRun previous m × KnowRuns m.mark later
+
+-- the segment knows what it has in common with the one before it, if there is one
+abbrev pub KnowsCommon : Option Segment → MarkedSegment → Type 0
+KnowsCommon None m = Unit {0}
+KnowsCommon (Some before) m = HaveInCommon m.in_common before m.segment
+
+-- so does each of these
+abbrev pub KnowCommon : Option Segment → List MarkedSegment → Type 0
+KnowCommon previous [] = Unit {0}
+KnowCommon previous (m ∷ later) = KnowsCommon previous m × KnowCommon (Some m.segment) later
+
+-- each of these knows of the one before it whether it goes on that one's run, and what both have in common
+pub record KnowPrevious (list : List MarkedSegment) : Type 0 where
+  pub runs : KnowRuns None list
+  pub common : KnowCommon None list
 
 -- the rest of a pod that the store has
 abbrev pub rest_from : ℕ → Mark → PodRest

@@ -1,9 +1,11 @@
 -- A stitched list as it is held: stretches, each of ads' segments and of the segments that are kept after them.
 use Rattle.std.specs.Prelude.{◌≡◌, ℕ, ◌-◌, ◌≤◌, true, List, [], ◌∷◌, ◌++◌, length, map, Option, Some, None}
-use Rattle.std.specs.List.{list_all}
+use Rattle.std.specs.List.{AllByRecursion, list_all}
+use Rattle.playlist_model.specs.declared.in_common.InCommon.{InCommon}
+use Rattle.playlist_model.specs.InCommon.{HaveInCommon}
 use Rattle.playlist_model.specs.Segments.{Segment}
 use Rattle.stitcher.specs.Stitched.{Numbers, next_stitched_numbers}
-use Rattle.stitcher.specs.StitchedSegments.{item_fits}
+use Rattle.stitcher.specs.StitchedSegments.{KnowCommon, item_fits}
 use Rattle.stitcher.specs.declared.OutSegment.{OutSegment}
 use Rattle.stitcher.specs.declared.marked.MarkedSegment.{MarkedSegment}
 use Rattle.stitcher.specs.declared.stitched_list.Stretch.{Stretch}
@@ -47,8 +49,23 @@ here_items c = map stitched_ad_item (ads_left c.ads) ++ segment_items c.numbers 
 abbrev pub left_items : Cursor → List OutSegment
 left_items c = here_items c ++ stretches_items c.later.now
 
--- stretches of so many items, as many of which stand before the list, and whose numbers fit
+-- the second of these items, if there is one, has this in common with the first
+abbrev pub SecondHasInCommon : InCommon → List OutSegment → Type 0
+SecondHasInCommon common items = (before now : OutSegment) (later : List OutSegment) → items ≡ before ∷ (now ∷ later) → HaveInCommon common before.segment now.segment
+
+-- the kept segments of each stretch know what they have in common
+abbrev pub KeptKnowCommon : List Stretch → Type 0
+KeptKnowCommon stretches = AllByRecursion (λ (s : Stretch). KnowCommon None s.kept.now) stretches
+
+-- so do those that are left to a walk, of its stretch and of the later ones
+pub record LeftKnowCommon (c : Cursor) : Type 0 where
+  pub here : KnowCommon None c.kept.now
+  pub later : KeptKnowCommon c.later.now
+
+-- stretches of so many items, as many of which stand before the list, whose numbers fit, and whose kept segments know what they
+-- have in common
 pub record IsHeld (stretches : List Stretch) (count passed : ℕ) : Type 0 where
   pub counted : count ≡ length (stretches_items stretches)
   pub within : passed ≤ count
   pub fit : list_all item_fits (stretches_items stretches) ≡ true
+  pub common : KeptKnowCommon stretches

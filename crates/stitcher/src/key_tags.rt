@@ -1,12 +1,13 @@
 //! The key tags that lead from keys to keys.
-ghost use Rattle.std.specs.Prelude.{◌≡◌, ◌∷◌, true, map, filter, IfErr, IfOk};
+ghost use Rattle.std.specs.Prelude.{◌≡◌, ◌∷◌, true, map, filter, IfErr, IfOk, bytes_eq};
 ghost use Rattle.std.specs.List.{list_any};
+ghost use Rattle.playlist_model.specs.InCommon.{AreSameAt, without_iv};
 ghost use Rattle.playlist_model.specs.LookBack.{has_format, are_sorted};
 ghost use Rattle.playlist_model.specs.Same.{same_key};
 ghost use Rattle.stitcher.specs.KeyTags.{is_new_key, keeps_formats, transition, after_tags};
 
 use crate::StitchFault;
-use playlist_model::{KeyRef, KeyTag, KeysRef, is_same_key};
+use playlist_model::{KeyPlaces, KeyRef, KeyTag, KeysRef, is_same_key};
 use std::alloc::{AllocError, Global};
 
 fn has_format_before_transition(keys: &KeysRef<'_>, format: &str) -> bool
@@ -20,18 +21,30 @@ fn has_format_before_transition(keys: &KeysRef<'_>, format: &str) -> bool
     false
 }
 
-// Whether `new` has the formats of `old` in front, each at its place.
-fn transition_keeps_formats_in_front(old: &KeysRef<'_>, new: &KeysRef<'_>) -> bool
+// Whether two keys have one format. If one tag stated both, `is_common` says so, and then nothing is compared.
+#[inline(always)]
+fn have_transition_keys_one_format(one: &KeyRef<'_>, other: &KeyRef<'_>, is_common: bool) -> bool
+    requires { is_common ≡ true → without_iv one.now ≡ without_iv other.now }
+    ensures { result ≡ bytes_eq one.now.format other.now.format }
+{
+    is_common || one.format() == other.format()
+}
+
+// Whether `new` has the formats of `old` in front, each at its place. At the places `same` both have the same key, but for
+// its initialisation vector.
+fn transition_keeps_formats_in_front(old: &KeysRef<'_>, new: &KeysRef<'_>, same: KeyPlaces) -> bool
+    requires { AreSameAt same old.now new.now }
     ensures { result ≡ true → keeps_formats old.now new.now ≡ true }
 {
-    let mut others = new.iter();
+    let (mut others, mut places) = (new.iter(), same);
     for key in old.iter() {
         let Some(other) = others.next() else {
             return false;
         };
-        if key.format() != other.format() {
+        if !have_transition_keys_one_format(&key, &other, places.holds_first()) {
             return false;
         }
+        places = places.later();
     }
     true
 }
@@ -48,12 +61,13 @@ fn transition_keeps_each_format(old: &KeysRef<'_>, new: &KeysRef<'_>) -> bool
 }
 
 /// Whether each format among the keys `old` is one among `new` too. If not, the tags between them state METHOD=NONE
-/// (RFC 8216, section 4.3.2.4).
-pub fn keeps_formats(old: &KeysRef<'_>, new: &KeysRef<'_>) -> bool
+/// (RFC 8216, section 4.3.2.4). At the places `same` both have the same key, but for its initialisation vector.
+pub fn keeps_formats(old: &KeysRef<'_>, new: &KeysRef<'_>, same: KeyPlaces) -> bool
+    requires { AreSameAt same old.now new.now }
     ensures { result ≡ keeps_formats old.now new.now }
 {
-    // Mostly each format is compared with one other alone: long ones cost much.
-    transition_keeps_formats_in_front(old, new) || transition_keeps_each_format(old, new)
+    // Mostly each format is compared with one other alone, or with none: long ones cost much.
+    transition_keeps_formats_in_front(old, new, same) || transition_keeps_each_format(old, new)
 }
 
 fn is_key_among_stitched(keys: &KeysRef<'_>, key: &KeyRef<'_>) -> bool
@@ -117,7 +131,7 @@ fn transition_tags_between(
 ) -> Result<Vec<KeyTag>, AllocError>
     ensures { IfOk result (λ tags. tags.items ≡ transition old.now new.now) }
 {
-    if keeps_formats(old, new) {
+    if keeps_formats(old, new, KeyPlaces::none()) {
         return transition_tags_of_new_keys(alloc, old, new);
     }
     transition_tags_after_end(alloc, new)

@@ -4,7 +4,7 @@ ghost use Rattle.std.specs.List.{list_all};
 ghost use Rattle.pod_store.specs.Marks.{Mark};
 ghost use Rattle.pod_store.specs.Rules.{ad_keeps};
 ghost use Rattle.stitcher.specs.Stitched.{ad_piece, ad_pieces, next_stitched_numbers, pieces_of_ads};
-ghost use Rattle.stitcher.specs.StitchedSegments.{AreDecided, KnowRuns, KnowsRun, RefusesNumber, item_fits, stitched_segments};
+ghost use Rattle.stitcher.specs.StitchedSegments.{AreDecided, KnowCommon, KnowPrevious, KnowRuns, KnowsRun, RefusesNumber, item_fits, stitched_segments};
 ghost use Rattle.pod_store.specs.Store.{pod_for};
 ghost use Rattle.stitcher.specs.Making.{is_same_stitched_run, unmarked_piece, pod_with};
 ghost use Rattle.stitcher.specs.Inner.Making.{IsUnder, Passes, PutsPieces, after_front, front_pieces, stitched_run_goes_on_to_last, kept_on, last_of_stitched_run, nothing_made, numbers_fit, numbers_with, stitched_part_after, part_after_one, stitched_part_at, part_here, pieces_in_part, pushed, pieces_of_rest, stitched_part_shows_next, steps_from, under_ad, unmarked_front_to_stitch, whole_from};
@@ -17,7 +17,7 @@ use crate::fault::StitchFault;
 use crate::marked::{MarkedSegment, Numbers};
 use crate::stitched_list::{StitchedList, Stretch};
 use fixed_duration::Nanos;
-use playlist_model::{GrowingSegments, SegmentParts, Shared, Text};
+use playlist_model::{GrowingSegments, KeyPlaces, SegmentParts, Shared, Text};
 use pod_store::{Ad, Pod, PodSegment, PodStore};
 use std::alloc::Global;
 use std::marker::Model;
@@ -58,11 +58,13 @@ pub struct Stitching<'a> {
 impl<'a> Model for Stitching<'a> {
     ghost use Rattle.std.specs.Prelude.{◌++◌, map};
     ghost use Rattle.stitcher.specs.Inner.Making.{Made};
-    ghost use Rattle.stitcher.specs.Stretches.{stitched_ad_item, stretches_items};
+    ghost use Rattle.stitcher.specs.Stretches.{KeptKnowCommon, stitched_ad_item, stretches_items};
 
     ghost Value = { Made };
 
     ghost view = { λ a. record { first = a.first; last = a.last; items = stretches_items a.stretches.items ++ map stitched_ad_item a.ads.segments; keys = a.ads.keys; init_section = a.ads.init_section } };
+
+    ghost invariant = { λ a. KeptKnowCommon a.stretches.items };
 }
 
 fn stitched_numbers_of(media: u64, discontinuity: u64, steps: u64) -> Numbers
@@ -284,8 +286,9 @@ impl<'a> Stitching<'a> {
         ensures ok { OnOk result (self.new ≡ under_ad self.old ad.now) }
         ensures err { IfErr result (λ e. e ≡ StitchFault.OutOfMemory) }
     {
-        self.ads.set_keys(ad.keys.clone()?);
-        self.ads.set_init_section(stitched_init_section(alloc, ad)?);
+        self.ads.set_keys(ad.keys.clone()?, KeyPlaces::none());
+        self.ads
+            .set_init_section(stitched_init_section(alloc, ad)?, KeyPlaces::none());
         Ok(())
     }
 
@@ -323,6 +326,7 @@ impl<'a> Stitching<'a> {
         numbers: Numbers,
         last: Last,
     ) -> Result<(), StitchFault>
+        requires { KnowCommon None kept.now }
         ensures ok { OnOk result (self.new ≡ kept_on self.old kept.now numbers last) }
         ensures err { IfErr result (λ e. e ≡ StitchFault.OutOfMemory) }
     {
@@ -338,7 +342,8 @@ impl<'a> Stitching<'a> {
 
     // Puts segments of the origin at the end, which follow each other.
     fn keep(&mut self, alloc: Global, kept: &'a [MarkedSegment]) -> Result<(), StitchFault>
-        requires { numbers_fit self.old.first ≡ true }
+        requires fits { numbers_fit self.old.first ≡ true }
+        requires common { KnowCommon None kept.now }
         ensures ok { OnOk result (PutsPieces self.old self.new (map unmarked_piece kept.now)) }
         ensures err { IfErr result
             (λ e. RefusesNumber e (Passes self.old (map unmarked_piece kept.now))) }
@@ -360,7 +365,8 @@ impl<'a> Stitching<'a> {
         kept: &'a [MarkedSegment],
         cut: usize,
     ) -> Result<(), StitchFault>
-        requires { numbers_fit self.old.first ≡ true }
+        requires fits { numbers_fit self.old.first ≡ true }
+        requires common { KnowCommon None kept.now }
         ensures ok { OnOk result (PutsPieces self.old self.new (map unmarked_piece kept.now)) }
         ensures err { IfErr result
             (λ e. RefusesNumber e (Passes self.old (map unmarked_piece kept.now))) }
@@ -379,7 +385,8 @@ impl<'a> Stitching<'a> {
         segments: &'a [MarkedSegment],
         cut: usize,
     ) -> Result<&'a [MarkedSegment], StitchFault>
-        requires { numbers_fit self.old.first ≡ true }
+        requires fits { numbers_fit self.old.first ≡ true }
+        requires common { KnowCommon None segments.now }
         ensures ok { OnOk result
             (PutsPieces self.old self.new
             (map unmarked_piece (take (unmarked_front_to_stitch segments.now) segments.now))) }
@@ -532,6 +539,7 @@ impl<'a> Stitching<'a> {
     ) -> Result<&'a [MarkedSegment], StitchFault>
         requires fits { numbers_fit self.old.first ≡ true }
         requires runs { KnowRuns previous.now segments.now }
+        requires common { KnowCommon None segments.now }
         ensures ok { OnOk result
             (PutsPieces self.old self.new
             (front_pieces store.now ends.now.so_far previous.now segments.now)) }
@@ -598,7 +606,7 @@ pub fn stitch<'a>(
     ends: &Ends,
 ) -> Result<StitchedList<'a>, StitchFault>
     requires decided { AreDecided store.now marked.now }
-    requires runs { KnowRuns None marked.now }
+    requires previous { KnowPrevious marked.now }
     ensures ok { IfOk result
         (λ v. (v ≡ stitched_segments store.now first ends.now marked.now)
         × (list_all item_fits v ≡ true)) }

@@ -1,14 +1,16 @@
 //! A stitched list. It holds no item: each is made when it is asked for.
-ghost use Rattle.std.specs.Prelude.{◌≡◌, ◌==◌, ◌∷◌, ◌+◌, ◌^◌, nat_le, ◌<◌, ◌≤◌, [], drop, length, true, MatchOption, IfSome, IfOk};
+ghost use Rattle.std.specs.Prelude.{◌≡◌, ◌==◌, ◌∷◌, ◌++◌, ◌+◌, ◌^◌, nat_le, ◌<◌, ◌≤◌, [], List, map, drop, length, true, None, MatchOption, IfSome, IfOk};
 ghost use Rattle.std.specs.List.{list_all};
-ghost use Rattle.stitcher.specs.StitchedSegments.{item_fits};
+ghost use Rattle.stitcher.specs.declared.OutSegment.{OutSegment};
+ghost use Rattle.stitcher.specs.StitchedSegments.{KnowCommon, item_fits};
 ghost use Rattle.stitcher.specs.Inner.Making.{numbers_fit};
 ghost use Rattle.stitcher.specs.Inner.Cuts.{stretches_within, items_left_from_stretches};
-ghost use Rattle.stitcher.specs.Stretches.{stitched_ad_item, ads_left, here_items, stitched_kept_item, left_items, stitched_numbers_on, stretch_items, stretches_items};
+ghost use Rattle.stitcher.specs.Stitched.{Numbers};
+ghost use Rattle.stitcher.specs.Stretches.{KeptKnowCommon, LeftKnowCommon, SecondHasInCommon, stitched_ad_item, ads_left, here_items, segment_items, stitched_kept_item, left_items, stitched_numbers_on, stretch_items, stretches_items};
 
 use crate::OutSegment;
 use crate::marked::{MarkedSegment, Numbers};
-use playlist_model::{SegmentRef, SegmentSlice, Segments};
+use playlist_model::{InCommon, SegmentRef, SegmentSlice, Segments};
 use std::alloc::AllocError;
 use std::marker::Model;
 
@@ -109,8 +111,10 @@ fn next_stitched_ad<'a>(
 // Goes to the next stretch that has an item, if none is left of this one.
 #[inline(always)]
 fn open_stitched_stretch<'a>(cursor: &mut Cursor<'a>)
+    requires { LeftKnowCommon cursor.old }
     ensures same { left_items cursor.new ≡ left_items cursor.old }
     ensures open { here_items cursor.new ≡ [] → left_items cursor.new ≡ [] }
+    ensures common { LeftKnowCommon cursor.new }
 {
     while is_past_stitched_ads(&cursor.ads) && cursor.kept.is_empty() {
         let stretches = cursor.later;
@@ -127,10 +131,12 @@ fn open_stitched_stretch<'a>(cursor: &mut Cursor<'a>)
 // The next item of the stretch.
 #[inline(always)]
 fn next_item_of_stretch<'a>(cursor: &mut Cursor<'a>) -> Option<OutSegment<'a>>
-    requires { list_all item_fits (here_items cursor.old) ≡ true }
+    requires fit { list_all item_fits (here_items cursor.old) ≡ true }
+    requires common { LeftKnowCommon cursor.old }
     ensures item { MatchOption result ((here_items cursor.old ≡ []) × (here_items cursor.new ≡ []))
         (λ item. here_items cursor.old ≡ item ∷ here_items cursor.new) }
     ensures later { cursor.new.later.now ≡ cursor.old.later.now }
+    ensures common { LeftKnowCommon cursor.new }
 {
     if let Some((segment, later)) = next_stitched_ad(&cursor.ads) {
         cursor.ads = Some(later);
@@ -146,6 +152,30 @@ fn next_item_of_stretch<'a>(cursor: &mut Cursor<'a>) -> Option<OutSegment<'a>>
     Some(item)
 }
 
+// What the second of these segments of ads has in common with the first; nothing if there is no second one.
+#[inline(always)]
+fn second_ad_of_stretch_in_common(ads: &SegmentSlice<'_>) -> InCommon
+    ensures { (more : List OutSegment) → SecondHasInCommon result (map stitched_ad_item ads.now ++ more) }
+{
+    if ads.len() < 2 {
+        return InCommon::nothing();
+    }
+    ads.second_in_common()
+}
+
+// What the second of these kept segments has in common with the first; nothing if there is no second one.
+#[inline(always)]
+fn second_kept_of_stretch_in_common(kept: &[MarkedSegment]) -> InCommon
+    requires { KnowCommon None kept.now }
+    ensures { (numbers : Numbers) (more : List OutSegment)
+        → SecondHasInCommon result (segment_items numbers kept.now ++ more) }
+{
+    let [_, second, ..] = kept else {
+        return InCommon::nothing();
+    };
+    second.in_common
+}
+
 /// The items of a stitched list, one after the other.
 #[derive(Drop)]
 pub struct StitchedItems<'a> {
@@ -157,13 +187,13 @@ impl<'a> Model for StitchedItems<'a> {
     ghost use Rattle.std.specs.List.{list_all};
     ghost use Rattle.stitcher.specs.declared.OutSegment.{OutSegment};
     ghost use Rattle.stitcher.specs.StitchedSegments.{item_fits};
-    ghost use Rattle.stitcher.specs.Stretches.{left_items};
+    ghost use Rattle.stitcher.specs.Stretches.{LeftKnowCommon, left_items};
 
     ghost Value = { List OutSegment };
 
     ghost view = { λ a. left_items a.cursor };
 
-    ghost invariant = { λ a. list_all item_fits (left_items a.cursor) ≡ true };
+    ghost invariant = { λ a. (list_all item_fits (left_items a.cursor) ≡ true) × LeftKnowCommon a.cursor };
 }
 
 impl<'a> StitchedItems<'a> {
@@ -175,6 +205,18 @@ impl<'a> StitchedItems<'a> {
     {
         open_stitched_stretch(&mut self.cursor);
         next_item_of_stretch(&mut self.cursor)
+    }
+
+    /// What the segment of the second item has in common with that of the first; nothing if there is no second one, or that
+    /// isn't known.
+    #[inline(always)]
+    pub fn second_in_common(&self) -> InCommon
+        ensures { SecondHasInCommon result self.now }
+    {
+        match &self.cursor.ads {
+            Some(ads) if ads.len() > 0 => second_ad_of_stretch_in_common(ads),
+            _ => second_kept_of_stretch_in_common(self.cursor.kept),
+        }
     }
 
     // Passes over the first items, so many.
@@ -189,7 +231,8 @@ impl<'a> StitchedItems<'a> {
 
 // The items of stretches.
 fn items_of_stretches<'a>(stretches: &'a [Stretch<'a>]) -> StitchedItems<'a>
-    requires { list_all item_fits (stretches_items stretches.now) ≡ true }
+    requires fit { list_all item_fits (stretches_items stretches.now) ≡ true }
+    requires common { KeptKnowCommon stretches.now }
     ensures { result ≡ stretches_items stretches.now }
 {
     StitchedItems {
@@ -265,7 +308,8 @@ fn items_left_from_stretches(stretches: &[Stretch<'_>], count: usize) -> usize
 
 // The items of stretches from a place on.
 fn items_at_stretch_place<'a>(stretches: &'a [Stretch<'a>], count: usize) -> StitchedItems<'a>
-    requires { list_all item_fits (stretches_items stretches.now) ≡ true }
+    requires fit { list_all item_fits (stretches_items stretches.now) ≡ true }
+    requires common { KeptKnowCommon stretches.now }
     ensures { result ≡ drop count (stretches_items stretches.now) }
 {
     let mut items = items_of_stretches(&stretches[stretches_within(stretches, count)..]);
@@ -300,7 +344,8 @@ impl<'a> StitchedList<'a> {
     pub(crate) fn from_stretches(
         stretches: Vec<Stretch<'a>>,
     ) -> Result<StitchedList<'a>, AllocError>
-        requires { list_all item_fits (stretches_items stretches.items) ≡ true }
+        requires fit { list_all item_fits (stretches_items stretches.items) ≡ true }
+        requires common { KeptKnowCommon stretches.items }
         ensures items { IfOk result (λ list. list ≡ stretches_items stretches.entry.items) }
         ensures room { IfOk result (λ list. length list < 2 ^ 64) }
     {

@@ -1,11 +1,13 @@
 -- What the bytes of a playlist denote, or their first fault; when segments begin, and which are the same.
-use Rattle.std.specs.Prelude.{ℕ, true, false, ℤ, pos, negsuc, List, [], ◌∷◌, ◌++◌, codes, Option, Some, None, option_map, Result, Ok, Err}
+use Rattle.std.specs.Prelude.{ℕ, Bool, true, false, ℤ, pos, negsuc, List, [], ◌∷◌, ◌++◌, codes, Option, Some, None, option_map, Result, Ok, Err}
 use Rattle.playlist_model.specs.declared.FaultKind.{FaultKind}
 use Rattle.playlist_model.specs.declared.FaultKind.TheVariants as fault
 use Rattle.playlist_model.specs.declared.PlaylistFault.{PlaylistFault}
 use Rattle.playlist_model.specs.declared.PlaylistKind.TheVariants.{Event}
 use Rattle.playlist_model.specs.declared.Playlist.{Playlist}
 use Rattle.playlist_model.specs.Segments.{Segment}
+use Rattle.playlist_model.specs.declared.in_common.KeyPlaces.{KeyPlaces}
+use Rattle.playlist_model.specs.InCommon.{init_section_keys, is_place_of, key_at}
 use Rattle.playlist_model.specs.declared.Key.{Key}
 use Rattle.playlist_model.specs.declared.InitSection.{InitSection}
 use Rattle.playlist_model.specs.Said as said
@@ -328,6 +330,43 @@ KeysHaveTheirIvs = HasValues (effective_key 7) (
     (identity (codes "a:k") None, identity (codes "a:k") (Some 7))
     ∷ (identity (codes "a:k") (Some 1), identity (codes "a:k") (Some 1))
     ∷ (of_format (codes "f") (codes "a:k"), of_format (codes "f") (codes "a:k")) ∷ [])
+
+abbrev pub stands_at : ℕ × List Key → Option Key
+stands_at it = key_at it.0 it.1
+
+-- 5.2: an IV that no tag states differs from segment to segment, and so a key that stays is the same but for its IV. The first
+-- place is 0, and past the last key there is none
+abbrev pub KeysStayButForTheirIvs : Type 0
+KeysStayButForTheirIvs = HasValues stands_at (
+    ((0, identity (codes "a:1") (Some 7) ∷ identity (codes "a:2") None ∷ []), Some (identity (codes "a:1") None))
+    ∷ ((1, identity (codes "a:1") (Some 7) ∷ of_format (codes "f") (codes "a:2") ∷ []), Some (of_format (codes "f") (codes "a:2")))
+    ∷ ((2, identity (codes "a:1") (Some 7) ∷ identity (codes "a:2") None ∷ []), None)
+    ∷ ((0, []), None) ∷ [])
+
+abbrev pub is_among : KeyPlaces × ℕ → Bool
+is_among it = is_place_of it.0 it.1
+
+-- places as bits, the lowest for the first: 5 is the first and the third, 32768 the sixteenth
+abbrev pub PlacesAreBits : Type 0
+PlacesAreBits = HasValues is_among (
+    ((record { bits = 5 }, 0), true)
+    ∷ ((record { bits = 5 }, 1), false)
+    ∷ ((record { bits = 5 }, 2), true)
+    ∷ ((record { bits = 0 }, 0), false)
+    ∷ ((record { bits = 32768 }, 15), true)
+    ∷ ((record { bits = 32768 }, 14), false)
+    ∷ ((record { bits = 65535 }, 16), false) ∷ [])
+
+-- keys of four formats, in their order
+abbrev pub four_keys : List Key
+four_keys = of_format (codes "e") (codes "a:1") ∷ of_format (codes "f") (codes "a:2") ∷ of_format (codes "g") (codes "a:3") ∷ identity (codes "a:4") None ∷ []
+
+-- 4.3.2.5: the keys of an initialisation section, if a segment has one
+abbrev pub SectionsHaveTheirKeys : Type 0
+SectionsHaveTheirKeys = HasValues init_section_keys (
+    (Some under_key_1, identity (codes "a:1") (Some 1) ∷ [])
+    ∷ (Some (record under_key_1 { keys = four_keys }), four_keys)
+    ∷ (None, []) ∷ [])
 
 -- a segment that lasts so long, and states this time
 abbrev pub lasting : ℕ → Option ℤ → Segment

@@ -9,6 +9,7 @@ use Rattle.break_finder.specs.Entrances.{is_within}
 use Rattle.break_finder.specs.declared.spans.TimesWithin.{TimesWithin}
 use Rattle.channel_spec.specs.Marking.{Moment, limits}
 use Rattle.channel_window.specs.declared.marking.Terms.{Terms}
+use Rattle.channel_window.specs.declared.marking.KnownTerms.{KnownTerms}
 use Rattle.channel_window.specs.declared.marking.Run.{Run}
 use Rattle.channel_window.specs.Marking.{stays, capped_in, length_before}
 
@@ -26,6 +27,11 @@ window_run_length_capped_at (Some terms) length = min length terms.most
 pub record AreTerms (m : Moment) (mark : Option (List ℕ)) (terms : Option Terms) : Type 0 where
   pub stays : (instant : Option ℤ) → window_segment_stays_in terms instant ≡ stays m mark instant
   pub capped : (length : ℕ) → window_run_length_capped_at terms length ≡ capped_in m.store mark length
+
+-- terms that were looked up are those of their break
+abbrev pub AreKnownTerms : Moment → Option KnownTerms → Type 0
+AreKnownTerms m None = Unit {0}
+AreKnownTerms m (Some known) = AreTerms m (Some known.id) known.terms
 
 -- an instant is one of these
 abbrev pub is_window_time_among : Option TimesWithin → Option ℤ → Bool

@@ -8,7 +8,7 @@ use Rattle.pod_store.specs.Marks.{Marked}
 use Rattle.stitcher.specs.Stitched.{Item, can_be_numbered}
 use Rattle.pod_store.specs.Store.{kept_in_use}
 use Rattle.pod_store.specs.Inner.Store.{NameTheSame}
-use Rattle.stitcher.specs.StitchedSegments.{AreDecided, KnowRuns, rest_in}
+use Rattle.stitcher.specs.StitchedSegments.{AreDecided, KnowPrevious, rest_in}
 use Rattle.stitcher.specs.Written.{written_item}
 use Rattle.stitcher.specs.declared.marked.MarkedSegment.{MarkedSegment as Held}
 use Rattle.playlist_write.specs.declared.resumed.WrittenText.{WrittenText}
@@ -57,7 +57,7 @@ pub record IsNext (kept : Kept) (p : Playlist) (known : List Break) (held : List
   pub breaks : next.shown.knowledge ≡ known
   pub shown : history_in kept.store (drop next.gone held) ≡ shown_from (first_number p.segments) list
   pub decided : AreDecided kept.store (drop next.gone held)
-  pub runs : KnowRuns None (drop next.gone held)
+  pub previous : KnowPrevious (drop next.gone held)
   pub entered : next.shown.entered ≡ or_earlier (last_entered list) kept.entered
   pub in_use : NameTheSame next.in_use.items (breaks_after kept p list)
   pub numbers : next.shown.numbers ≡ head_numbers (window_on kept p list so_long)
@@ -88,7 +88,7 @@ pub record IsReady (state : ChannelState) (written : Option WrittenText) (p : Pl
   pub stood : StoodIn (kept_in state) (items_on (kept_in state) p (history_in state.store held) lasted) written
   pub stands : take (length state.list) held ≡ state.list
   pub decided : AreDecided state.store held
-  pub runs : KnowRuns None held
+  pub previous : KnowPrevious held
   pub rising : AreRising held
   pub entered_is : entered ≡ or_earlier (last_entered (history_in state.store held)) state.shown.entered
   pub rest : IsRestDecided state.store state.shown.rest

@@ -1,6 +1,13 @@
--- Tables of a list that grow.
-use Rattle.std.specs.Prelude.{◌≡◌, ◌++◌, List, string_bytes}
+-- Tables of a list that grow, and what stands at their places.
+use Rattle.std.specs.Prelude.{◌≡◌, ◌++◌, ◌-◌, ◌<◌, ℕ, List, Option, Some, None, length, string_bytes}
+use Rattle.std.specs.List.{slice_get}
+use Rattle.playlist_model.specs.declared.Key.{Key}
+use Rattle.playlist_model.specs.declared.InitSection.{InitSection}
+use Rattle.playlist_model.specs.declared.in_common.KeyPlaces.{KeyPlaces}
+use Rattle.playlist_model.specs.declared.segments.Standing.{Standing}
 use Rattle.playlist_model.specs.declared.segments.Tables.{Tables}
+use Rattle.playlist_model.specs.InCommon.{AreSameAt, init_section_keys}
+use Rattle.playlist_model.specs.Rows.{row_standing}
 
 -- ys is xs, and maybe more
 pub record Grows {A : Type 0} (xs ys : List A) : Type 0 where
@@ -12,3 +19,19 @@ pub record Extends (t u : Tables) : Type 0 where
   pub texts : Grows (string_bytes t.texts) (string_bytes u.texts)
   pub byte_ranges : Grows t.byte_ranges.items u.byte_ranges.items
   pub standings : Grows t.standings.items u.standings.items
+
+-- at a place stands this over segments
+abbrev pub StandsAt : List Standing → ℕ → List Key → Option InitSection → ℕ → Type 0
+StandsAt standings discontinuities keys init_section place =
+    (found : Standing) × (slice_get standings place ≡ Some found) × (found.discontinuities ≡ discontinuities) × (found.keys ≡ keys) × (found.init_section ≡ init_section)
+
+-- the keys and the initialisation section in force are those of this place, if it is one
+abbrev pub AreInForceOf : List Standing → Option ℕ → List Key → Option InitSection → Type 0
+AreInForceOf standings None keys init_section = Unit {0}
+AreInForceOf standings (Some place) keys init_section =
+    (keys ≡ (row_standing standings place).keys) × (init_section ≡ (row_standing standings place).init_section) × (place < length standings)
+
+-- the last of these has its keys, at these places, in its initialisation section too, if it has one
+abbrev pub LastOwnKeys : List Standing → KeyPlaces → Type 0
+LastOwnKeys standings places = (last : Standing) → slice_get standings (length standings - 1) ≡ Some last
+    → AreSameAt places last.keys (init_section_keys last.init_section) × (last.init_section ≡ None → places.bits ≡ 0)

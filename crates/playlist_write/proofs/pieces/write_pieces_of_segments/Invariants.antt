@@ -2,6 +2,8 @@ use Rattle.std.proofs.Common.{◌++◌, length, string_bytes}
 use Rattle.byte_streams.specs.Devices.{NoneFailed}
 use Rattle.playlist_write.specs.Owed.{said_text, segments_owed}
 use Rattle.playlist_write.specs.Inner.Taken.{TookAllBut}
+use Rattle.stitcher.specs.Stretches.{SecondHasInCommon}
+use Rattle.playlist_write.specs.Inner.Changes.{HasFirstInCommon}
 use Rattle.playlist_write.proofs.pieces.write_pieces_of_segments.Given as goal
 
 abbrev pub invariant-loop-next : goal.invariant-loop-next
@@ -10,6 +12,8 @@ invariant-loop-next g l = record {
       (string_bytes l.held ++ said_text (segments_owed l.force l.segments))
       (string_bytes l.fn.held ++ said_text (segments_owed l.fn.before l.fn.segments));
   failed : NoneFailed (g.S.Sink.stand l.fn.sink).failed (g.S.Sink.stand l.sink).failed;
+  first : HasFirstInCommon l.common l.force l.segments;
+  second : SecondHasInCommon l.later l.segments;
 }
 
 abbrev pub decreases-loop-next : goal.decreases-loop-next

@@ -5,7 +5,7 @@ use Rattle.stitcher.specs.Stitched.{Piece}
 use Rattle.stitcher.specs.StitchedSegments.{item_fits}
 use Rattle.stitcher.specs.Inner.Making.{after_front, front_pieces, nothing_made, pieces_between, pieces_on}
 use Rattle.stitcher.proofs.Kept.{pieces_front_at}
-use Rattle.stitcher.proofs.Known.{known_after_front}
+use Rattle.stitcher.proofs.Known.{common_after_front, known_after_front}
 use Rattle.stitcher.proofs.Outcomes.{handed_on, if_ok}
 use Rattle.stitcher.proofs.Putting.{Walks, walks_on, comes_whole, passes_whole, none_left}
 use Rattle.stitcher.proofs.Runs.{in_order}
@@ -36,7 +36,7 @@ loop-here-preserved c =
     let rest = c.loop-here.rest.now in
     let previous = c.loop-here.previous.now in
     let walks = subst (λ (ps : List Piece). Walks (nothing_made c.args.first) c.loop-here.stitching all ps) (pieces_front_at store ends.so_far previous rest here c.in-Some.field-0-1.now c.in-Some.ensures.cases.0) c.loop-here.invariant.walks in
-    grind (arith, common_steps, walks_on, known_after_front)
+    grind (arith, common_steps, walks_on, known_after_front, common_after_front)
 
 pub returns-clause-ok : goal.returns-clause-ok
 returns-clause-ok c = grind (arith, common_steps, none_left, in_order, comes_whole, if_ok)

@@ -1,8 +1,32 @@
-use Rattle.std.proofs.Common.{append_assoc, arith}
+use Rattle.std.proofs.Common.{◌≡◌, ap, sym, ◌∙◌, arith}
+use Rattle.std.specs.Prelude.{None}
 use Rattle.std.proofs.lemmas.Grind.{common_steps}
-use Rattle.channel_window.proofs.Marked.{none_entered, none_next}
-use Rattle.channel_window.proofs.Extended.{one_more, unmarked_on}
+use Rattle.stitcher.specs.declared.marked.MarkedSegment.{MarkedSegment as Held}
+use Rattle.channel_window.proofs.Extended.{unmarked_here, unmarked_on}
+use Rattle.channel_window.proofs.MarkedSoFar.{none_marked, one_marked_on, no_segment_left, no_instant_left}
 use Rattle.channel_window.proofs.marking.Marker.all_unmarked.Goals as goal
 
+pub loop-segment-init : goal.loop-segment-init
+loop-segment-init c = record {
+  marked = none_marked _ _ _ _ _ _ (λ before now. c.nothing-in_common.ensures.common before.keys now.keys before.init_section now.init_section);
+  before = c.requires.unmarked;
+}
+
 pub loop-segment-preserved : goal.loop-segment-preserved
-loop-segment-preserved c = grind (arith, common_steps, none_next, none_entered, unmarked_on, one_more, append_assoc)
+loop-segment-preserved c =
+    let so_far = c.loop-segment.invariant in
+    let left = rw c.in-Some.is at c.in_ok-segment.ensures.next in
+    let instants = rw c.in-Some-2.is at c.in_ok-begun.ensures.next in
+    let unmarked : c.in_ok-clone.field-0 ≡ None = grind (arith, common_steps) in
+    let is = unmarked_here _ c.loop-segment.run c.in-Some.segment c.in-Some-2.begun c.loop-segment.in_common _ _ c.requires.empty so_far.before unmarked c.window_segment_marked_with.ensures in
+    let mark : c.window_segment_marked_with.result.mark ≡ c.loop-segment.run.before = ap (λ (h : Held). h.mark) c.window_segment_marked_with.ensures ∙ (unmarked ∙ sym so_far.before) in
+    record {
+      marked = one_marked_on _ _ _ _ _ _ _ _ _ _ _ _ _ _ _ _ _ _ so_far.marked left instants is (unmarked_on _ _ _ _ so_far.before mark) c.second_in_common-next_in_common.ensures c.in_ok-push.ensures.items;
+      before = so_far.before;
+    }
+
+pub returns-in_default : goal.returns-in_default
+returns-in_default c = record { marked = no_segment_left _ _ _ _ _ _ _ _ _ _ c.loop-segment.invariant.marked (grind (arith, common_steps)) }
+
+pub returns-in_default-2 : goal.returns-in_default-2
+returns-in_default-2 c = record { marked = no_instant_left _ _ _ _ _ _ _ _ _ _ c.loop-segment.invariant.marked (grind (arith, common_steps)) }

@@ -1,16 +1,11 @@
-use Rattle.std.proofs.Common.{◌≡◌, ◌++◌, length}
+use Rattle.std.proofs.Common.{◌≡◌, length}
 use Rattle.std.specs.Prelude.{None}
-use Rattle.channel_window.specs.Marking.{mark_on, length_after}
-use Rattle.channel_window.specs.Inner.Terms.{entered_after}
+use Rattle.channel_window.proofs.MarkedSoFar.{AreMarkedTo}
 use Rattle.channel_window.proofs.marking.Marker.all_unmarked.Given as goal
 
 abbrev pub invariant-loop-segment : goal.invariant-loop-segment
 invariant-loop-segment l = record {
-  done : l.done.items ++ mark_on l.self l.run.before l.run.entered l.segments l.instants ≡ l.fn.done.items ++ mark_on l.self l.fn.run.before l.fn.run.entered l.fn.segments l.fn.instants;
-  entered : entered_after l.run.entered (mark_on l.self l.run.before l.run.entered l.segments l.instants)
-      ≡ entered_after l.fn.run.entered (mark_on l.self l.fn.run.before l.fn.run.entered l.fn.segments l.fn.instants);
-  so_far : length_after l.self.store l.run.before l.run.so_far (mark_on l.self l.run.before l.run.entered l.segments l.instants)
-      ≡ length_after l.self.store l.fn.run.before l.fn.run.so_far (mark_on l.self l.fn.run.before l.fn.run.entered l.fn.segments l.fn.instants);
+  marked : AreMarkedTo l.self l.fn.run l.run l.fn.segments l.segments l.fn.instants l.instants l.fn.done.items l.done.items l.in_common;
   before : l.run.before ≡ None;
 }
 

@@ -2,7 +2,7 @@ use Rattle.std.proofs.Common.{arith}
 use Rattle.std.specs.Prelude.{string_bytes}
 use Rattle.std.proofs.lemmas.Grind.{common_steps}
 use Rattle.playlist_model.proofs.Rows.{text_put}
-use Rattle.playlist_model.proofs.segments.put_segment_text.Goals as goal
+use Rattle.playlist_model.proofs.places.put_segment_text.Goals as goal
 
 pub returns-clause-there : goal.returns-clause-there
 returns-clause-there c =
