@@ -1,6 +1,7 @@
 """Attribute lists and the numbers in them (RFC 8216, 4.2)."""
 from __future__ import annotations
 
+from collections.abc import Iterator
 from dataclasses import dataclass
 
 from .values import PAST, Fault, or_fault
@@ -23,16 +24,18 @@ class Attribute:
         return f'{self.name}="{self.value}"' if self.quoted else f"{self.name}={self.value}"
 
 
-def pieces_of(text: str) -> list[str]:
-    """4.2: the text cut at each comma that isn't between quotes."""
-    pieces: list[list[str]] = []
+def pieces_of(text: str) -> Iterator[str]:
+    """4.2: the text cut at each comma that isn't between quotes, a piece at a time."""
+    parts: list[str] = []
     quotes = 0
     for part in text.split(","):
-        if quotes % 2 == 0:
-            pieces.append([])
-        pieces[-1].append(part)
+        parts.append(part)
         quotes += part.count('"')
-    return [",".join(parts) for parts in pieces]
+        if quotes % 2 == 0:
+            yield ",".join(parts)
+            parts = []
+    if parts:
+        yield ",".join(parts)
 
 
 def is_name(text: str) -> bool:

@@ -310,7 +310,7 @@ def test_answers_of_a_hostile_ad_server_are_judged(room):
 
 def test_readers_take_time_by_their_bytes(room):
     # (each reader at two sizes of each hostile kind, in a process of its own)
-    code = ("import sys, time; sys.path.insert(0, sys.argv[1])\n"
+    code = ("import itertools, sys, time; sys.path.insert(0, sys.argv[1])\n"
             "from adsplice_plant import asking, decisions, excerpt, judge, numbers, origin, packaged, playlist, seen, spelling\n"
             "from adsplice_plant.history import Given\n"
             "H, E = b'#EXTM3U\\n#EXT-X-TARGETDURATION:2\\n', b'\\n#EXTINF:2,\\ns0.ts\\n'\n"
@@ -322,8 +322,10 @@ def test_readers_take_time_by_their_bytes(room):
             "READERS = {'playlist': playlist.read, 'bounds': lambda body: origin.over_bound(body, 16384), 'packaged': packed, 'numbers': numbers.items_of,\n"
             "           'seen': lambda body: seen.strange_in(Given('origin', 'x', body)), 'ranges': lambda body: list(Given('origin', 'x', body).ranges()), 'said': decisions.said_by, 'judge': judge.judge}\n"
             "def took(read, body):\n    begun = time.process_time(); read(body); return time.process_time() - begun\n"
-            "for kind, make in KINDS.items():\n    for name, read in READERS.items():\n        small, large = (min(took(read, make(n)) for _ in range(2)) for n in (60_000, 240_000))\n"
-            "        if large > 7 * small + 0.03 or large > 1:\n            print(kind, name, round(small, 3), round(large, 3))\n")
+            "def grows(read, make):\n    small, large = (min(took(read, make(n)) for _ in range(2)) for n in (60_000, 240_000))\n"
+            "    return f'{small:.3f} {large:.3f}' if large > 7 * small + 0.03 or large > 1 else ''\n"
+            "for kind, make in KINDS.items():\n    for name, read in READERS.items():\n        looks = (grows(read, make) for _ in range(3))  # (a machine that is busy makes one look slow)\n"
+            "        if len(found := list(itertools.takewhile(bool, looks))) == 3:\n            print(kind, name, *found)\n")
     done = subprocess.run([PYTHON, "-c", code, PLANT], capture_output=True, text=True, timeout=120, check=False)
     assert (done.returncode, done.stdout) == (0, ""), (done.stdout, done.stderr[-500:])
 
