@@ -207,6 +207,6 @@ WORDS: dict[str, tuple[int, Any]] = {
     "option_map": (2, lambda f, o: o if o == NONE else ("Some", f(o[1]))), "option_and_then": (2, lambda f, o: o if o == NONE else f(o[1])), "option_or": (2, lambda o, p: p if o == NONE else o),
     "result_unwrap_or": (2, lambda r, d: r[1] if r[0] == "Ok" else d), "is_ok": (1, lambda r: r[0] == "Ok"), "is_err": (1, lambda r: r[0] == "Err"),
     "chars": (1, chars), "is_utf8": (1, is_utf8), "lines": (1, lines), "decimal": (1, decimal), "nat_cmp": (2, order_of), "slice_cmp": (3, order_of_lists), "pointwise": (3, same_at_each_place),
-    "bit_at": (2, lambda mask, place: mask >> place & 1), "onto_first": (2, onto_first),
+    "bit_at": (2, lambda mask, place: mask >> place & 1), "bit_and": (2, lambda one, other: one & other), "onto_first": (2, onto_first),
 }
 JSON_WORDS: dict[str, tuple[int, Any]] = {"read": (1, json_read)}

@@ -1,6 +1,6 @@
 -- What a segment has in common with the one before it (RFC 8216, sections 4.3.2.4 and 4.3.2.5): a tag holds until another
 -- one replaces what it says, so many segments have one key and one initialisation section.
-use Rattle.std.specs.Prelude.{◌≡◌, ℕ, ◌==◌, Bool, true, false, List, [], Option, Some, None, option_map}
+use Rattle.std.specs.Prelude.{◌≡◌, ℕ, ◌==◌, Bool, true, false, List, [], Option, Some, None, option_map, bit_and}
 use Rattle.std.specs.List.{slice_get}
 use Rattle.std.specs.Int.{bit_at}
 use Rattle.playlist_model.specs.declared.Key.{Key}
@@ -56,6 +56,14 @@ pub record AreAlike (common : InCommon) (one other : Segment) : Type 0 where
 
 abbrev pub no_places : KeyPlaces
 no_places = record { bits = 0 }
+
+-- each of the 16 places: at most 16 keys are in force together
+abbrev pub all_places : KeyPlaces
+all_places = record { bits = 65535 }
+
+-- the places that are in both: a bit stands in `bit_and` if it stands in each of the two
+abbrev pub both_places : KeyPlaces → KeyPlaces → KeyPlaces
+both_places one other = record { bits = bit_and one.bits other.bits }
 
 abbrev pub nothing_in_common : InCommon
 nothing_in_common = record { keys = no_places; init_section = false; own_keys = no_places; init_section_keys = no_places }

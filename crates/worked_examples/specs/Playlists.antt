@@ -7,7 +7,7 @@ use Rattle.playlist_model.specs.declared.PlaylistKind.TheVariants.{Event}
 use Rattle.playlist_model.specs.declared.Playlist.{Playlist}
 use Rattle.playlist_model.specs.Segments.{Segment}
 use Rattle.playlist_model.specs.declared.in_common.KeyPlaces.{KeyPlaces}
-use Rattle.playlist_model.specs.InCommon.{init_section_keys, is_place_of, key_at}
+use Rattle.playlist_model.specs.InCommon.{all_places, both_places, init_section_keys, is_place_of, key_at, no_places}
 use Rattle.playlist_model.specs.declared.Key.{Key}
 use Rattle.playlist_model.specs.declared.InitSection.{InitSection}
 use Rattle.playlist_model.specs.Said as said
@@ -346,7 +346,8 @@ KeysStayButForTheirIvs = HasValues stands_at (
 abbrev pub is_among : KeyPlaces × ℕ → Bool
 is_among it = is_place_of it.0 it.1
 
--- places as bits, the lowest for the first: 5 is the first and the third, 32768 the sixteenth
+-- places as bits, the lowest for the first: 5 is the first and the third, 32768 the sixteenth. No place has a bit in none, and
+-- each of 16 has one in all
 abbrev pub PlacesAreBits : Type 0
 PlacesAreBits = HasValues is_among (
     ((record { bits = 5 }, 0), true)
@@ -355,7 +356,28 @@ PlacesAreBits = HasValues is_among (
     ∷ ((record { bits = 0 }, 0), false)
     ∷ ((record { bits = 32768 }, 15), true)
     ∷ ((record { bits = 32768 }, 14), false)
-    ∷ ((record { bits = 65535 }, 16), false) ∷ [])
+    ∷ ((record { bits = 65535 }, 16), false)
+    ∷ ((no_places, 0), false)
+    ∷ ((no_places, 15), false)
+    ∷ ((all_places, 0), true)
+    ∷ ((all_places, 7), true)
+    ∷ ((all_places, 15), true)
+    ∷ ((all_places, 16), false) ∷ [])
+
+abbrev pub among_both : KeyPlaces × KeyPlaces → KeyPlaces
+among_both it = both_places it.0 it.1
+
+-- a place is in both if it is in each: 13 is the places 0, 2 and 3, 7 is 0, 1 and 2, and 5 is 0 and 2
+abbrev pub PlacesAreAmongBoth : Type 0
+PlacesAreAmongBoth = HasValues among_both (
+    ((record { bits = 13 }, record { bits = 7 }), record { bits = 5 })
+    ∷ ((record { bits = 7 }, record { bits = 13 }), record { bits = 5 })
+    ∷ ((record { bits = 5 }, record { bits = 2 }), record { bits = 0 })
+    ∷ ((record { bits = 32769 }, record { bits = 32770 }), record { bits = 32768 })
+    ∷ ((record { bits = 9 }, record { bits = 65535 }), record { bits = 9 })
+    ∷ ((all_places, record { bits = 9 }), record { bits = 9 })
+    ∷ ((all_places, all_places), record { bits = 65535 })
+    ∷ ((record { bits = 9 }, no_places), record { bits = 0 }) ∷ [])
 
 -- keys of four formats, in their order
 abbrev pub four_keys : List Key

@@ -5,7 +5,7 @@
 
 ghost use Rattle.worked_examples.specs.Texts.{DurationsAreRead, DurationsAreWritten, DurationsAreRounded, AttributesAreRead, AttributesAreLimited, AttributesAreWritten, DecimalsAreRead, SequencesAreRead, InstantsAreRead, InstantsAreWritten, PairFaultsAreOrdered, ValuesAreChecked, MonthsEnd, FormsAreChecked, OffsetsAreRead};
 ghost use Rattle.worked_examples.specs.Lines.{LinesArePlaced, LinesHaveTheirKinds, TagsHaveTheirNames, SchemesAreSeen, VersionsAreRead, TypesAreRead, SegmentDurationsAreRead, ByteRangesAreRead, ReferencesAreResolved, BasesAreWebUrls, KeysAreRead, InitSectionsAreRead, DateRangesAreRead, JoinsCanBeWritten, PathsAreJoined};
-ghost use Rattle.worked_examples.specs.Playlists.{WholePlaylistIsRead, TagsArePlaced, SegmentsAreChecked, HeadersAreChecked, ReadersAreLimited, LimitsAreStated, KeysAreInForce, KeysHaveTheirIvs, KeysStayButForTheirIvs, PlacesAreBits, SectionsHaveTheirKeys, LinesStand, SegmentsBegin, InstantsFollow, SegmentsEnd, PartsAreKept, SegmentsAreCompared, FaultsAreTold, TagsApartArePlaced, TagsAfterSegmentsArePlaced, TagsStand};
+ghost use Rattle.worked_examples.specs.Playlists.{WholePlaylistIsRead, TagsArePlaced, SegmentsAreChecked, HeadersAreChecked, ReadersAreLimited, LimitsAreStated, KeysAreInForce, KeysHaveTheirIvs, KeysStayButForTheirIvs, PlacesAreBits, PlacesAreAmongBoth, SectionsHaveTheirKeys, LinesStand, SegmentsBegin, InstantsFollow, SegmentsEnd, PartsAreKept, SegmentsAreCompared, FaultsAreTold, TagsApartArePlaced, TagsAfterSegmentsArePlaced, TagsStand};
 ghost use Rattle.worked_examples.specs.Splices.{SplicesAreRead, LargeSplicesAreRead, SpliceFaultsAreOrdered};
 ghost use Rattle.worked_examples.specs.Breaks.{SignalsAreRead, TicksAreCounted, FirstValuesStand, BreaksEnd, BreaksAreSignalled, StartsAreNear, EndsAreNear, ClosedBreaksCanBeEntered, BreaksAreKnown, BreaksAreEntered, BreaksGoOn, ReasonsAreTold, StartsAreStated, MarksAreMade, BreaksOfOthersGoOn, ReasonsOfOthersAreTold};
 ghost use Rattle.worked_examples.specs.Pods.{IdsAreChecked, UrisAreChecked, MethodsAreChecked, FormatsAreChecked, PodsAreSummed, PodsFit, PodsWithInitSectionsFit, RulesAreKept, DecisionsAreTaken, StoreIsLimited, PodsAreFound, OwnPodsFit, UsedPodsStay, FilesAreRead, BreaksAreChecked, AdsAreChecked, SegmentsAreCounted, FaultsOfFilesAreTold, LackOfMemoryHasNoPlace, LongIdsAreApart, LongIdsCountOnce, LongIdsAreFound, StoresFit, NothingIsCopied, AdsAreCounted, ManySegmentsAreCounted};
@@ -67,6 +67,7 @@ pub fn playlists_have_their_values()
     ensures keys_have_their_ivs { KeysHaveTheirIvs }
     ensures keys_stay_but_for_their_ivs { KeysStayButForTheirIvs }
     ensures places_are_bits { PlacesAreBits }
+    ensures places_are_among_both { PlacesAreAmongBoth }
     ensures sections_have_their_keys { SectionsHaveTheirKeys }
     ensures lines_stand { LinesStand }
     ensures segments_begin { SegmentsBegin }

@@ -18,4 +18,4 @@ pub returns-in-Some-get : goal.returns-in-Some-get
 returns-in-Some-get c = λ next h other found.
     let shown = c.args.shown.now in
     let here = slice_get_read shown (length shown) c.in-Some.place c.in-Some-get.next.now refl (ltb-true c.in-Some.place (length c.args.shown.now) (sym c.in-Some-get.ensures.lookup.0)) c.in-Some-get.ensures.lookup.1 in
-    alike_next shown c.args.segment.now next c.first_shown_number-first.result c.in-Some.place c.args.in_common c.after_same.result c.in-Some-get.next.now other c.requires.contiguous c.requires.common c.requires.same c.first_shown_number-first.ensures (grind (arith, common_steps)) (grind (arith, common_steps)) here c.after_same.ensures h found
+    alike_next shown c.args.segment.now next c.first_shown_number-first.result c.in-Some.place c.args.in_common c.after_same.result c.in-Some-get.next.now other c.requires.contiguous c.requires.common c.requires.same c.first_shown_number-first.ensures (grind (arith, common_steps)) (grind (arith, common_steps)) here c.after_same.ensures.alike h found

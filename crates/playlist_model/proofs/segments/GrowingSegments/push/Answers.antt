@@ -26,7 +26,7 @@ invariant_of-self-then-not-self c =
       (listed_on c.self.inside.tables c.push_segment_row.new.tables c.self.inside.rows.items c.push_segment_row.new.rows.items row.0 _ c.push_segment_row.ensures.extends c.self.invariant.0 row.1 row.2 row.3).0,
       λ _. last,
       c.push_segment_row.ensures.common,
-      compared_with_itself _ c.whole-self-inside.result c.self.inside.keys c.self.inside.init_section last (c.whole-self-inside.ensures c.self.inside.keys c.self.inside.init_section c.is_some.ensures c.self.invariant.3.own),
+      compared_with_itself _ c.whole-self-inside.result c.self.inside.keys c.self.inside.init_section last (c.whole-self-inside.ensures.common c.self.inside.keys c.self.inside.init_section c.is_some.ensures c.self.invariant.3.own),
     )
 
 pub invariant_of-self-else-not-self : goal.invariant_of-self-else-not-self
