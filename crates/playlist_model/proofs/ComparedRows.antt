@@ -8,7 +8,7 @@ use Rattle.playlist_model.specs.declared.InitSection.{InitSection}
 use Rattle.playlist_model.specs.declared.in_common.InCommon.{InCommon}
 use Rattle.playlist_model.specs.declared.segments.Standing.{Standing}
 use Rattle.playlist_model.specs.EffectiveKeys.{effective_key}
-use Rattle.playlist_model.specs.InCommon.{AreSameAt, IsInCommon, init_section_keys}
+use Rattle.playlist_model.specs.InCommon.{IsInCommon}
 use Rattle.playlist_model.specs.Rows.{AreCompared, IsComparedWithLast, IsLastOf, no_standing, row_standing}
 use Rattle.playlist_model.proofs.InCommons.{common_under_numbers, found_in_pushed, last_of_pushed}
 
@@ -32,9 +32,6 @@ compared_on old z c l w = record {
   with_before = λ place before now f g. found_in_pushed old z (place + 1) now g
       (λ found. c.with_before place before now (earlier place before now f found) found)
       (λ past is. subst (λ now. IsInCommon now.in_common before.keys before.init_section now.keys now.init_section) (sym is) (l.with_last before (before_last old z before place f past)));
-  own = λ place now f. found_in_pushed old z place now f
-      (λ found. c.own place now found)
-      (λ past is. subst (λ now. AreSameAt now.in_common.own_keys now.keys (init_section_keys now.init_section)) (sym is) l.own);
   whole = λ place now f. found_in_pushed old z place now f
       (λ found. c.whole place now found)
       (λ past is. subst (λ now. IsInCommon now.whole now.keys now.init_section now.keys now.init_section) (sym is) w);

@@ -79,10 +79,9 @@ pub record IsLastOf (standings : List Standing) (keys : List Key) (init_section 
   pub keys_are : last.keys ≡ keys
   pub init_section_is : last.init_section ≡ init_section
 
--- each of these knows what it has in common with the one before it, and with its own initialisation section
+-- each of these knows what it has in common with the one before it, and with itself
 pub record AreCompared (standings : List Standing) : Type 0 where
   pub with_before : (place : ℕ) (before now : Standing) → slice_get standings place ≡ Some before → slice_get standings (place + 1) ≡ Some now → IsInCommon now.in_common before.keys before.init_section now.keys now.init_section
-  pub own : (place : ℕ) (now : Standing) → slice_get standings place ≡ Some now → AreSameAt now.in_common.own_keys now.keys (init_section_keys now.init_section)
   pub whole : (place : ℕ) (now : Standing) → slice_get standings place ≡ Some now → IsInCommon now.whole now.keys now.init_section now.keys now.init_section
 
 -- what these keys and this initialisation section have in common with the last of these, and with each other

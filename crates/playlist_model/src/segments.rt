@@ -208,7 +208,7 @@ fn last_own_keys(standings: &[Standing]) -> KeyPlaces
     if last.init_section.is_none() {
         return KeyPlaces::none();
     }
-    last.in_common.own_keys
+    last.whole.own_keys
 }
 
 // Whether this place of a standing comes directly after the other, if that one is known.
@@ -442,7 +442,7 @@ impl GrowingSegments {
     fn take_standing(&mut self, standing: &Standing, is_next: bool) -> Result<(), AllocError>
         requires next { is_next ≡ true
             → IsInCommon standing.now.in_common self.old.keys self.old.init_section standing.now.keys standing.now.init_section }
-        requires own { AreSameAt standing.now.in_common.own_keys standing.now.keys (init_section_keys standing.now.init_section) }
+        requires own { AreSameAt standing.now.whole.own_keys standing.now.keys (init_section_keys standing.now.init_section) }
         ensures taken { OnOk result
             (self.new ≡ record self.old { keys = standing.now.keys; init_section = standing.now.init_section }) }
         ensures refused { OnErr result (self.new.segments ≡ self.old.segments) }
@@ -456,7 +456,7 @@ impl GrowingSegments {
         if in_common.init_section && standing.init_section.is_some() {
             return Ok(());
         }
-        self.set_init_section(standing.init_section.clone()?, standing.in_common.own_keys);
+        self.set_init_section(standing.init_section.clone()?, standing.whole.own_keys);
         Ok(())
     }
 
