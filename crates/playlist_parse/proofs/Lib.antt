@@ -21,3 +21,4 @@ pub mod SaidAgain
 pub mod KnownRanges
 pub mod Mixed
 pub mod Rows
+pub mod PathSegments

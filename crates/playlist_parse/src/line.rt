@@ -1,5 +1,5 @@
 //! The lines of a playlist and their kinds (RFC 8216, section 4.1).
-ghost use Rattle.std.specs.Prelude.{◌≡◌, [], ◌∷◌, ◌++◌, true, map, ◌+◌, ◌^◌, ◌<◌, length, IfSome, MatchOption};
+ghost use Rattle.std.specs.Prelude.{◌≡◌, [], ◌∷◌, ◌++◌, true, false, map, ◌+◌, ◌^◌, ◌<◌, length, IfSome, MatchOption};
 ghost use Rattle.std.specs.List.{list_all, position_or_len, before_first, after_first};
 ghost use Rattle.std.specs.Str.Lines.{lines, strip_carriage_return};
 ghost use Rattle.attr_list.specs.Attributes.{slices_at};
@@ -8,10 +8,12 @@ ghost use Rattle.playlist_parse.specs.LineViews.{line_kind_view, line_span, line
 ghost use Rattle.playlist_parse.specs.Inner.LineViews.{is_plain_byte, line_text};
 ghost use Rattle.playlist_parse.specs.Inner.Source.{EndsInFeed};
 ghost use Rattle.segment_state.specs.Repeated.{IsLineOf};
+ghost use Rattle.uri_resolver.specs.Plain.{is_path_segment_byte};
 
 use attr_list::Span;
 use memchr::{memchr, memrchr};
 use std::marker::Model;
+use uri_resolver::after_path_segment;
 
 /// What a line of a playlist is, as slices of it.
 #[derive(Clone, Copy)]
@@ -34,6 +36,8 @@ pub enum LineKind<'a> {
 pub struct Line<'a> {
     pub span: Span,
     pub text: &'a str,
+    /// Whether the text was seen to be one plain segment of a path (RFC 3986, section 3.3).
+    pub is_path_segment: bool,
 }
 
 /// Whether `line` has no character but spaces.
@@ -111,14 +115,20 @@ pub fn has_plain_line_bytes(bytes: &[u8]) -> bool
     plain
 }
 
-// A line that begins at a place.
-fn line_starting_at(start: usize, text: &str) -> Line<'_>
+// A line that begins at a place, and whether it was seen to be a segment of a path.
+#[inline(always)]
+fn line_starting_at(start: usize, text: &str, is_path_segment: bool) -> Line<'_>
     requires { start + length text.now < 2 ^ 64 }
-    ensures { line_view result ≡ with_end (start, text.now) }
+    ensures line { line_view result ≡ with_end (start, text.now) }
+    ensures segment { result.is_path_segment ≡ is_path_segment }
 {
     let end = start + text.len();
     let span = Span { start, end };
-    Line { span, text }
+    Line {
+        span,
+        text,
+        is_path_segment,
+    }
 }
 
 #[tactic(auto, using(crate::proofs::Places::last_line, crate::proofs::Places::no_line))]
@@ -126,13 +136,14 @@ fn line_starting_at(start: usize, text: &str) -> Line<'_>
 fn last_line_of_text(start: usize, rest: &str) -> Option<Line<'_>>
     requires bound { start + length rest.now < 2 ^ 64 }
     requires last { position_or_len is_feed rest.now ≡ length rest.now }
-    ensures { MatchOption result (lines_from start rest.now ≡ [])
+    ensures line { MatchOption result (lines_from start rest.now ≡ [])
         (λ line. lines_from start rest.now ≡ line_view line ∷ []) }
+    ensures segment { IfSome result (λ line. line.is_path_segment ≡ false) }
 {
     if rest.is_empty() {
         return None;
     }
-    Some(line_starting_at(start, rest))
+    Some(line_starting_at(start, rest, false))
 }
 
 // A text's two parts around its first line feed: as `split_once`, by vectors, since the search takes most of the time.
@@ -147,6 +158,24 @@ fn cut_at_line_feed(text: &str) -> Option<(&str, &str)>
         None => None,
         Some(at) => Some((&text[..at], &text[at + 1..])),
     }
+}
+
+// The same, if what stands before the line feed is one plain segment of a path: most references are, and their bytes are
+// looked at once then.
+#[inline(always)]
+fn cut_after_path_segment(text: &str) -> Option<(&str, &str)>
+    ensures { MatchOption result (Unit {0})
+        (λ parts. (position_or_len is_feed text.now < length text.now)
+        × (parts.0.now ≡ before_first is_feed text.now)
+        × (parts.1.now ≡ after_first is_feed text.now)
+        × (list_all is_path_segment_byte parts.0.now ≡ true)) }
+{
+    let bytes = text.as_bytes();
+    let at = bytes.len() - after_path_segment(bytes).len();
+    if at == bytes.len() || bytes[at] != b'\n' {
+        return None;
+    }
+    Some((&text[..at], &text[at + 1..]))
 }
 
 // Whether a text ends with a line feed.
@@ -235,6 +264,10 @@ pub fn cut_after_segment_lines(text: &str) -> CutText<'_>
 pub struct Lines<'a> {
     start: usize,
     rest: &'a str,
+    // Whether each reference that was tried so far was one plain segment of a path.
+    are_path_segments: bool,
+    // Whether the next line is tried for that.
+    tries_path_segment: bool,
 }
 
 impl<'a> Model for Lines<'a> {
@@ -258,10 +291,7 @@ impl<'a> Lines<'a> {
         ensures slices { slices_at text.now (map line_span result) ≡ lines text.now }
         ensures texts { map (λ line. line.1) result ≡ lines text.now }
     {
-        Lines {
-            start: 0,
-            rest: text,
-        }
+        Lines::at(0, text)
     }
 
     /// The text that is left.
@@ -281,13 +311,51 @@ impl<'a> Lines<'a> {
         (self.start, self.rest)
     }
 
-    /// The lines of `rest`, what is left of a text from the place `start` on, in bytes from 0.
+    /// The lines of `left`, what is left of a text from the place `start` on, in bytes from 0.
     #[inline(always)]
-    pub(crate) fn at(start: usize, rest: &'a str) -> Lines<'a>
-        requires { start + length rest.now < 2 ^ 64 }
-        ensures { result ≡ lines_from start rest.now }
+    pub(crate) fn at(start: usize, left: &'a str) -> Lines<'a>
+        requires { start + length left.now < 2 ^ 64 }
+        ensures { result ≡ lines_from start left.now }
     {
-        Lines { start, rest }
+        Lines {
+            start,
+            rest: left,
+            are_path_segments: true,
+            tries_path_segment: false,
+        }
+    }
+
+    /// Goes on to `rest`, what is left of the text from the place `start` on, in bytes from 0, where a reference stands as
+    /// a rule.
+    #[inline(always)]
+    pub(crate) fn go_to_reference(&mut self, start: usize, rest: &'a str)
+        requires { start + length rest.now < 2 ^ 64 }
+        ensures { self.new ≡ lines_from start rest.now }
+    {
+        self.start = start;
+        self.rest = rest;
+        self.tries_path_segment = self.are_path_segments;
+    }
+
+    // The next line, if it is tried, is seen to be one plain segment of a path and ends with a line feed. Else none is taken.
+    #[inline(always)]
+    fn next_path_segment(&mut self) -> Option<Line<'a>>
+        ensures line { MatchOption result (self.new ≡ self.old) (λ line. self.old ≡ line_view line ∷ self.new) }
+        ensures segment { IfSome result (λ line. list_all is_path_segment_byte line.text.now ≡ true) }
+    {
+        if !self.tries_path_segment {
+            return None;
+        }
+        self.tries_path_segment = false;
+        let (start, rest) = (self.start, self.rest);
+        let Some((segment, later)) = cut_after_path_segment(rest) else {
+            // (a tag says nothing of the references)
+            self.are_path_segments = rest.starts_with("#");
+            return None;
+        };
+        self.start = start + segment.len() + 1;
+        self.rest = later;
+        Some(line_starting_at(start, segment, true))
     }
 
     /// The lines after `front`, if the text that is left begins so and `front` ends with a line feed.
@@ -299,26 +367,28 @@ impl<'a> Lines<'a> {
             return None;
         }
         let later = text_after_lines(self.rest, front)?;
-        Some(Lines {
-            start: self.start + front.len(),
-            rest: later,
-        })
+        Some(Lines::at(self.start + front.len(), later))
     }
 
     /// The next line, if there is one, without the LF or the CR LF that ends it (RFC 8216, section 4.1).
     #[inline(always)]
     pub fn next(&mut self) -> Option<Line<'a>>
-        ensures { MatchOption result ((self.old ≡ []) × (self.new ≡ []))
+        ensures line { MatchOption result ((self.old ≡ []) × (self.new ≡ []))
             (λ line. self.old ≡ line_view line ∷ self.new) }
+        ensures segment { IfSome result
+            (λ line. line.is_path_segment ≡ true → list_all is_path_segment_byte line.text.now ≡ true) }
     {
+        if let Some(line) = self.next_path_segment() {
+            return Some(line);
+        }
         let start = self.start;
         let rest = self.rest;
-        let Some((piece, later)) = cut_at_line_feed(rest) else {
+        let Some((piece, left)) = cut_at_line_feed(rest) else {
             self.rest = "";
             return last_line_of_text(start, rest);
         };
         self.start = start + piece.len() + 1;
-        self.rest = later;
-        Some(line_starting_at(start, line_without_carriage_return(piece)))
+        self.rest = left;
+        Some(line_starting_at(start, line_without_carriage_return(piece), false))
     }
 }

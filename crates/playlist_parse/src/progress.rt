@@ -8,6 +8,7 @@ ghost use Rattle.playlist_model.specs.Said as said;
 ghost use Rattle.playlist_model.specs.Said.{number_said, version_of, playlist_type_of};
 ghost use Rattle.playlist_model.specs.Reading.{limited};
 ghost use Rattle.segment_state.specs.Continued.{IsStop};
+ghost use Rattle.uri_resolver.specs.Plain.{is_path_segment_byte};
 ghost use Rattle.playlist_parse.specs.Light.{IsOfWhole, IsLight};
 ghost use Rattle.playlist_parse.specs.Inner.Progress.{progress_at, playlist_from, target_owed, IsLineAgain, TakesLine, TakesLineExactly, TakesTag, TakesTagExactly, EndsIn};
 ghost use Rattle.playlist_parse.specs.Inner.HeadingView.{heading_view};
@@ -78,16 +79,27 @@ impl<'a> Progress<'a> {
         }
     }
 
-    /// Takes what `line` adds (RFC 8216, sections 4.1 and 4.3): its first fault, or a state after it. A line of a
-    /// text that was seen to be plain, which `is_plain` says, isn't looked at for control characters.
+    #[tactic(auto, using(crate::proofs::PathSegments::segment_has_no_control, crate::proofs::PathSegments::segment_is_no_comment))]
+    /// Takes what `line` adds (RFC 8216, sections 4.1 and 4.3): its first fault, or a state after it. `is_path_segment`
+    /// says that it was seen to be one plain segment of a path, and `is_plain` that the text was seen to be plain. Such a
+    /// line isn't looked at for control characters.
     #[inline(always)]
-    pub fn line(&mut self, line: &'a str, is_plain: bool) -> Result<(), FaultKind>
-        requires { is_plain ≡ true → has_control line.now ≡ false }
+    pub fn line(
+        &mut self,
+        line: &'a str,
+        is_path_segment: bool,
+        is_plain: bool,
+    ) -> Result<(), FaultKind>
+        requires segment { is_path_segment ≡ true → list_all is_path_segment_byte line.now ≡ true }
+        requires plain { is_plain ≡ true → has_control line.now ≡ false }
         ensures takes { TakesLine
             (λ base before. said_by limited base before line.now) self.old self.new result }
         ensures light { IsLight line.now → TakesLineExactly
             (λ base before. said_by limited base before line.now) self.old self.new result }
     {
+        if is_path_segment {
+            return self.unmarked_line(line, true);
+        }
         if line_has_control(line, is_plain) {
             return Err(FaultKind::Control);
         }
@@ -95,10 +107,10 @@ impl<'a> Progress<'a> {
         if let Some(stated) = line.strip_prefix("#EXTINF:") {
             return self.duration(stated);
         }
-        if line.starts_with("#") {
+        if line_begins_with_number_sign(line) {
             return self.marked_line(line);
         }
-        self.unmarked_line(line)
+        self.other_unmarked_line(line)
     }
 
     #[tactic(auto, using(crate::proofs::Again::line_again))]
@@ -114,7 +126,7 @@ impl<'a> Progress<'a> {
             self.keep_next(left);
             return false;
         };
-        *lines = Lines::at(start + (left.len() - later.len()), later);
+        lines.go_to_reference(start + (left.len() - later.len()), later);
         true
     }
 
@@ -166,8 +178,9 @@ impl<'a> Progress<'a> {
 
     #[tactic(auto, using(crate::proofs::LineLemmas::unmarked_uri))]
     // What a line adds that doesn't begin with `#` and has no control characters: a segment, unless it is blank.
-    #[inline(never)]
-    fn unmarked_line(&mut self, line: &'a str) -> Result<(), FaultKind>
+    #[inline(always)]
+    fn unmarked_line(&mut self, line: &'a str, is_path_segment: bool) -> Result<(), FaultKind>
+        requires segment { is_path_segment ≡ true → list_all is_path_segment_byte line.now ≡ true }
         requires printable { has_control line.now ≡ false }
         requires unmarked { kinds.is_comment line.now ≡ false }
         ensures takes { TakesLine
@@ -178,15 +191,30 @@ impl<'a> Progress<'a> {
         if is_blank_line(line) {
             return Ok(());
         }
-        self.uri(line)
+        self.uri(line, is_path_segment)
+    }
+
+    // The same of a line that wasn't seen to be one plain segment of a path. Out of line, since few references are so.
+    #[inline(never)]
+    fn other_unmarked_line(&mut self, line: &'a str) -> Result<(), FaultKind>
+        requires printable { has_control line.now ≡ false }
+        requires unmarked { kinds.is_comment line.now ≡ false }
+        ensures takes { TakesLine
+            (λ base before. said_by limited base before line.now) self.old self.new result }
+        ensures light { IsLight line.now → TakesLineExactly
+            (λ base before. said_by limited base before line.now) self.old self.new result }
+    {
+        self.unmarked_line(line, false)
     }
 
     #[tactic(auto, using(crate::proofs::Rows::one_more))]
-    fn uri(&mut self, reference: &str) -> Result<(), FaultKind>
+    #[inline(always)]
+    fn uri(&mut self, reference: &str, is_path_segment: bool) -> Result<(), FaultKind>
+        requires { is_path_segment ≡ true → list_all is_path_segment_byte reference.now ≡ true }
         ensures { TakesLine
             (λ base before. said_by_uri limited base before reference.now) self.old self.new result }
     {
-        self.state.take_segment(reference)?;
+        self.state.take_segment(reference, is_path_segment)?;
         self.heading.has_media = true;
         Ok(())
     }
@@ -493,6 +521,17 @@ impl<'a> Progress<'a> {
             Ok(target) => Ok(self.with_target(target)?),
             Err(kind) => Err(kind),
         }
+    }
+}
+
+// Whether a line begins with `#`, which few steps tell.
+#[inline(always)]
+fn line_begins_with_number_sign(line: &str) -> bool
+    ensures { result ≡ kinds.is_comment line.now }
+{
+    match line.as_bytes().split_first() {
+        Some((first, _)) => *first == b'#',
+        None => false,
     }
 }
 

@@ -1,6 +1,7 @@
 //! A text that is being read, line by line.
 ghost use Rattle.std.specs.Prelude.{◌≡◌, ◌+◌, ◌^◌, ◌<◌, ◌≤◌, ℕ, List, [], ◌∷◌, length, map, true, Ok, IfOk, OnOk};
 ghost use Rattle.url.specs.Parts.{Parts};
+ghost use Rattle.uri_resolver.specs.Plain.{is_path_segment_byte};
 ghost use Rattle.std.specs.List.{list_all};
 ghost use Rattle.playlist_model.specs.Said.{nothing};
 ghost use Rattle.playlist_model.specs.Reading.{said_by, said_from, and_whole, limited};
@@ -88,15 +89,17 @@ fn pass_line_again<'a>(
 }
 
 // Reads `line`, the one of this number before `lines`, and passes the next one if that is the EXTINF that repeats itself.
-// `is_plain` says that none has a control character.
+// `is_path_segment` says that `line` is one plain segment of a path, and `is_plain` that no line has a control character.
 #[inline(always)]
 fn read_next_line<'a>(
     progress: &mut Progress<'a>,
     lines: &mut Lines<'a>,
     number: &mut u64,
     line: &'a str,
+    is_path_segment: bool,
     is_plain: bool,
 ) -> Result<(), PlaylistFault>
+    requires segment { is_path_segment ≡ true → list_all is_path_segment_byte line.now ≡ true }
     requires few { number.old + length lines.old + 1 < 2 ^ 64 }
     requires plain { is_plain ≡ true → list_all is_free (line.now ∷ map line_text lines.old) ≡ true }
     ensures reached { (base : Parts) → ReadsLine base line.now
@@ -108,7 +111,7 @@ fn read_next_line<'a>(
         ≡ number.old + length lines.old + 1) }
     ensures fewer { OnOk result (length lines.new ≤ length lines.old) }
 {
-    match progress.line(line, is_plain) {
+    match progress.line(line, is_path_segment, is_plain) {
         Ok(()) => *number += 1,
         Err(kind) => return Err(fault_at_line(kind, *number)),
     }
@@ -140,6 +143,7 @@ pub fn read_some_lines<'a>(
             &mut reading.lines,
             &mut reading.number,
             line.text,
+            line.is_path_segment,
             is_plain,
         ) {
             Ok(()) => {}
@@ -169,6 +173,7 @@ pub fn read_all_lines<'a>(reading: &mut Reading<'a>, is_plain: bool) -> Result<(
             &mut lines,
             &mut number,
             line.text,
+            line.is_path_segment,
             is_plain,
         ) {
             Ok(()) => {}

@@ -2,12 +2,14 @@
 //! to what RFC 8216 says by looking back over the lines before.
 #![tactic(auto)]
 
-ghost use Rattle.std.specs.Prelude.{◌≡◌, ◌+◌, ◌++◌, ◌^◌, ◌<◌, ◌≤◌, [], ◌∷◌, Some, None, Ok, Err, MatchOption, OnErr, OnOk, nat_lt, length};
+ghost use Rattle.std.specs.Prelude.{◌≡◌, ◌+◌, ◌++◌, ◌^◌, ◌<◌, ◌≤◌, [], ◌∷◌, true, Some, None, Ok, Err, MatchOption, OnErr, OnOk, nat_lt, length};
+ghost use Rattle.std.specs.List.{list_all};
 ghost use Rattle.std.specs.Option.{SomeIff};
 ghost use Rattle.playlist_model.specs.LookBack.{byte_range_from, byte_range_after, extent_with};
 ghost use Rattle.playlist_model.specs.Reading.{limited, said_by_uri};
 ghost use Rattle.playlist_model.specs.Said as said;
 ghost use Rattle.playlist_model.specs.Said.{uri_of};
+ghost use Rattle.uri_resolver.specs.Plain.{is_path_segment_byte};
 ghost use Rattle.segment_state.specs.Running.{unread, ReadsOne, SayingLeadsTo, TakesTag, TakesTagExactly, TakesSegment};
 ghost use Rattle.segment_state.specs.Inner.Running.{after_uri_line, segment_from};
 ghost use Rattle.segment_state.specs.Views.{extent_after};
@@ -330,7 +332,8 @@ impl<'a> ReaderState<'a> {
     }
 
     /// Lists the segment of the URI line `reference` (RFC 8216, sections 4.3.2 and 5.2), which takes the tags of one
-    /// segment.
+    /// segment. `is_path_segment` says that the reference is known to be one plain segment of a path (RFC 3986, section
+    /// 3.3): then its bytes aren't looked at again.
     ///
     /// The faults, in this order: `TooMany` past 10,000 segments, `NoDuration`, `BadValue` if its media sequence
     /// number passes 2^64 - 1, `BadUri`, `RangeNoStart`, `BadRange`; `OutOfMemory` only if an allocation fails, or the
@@ -339,10 +342,12 @@ impl<'a> ReaderState<'a> {
     /// ```text
     /// let mut state = ReaderState::new(alloc, &base);
     /// state.duration_tag("6,")?;
-    /// state.take_segment("s0.ts")    Ok: 6 s of base/s0.ts, with the number 0
-    /// state.take_segment("s1.ts")    Err(FaultKind::NoDuration)
+    /// state.take_segment("s0.ts", false)    Ok: 6 s of base/s0.ts, with the number 0
+    /// state.take_segment("s1.ts", false)    Err(FaultKind::NoDuration)
     /// ```
-    pub fn take_segment(&mut self, reference: &str) -> Result<(), FaultKind>
+    #[inline(always)]
+    pub fn take_segment(&mut self, reference: &str, is_path_segment: bool) -> Result<(), FaultKind>
+        requires { is_path_segment ≡ true → list_all is_path_segment_byte reference.now ≡ true }
         ensures takes { TakesSegment
             (λ base before. said_by_uri limited base before reference.now) self.old self.new result }
         ensures one { OnOk result (ReadsOne self.old.segments self.new.segments) }
@@ -366,7 +371,7 @@ impl<'a> ReaderState<'a> {
         if self.byte_range.is_some() {
             return self.take_part(number, reference, duration, title);
         }
-        let Some(front) = self.references.front_of(reference) else {
+        let Some(front) = self.references.front_of(reference, is_path_segment) else {
             return self.take_other(number, reference, duration, title);
         };
         self.take_joined(number, front, reference, duration, title)

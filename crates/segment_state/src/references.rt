@@ -1,8 +1,10 @@
 //! The references of a playlist, resolved against its base (RFC 3986, section 5).
-ghost use Rattle.std.specs.Prelude.{◌≡◌, ◌++◌, Ok, IfSome};
+ghost use Rattle.std.specs.Prelude.{◌≡◌, ◌++◌, true, Ok, IfSome};
+ghost use Rattle.std.specs.List.{list_all};
 ghost use Rattle.std.specs.Option.{option_copied};
 ghost use Rattle.playlist_model.specs.Said.{uri_of};
 ghost use Rattle.playlist_model.specs.Refusals.{GivesOrPlaylistFault};
+ghost use Rattle.uri_resolver.specs.Plain.{is_path_segment_byte};
 
 use crate::tags::short_tag_uri_of;
 use playlist_model::{FaultKind, ShortText, Text};
@@ -57,13 +59,17 @@ impl<'a> References<'a> {
     }
 
     /// What stands before `reference` in the resource that it names, if that is just put before it, as for most (RFC
-    /// 3986, section 5). Takes no memory.
+    /// 3986, section 5). `is_path_segment` says that it is known to be one plain segment of a path. Takes no memory.
     #[inline(always)]
-    pub fn front_of(&self, reference: &str) -> Option<&'a str>
+    pub fn front_of(&self, reference: &str, is_path_segment: bool) -> Option<&'a str>
+        requires { is_path_segment ≡ true → list_all is_path_segment_byte reference.now ≡ true }
         ensures { IfSome (option_copied result)
             (λ front. uri_of self.now reference.now ≡ Ok (front ++ reference.now)) }
     {
         let base = self.base;
+        if is_path_segment {
+            return base.front_of_path_segment(reference);
+        }
         base.front_of(reference)
     }
 

@@ -18,6 +18,12 @@ is_no_mark b = not (b == 63) && not (b == 47)
 no_mark : (b : ℕ) → is_path_segment_byte b ≡ true → is_no_mark b ≡ true
 no_mark b segment = grind arith
 
+pub no_slash : (b : ℕ) → is_path_segment_byte b ≡ true → (b == 47) ≡ false
+no_slash b segment = grind arith
+
+pub no_question : (b : ℕ) → is_path_segment_byte b ≡ true → (b == 63) ≡ false
+no_question b segment = grind arith
+
 passes : (question segment dot slash query : Bool) (later : Bool → Bool) → not question ≡ true → segment ≡ true → not slash ≡ true
     → cond question query ((segment || slash) && not (false && dot) && later slash) ≡ later false
 passes false true _ false query later q p s = refl

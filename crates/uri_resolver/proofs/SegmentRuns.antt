@@ -1,9 +1,9 @@
 -- Runs of bytes of a segment, after which a plain reference goes on.
-use Rattle.std.proofs.Common.{◌≡◌, ℕ, zero, suc, ◌+◌, Bool, true, false, ◌==◌, slice_index, length, List, [], ◌∷◌, take, drop, refl, sym, ◌∙◌, ap, arith}
+use Rattle.std.proofs.Common.{◌≡◌, ℕ, zero, suc, ◌+◌, ◌<◌, ◌≤◌, Bool, true, false, not, cond, ◌&&◌, ◌==◌, slice_index, length, List, [], ◌∷◌, take, drop, refl, sym, ◌∙◌, ap, arith}
 use Rattle.std.specs.List.{list_all, prefix_len}
 use Rattle.std.proofs.lemmas.Bool.{and_parts}
-use Rattle.uri_resolver.specs.Plain.{is_path_segment_byte, is_reference_query_byte, is_plain_reference_path}
-use Rattle.uri_resolver.proofs.SegmentBytes.{segment_goes_on, slash_goes_on, dot_stops, other_stops}
+use Rattle.uri_resolver.specs.Plain.{is_path_segment_byte, is_reference_query_byte, is_plain_reference_path, is_relative_reference}
+use Rattle.uri_resolver.proofs.SegmentBytes.{segment_goes_on, slash_goes_on, dot_stops, other_stops, front_has_no_dot, no_slash, no_question}
 
 abbrev pub after : (ℕ → Bool) → List ℕ → List ℕ
 after test bytes = drop (prefix_len test bytes) bytes
@@ -23,6 +23,26 @@ taken_go_on test (suc k) [] all = refl
 taken_go_on test (suc k) (b ∷ bytes) all =
     let parts = and_parts (test b) (list_all test (take k bytes)) all in
     taken_go_on test k bytes parts.1 ∙ sym (one_goes_on test b bytes parts.0)
+
+-- ---- runs of the first bytes alone
+
+pub all_run : (test : ℕ → Bool) (bytes : List ℕ) → length bytes ≤ prefix_len test bytes → list_all test bytes ≡ true
+all_run test [] run = refl
+all_run test (b ∷ bytes) run = all_run_on (test b) (length bytes) (prefix_len test bytes) (list_all test bytes) (omega (arith, run)) (λ h. all_run test bytes h)
+  where
+    all_run_on : (passes : Bool) (size count : ℕ) (later : Bool) → 1 + size ≤ cond passes (1 + count) 0 → (size ≤ count → later ≡ true) → (passes && later) ≡ true
+    all_run_on true size count later run on = on (omega (arith, run))
+    all_run_on false size count later run on = absurd (omega (arith, run))
+
+run_on : (passes : Bool) (size count more : ℕ) → cond passes (1 + count) 0 < 1 + size → (count < size → more ≡ count) → cond passes (1 + more) 0 ≡ cond passes (1 + count) 0
+run_on true size count more ends on = ap (λ n. 1 + n) (on (omega (arith, ends)))
+run_on false size count more ends on = refl
+
+-- a run that ends among the first bytes ends there among all
+pub run_within : (test : ℕ → Bool) (k : ℕ) (bytes : List ℕ) → prefix_len test (take k bytes) < length (take k bytes) → prefix_len test bytes ≡ prefix_len test (take k bytes)
+run_within test zero bytes ends = absurd (omega (arith, ends))
+run_within test (suc k) [] ends = refl
+run_within test (suc k) (b ∷ bytes) ends = run_on (test b) (length (take k bytes)) (prefix_len test (take k bytes)) (prefix_len test bytes) (omega (arith, ends)) (λ h. run_within test k bytes h)
 
 run_of : (b : ℕ) (bytes : List ℕ) (is_segment : Bool) → is_path_segment_byte b ≡ is_segment
     → is_plain_reference_path false (after is_path_segment_byte bytes) ≡ is_plain_reference_path false bytes
@@ -74,3 +94,22 @@ dot_ends bytes b later e slash dot = sym (after_run bytes (b ∷ later) e ∙ do
 pub other_ends : (bytes : List ℕ) (b : ℕ) (later : List ℕ) → after is_path_segment_byte bytes ≡ b ∷ later → ¬ (b ≡ 63) → ¬ (b ≡ 47)
     → false ≡ is_plain_reference_path false bytes
 other_ends bytes b later e question slash = sym (after_run bytes (b ∷ later) e ∙ other_stops b later (end_stops bytes b later e) question slash)
+
+-- ---- a segment alone
+
+all_taken : (test : ℕ → Bool) (bytes : List ℕ) → list_all test bytes ≡ true → after test bytes ≡ []
+all_taken test [] all = refl
+all_taken test (b ∷ bytes) all = let parts = and_parts (test b) (list_all test bytes) all in one_goes_on test b bytes parts.0 ∙ all_taken test bytes parts.1
+
+alone : (slash question dot path : Bool) → slash ≡ false → question ≡ false → path ≡ true → (not slash && not question && (not dot && path)) ≡ not dot
+alone false false true true s q p = refl
+alone false false false true s q p = refl
+alone _ _ _ _ s q p = absurd (cc)
+
+pub segment_is_relative : (bytes : List ℕ) (first : ℕ) (later : List ℕ) → list_all is_path_segment_byte bytes ≡ true → bytes ≡ first ∷ later
+    → is_relative_reference bytes ≡ not (first == 46)
+segment_is_relative bytes first later all is =
+    let front : list_all is_path_segment_byte (first ∷ later) ≡ true = rw is at all in
+    let parts = and_parts (is_path_segment_byte first) (list_all is_path_segment_byte later) front in
+    let path : is_plain_reference_path false (first ∷ later) ≡ true = after_run (first ∷ later) [] (all_taken is_path_segment_byte (first ∷ later) front) in
+    rw (is, front_has_no_dot (first ∷ later)) (alone (first == 47) (first == 63) (first == 46) (is_plain_reference_path false (first ∷ later)) (no_slash first parts.0) (no_question first parts.0) path)

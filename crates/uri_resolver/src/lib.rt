@@ -2,13 +2,15 @@
 #![tactic(auto)]
 
 ghost use Rattle.std.specs.Prelude.{◌≡◌, ◌++◌, Some, IfSome, IfOk, MatchResult, string_bytes, true};
+ghost use Rattle.std.specs.List.{list_all};
 ghost use Rattle.std.specs.Option.{option_copied};
 ghost use Rattle.url.specs.Parts.{IsValid};
 ghost use Rattle.playlist_model.specs.Uri.{can_be_written, resolved, base_of, is_web_scheme};
 ghost use Rattle.uri_resolver.specs.Refusals.{RefusesUri, RefusesBase};
-ghost use Rattle.uri_resolver.specs.Plain.{is_relative_reference, is_rooted_reference, StandsBefore};
+ghost use Rattle.uri_resolver.specs.Plain.{is_path_segment_byte, is_relative_reference, is_rooted_reference, StandsBefore};
 
-use crate::plain::{is_relative_reference, is_rooted_reference};
+use crate::plain::{is_relative_path_segment, is_relative_reference, is_rooted_reference};
+pub use plain::after_path_segment;
 use playlist_model::{ShortText, has_control, has_quote, has_scheme};
 use std::alloc::{AllocError, Global};
 use std::marker::Model;
@@ -162,6 +164,19 @@ impl Base {
             }
         }
         None
+    }
+
+    /// The same of `segment`, a reference that is one plain segment of a path: its bytes aren't looked at again.
+    #[inline(always)]
+    pub fn front_of_path_segment(&self, segment: &str) -> Option<&str>
+        requires { list_all is_path_segment_byte segment.now ≡ true }
+        ensures { IfSome (option_copied result)
+            (λ front. resolved self.now segment.now ≡ Some (front ++ segment.now)) }
+    {
+        match &self.directory {
+            Some(directory) if is_relative_path_segment(segment) => Some(directory.as_str()),
+            _ => None,
+        }
     }
 
     // The same of a reference before which no plain text is put.

@@ -21,13 +21,24 @@ fn is_path_segment_byte(b: u8) -> bool
     SEGMENT_BYTES[b as usize] != b'/'
 }
 
-fn are_path_segment_bytes(four: &[u8; 4]) -> bool
-    ensures { result ≡ list_all is_path_segment_byte four.now }
+// How many of four bytes a plain segment holds, up to the first that it doesn't.
+#[inline(always)]
+fn path_segment_bytes_of_four(four: &[u8; 4]) -> usize
+    ensures { result ≡ prefix_len is_path_segment_byte four.now }
 {
-    is_path_segment_byte(four[0])
-        && is_path_segment_byte(four[1])
-        && is_path_segment_byte(four[2])
-        && is_path_segment_byte(four[3])
+    if !is_path_segment_byte(four[0]) {
+        return 0;
+    }
+    if !is_path_segment_byte(four[1]) {
+        return 1;
+    }
+    if !is_path_segment_byte(four[2]) {
+        return 2;
+    }
+    if !is_path_segment_byte(four[3]) {
+        return 3;
+    }
+    4
 }
 
 fn is_reference_path_byte(b: u8) -> bool
@@ -57,15 +68,17 @@ fn reference_begins_with_dot(bytes: &[u8]) -> bool
     }
 }
 
-// What is left after the bytes of a segment. They are taken four at a time, since there are many.
+/// What is left of `bytes` after those at its front that a plain segment of a path holds (RFC 3986, section 3.3). They
+/// are taken four at a time, since there are many.
 #[inline(never)]
-fn after_path_segment(bytes: &[u8]) -> &[u8]
+pub fn after_path_segment(bytes: &[u8]) -> &[u8]
     ensures { result.now ≡ drop (prefix_len is_path_segment_byte bytes.now) bytes.now }
 {
     let mut rest = bytes;
     while let Some((four, later)) = rest.split_first_chunk::<4>() {
-        if !are_path_segment_bytes(four) {
-            break;
+        let taken = path_segment_bytes_of_four(four);
+        if taken < 4 {
+            return &rest[taken..];
         }
         rest = later;
     }
@@ -120,6 +133,18 @@ pub fn is_relative_reference(reference: &str) -> bool
     let bytes = reference.as_bytes();
     match bytes.first() {
         Some(first) => *first != b'/' && *first != b'?' && is_plain_reference_path(bytes),
+        None => false,
+    }
+}
+
+/// Whether `segment`, a reference that is one plain segment of a path, is a plain path from the directory of the base on:
+/// as `is_relative_reference`, without a look at each byte.
+pub fn is_relative_path_segment(segment: &str) -> bool
+    requires { list_all is_path_segment_byte segment.now ≡ true }
+    ensures { result ≡ is_relative_reference segment.now }
+{
+    match segment.as_bytes().split_first() {
+        Some((first, _)) => *first != b'.',
         None => false,
     }
 }

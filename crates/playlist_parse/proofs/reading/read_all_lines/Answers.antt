@@ -6,8 +6,8 @@ use Rattle.playlist_parse.proofs.reading.read_all_lines.Goals as goal
 
 pub lines-preserved : goal.lines-preserved
 lines-preserved c =
-    let cut : map line_text c.lines.lines ≡ c.in-Some.line.text.now ∷ map line_text c.next.new.self = ap (map line_text) c.in-Some.ensures in
-    let size = ap length c.in-Some.ensures in (
+    let cut : map line_text c.lines.lines ≡ c.in-Some.line.text.now ∷ map line_text c.next.new.self = ap (map line_text) c.in-Some.ensures.line in
+    let size = ap length c.in-Some.ensures.line in (
       λ base tail all here. c.in-Ok.ensures.reached base tail all (subst (λ left. Reached base c.lines.reading.progress c.lines.number (left ++ tail) all) cut (c.lines.invariant.0 base tail all here)),
       c.in-Ok.ensures.plain,
       omega (arith, size, c.in-Ok.ensures.counted, c.lines.invariant.2),
@@ -19,10 +19,10 @@ read_next_line-requires c = grind (arith, common_steps)
 
 pub returns-in-Err-clause-reached : goal.returns-in-Err-clause-reached
 returns-in-Err-clause-reached c = λ base tail all here.
-    let cut : map line_text c.lines.lines ≡ c.in-Some.line.text.now ∷ map line_text c.next.new.self = ap (map line_text) c.in-Some.ensures in
+    let cut : map line_text c.lines.lines ≡ c.in-Some.line.text.now ∷ map line_text c.next.new.self = ap (map line_text) c.in-Some.ensures.line in
     c.in-Err.ensures.reached base tail all (subst (λ left. Reached base c.lines.reading.progress c.lines.number (left ++ tail) all) cut (c.lines.invariant.0 base tail all here))
 
 pub returns-in-Err-clause-light : goal.returns-in-Err-clause-light
 returns-in-Err-clause-light c = λ base tail fault told.
-    let cut : map line_text c.lines.lines ≡ c.in-Some.line.text.now ∷ map line_text c.next.new.self = ap (map line_text) c.in-Some.ensures in
+    let cut : map line_text c.lines.lines ≡ c.in-Some.line.text.now ∷ map line_text c.next.new.self = ap (map line_text) c.in-Some.ensures.line in
     c.in-Err.ensures.light base tail fault (subst (λ left. Telling base c.lines.reading.progress c.lines.number (left ++ tail) fault) cut (c.lines.invariant.3 base tail fault told))
