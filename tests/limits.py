@@ -25,7 +25,7 @@ class Limit(NamedTuple):
 POD_SEGMENTS = Limit("the segments of a pod", ("crates/pod_store/specs/Limits.antt", "most_pod_segments = {n}\n"), (
     ("crates/pod_store/src/limits.rt", "MAX_POD_SEGMENTS: usize = {n:_};"),
     ("crates/channel_window/src/placing.rt", "window_rest_count store.now rest.now }}\n    ensures few {{ result ≤ {n} }}"),
-    ("crates/channel_window/src/placing.rt", "marked.now.mark) }}\n    ensures few {{ result ≤ {n} }}"),
+    ("crates/channel_window/src/placing.rt", "ensures few {{ IfOk result (λ count. count ≤ {n}) }}"),
     ("crates/channel_window/proofs/Sizes.antt", "sum (map segment_count ads) ≤ {n}\n"),
     ("crates/channel_window/proofs/placing/newest_run_place/Invariants.antt", "few : l.items ≤ {n};"),
     ("crates/worked_examples/specs/Pods.antt", "most_of_a_pod = {n}\n"),

@@ -85,10 +85,22 @@ def closed_break(count: int, length: int) -> bytes:
     return HEAD + break_tag(b"b" * length, moment(0), b",SCTE35-IN=" + IN) + each
 
 
-def breaks_in_turns(count: int, length: int) -> bytes:
-    """Two breaks with such IDs, which segments enter in turns."""
+def at(millis: int) -> bytes:
+    """A segment that begins then."""
+    return b"#EXT-X-PROGRAM-DATE-TIME:%s\n#EXTINF:1,\ns\n" % moment(millis)
+
+
+def breaks_in_turns(count: int, length: int, first: int = 0) -> bytes:
+    """Two breaks with such IDs, which segments enter in turns. The segments are numbered from `first` on."""
     tags = b"".join(break_tag(b"b" * length + b"%d" % number, moment(1000 * (number + 1)), b",DURATION=1") for number in range(2))
-    return HEAD + tags + b"".join(b"#EXT-X-PROGRAM-DATE-TIME:%s\n#EXTINF:1,\ns\n" % moment(1000 * (1 + number % 3)) for number in range(count))
+    return HEAD + b"#EXT-X-MEDIA-SEQUENCE:%d\n" % first + tags + b"".join(at(1000 * (1 + number % 3)) for number in range(first, first + count))
+
+
+def long_after_small(count: int, length: int) -> bytes:
+    """A break with such an ID, which is entered again after each two small ones."""
+    small = b"".join(break_tag(b"%d" % number, moment(1000 * (number + 10)), b",DURATION=1") for number in range(count // 3 * 2))
+    entered = b"".join(at(1000 * (2 * number + 10)) + at(1000 * (2 * number + 11)) + at(1000) for number in range(count // 3))
+    return HEAD + break_tag(b"b" * length, moment(1000), b",DURATION=1") + small + entered
 
 
 def long_among_small(count: int, length: int) -> bytes:
@@ -221,6 +233,11 @@ def moving(part: float) -> Work:
     return Work([], [moved(count, length, 0), moved(count, length, count * 2 // 5)])
 
 
+def turns_that_move(part: float) -> Work:
+    count, length = int(10_000 * part), int(1_600_000 * part)
+    return Work([FALLBACK], [breaks_in_turns(count, length), breaks_in_turns(count, length, count * 3 // 5)])
+
+
 def long_base(part: float) -> Work:
     text = HEAD + segments(int(10_000 * part))
     return Work([], [text, text], base=b"http://origin.example/" + b"b" * int(20_000 * part) + b"/index.m3u8")
@@ -236,8 +253,9 @@ KINDS = [
     Kind("segments of one long break", lambda part: twice(one_break(int(10_000 * part), 245), FALLBACK)),
     Kind("one break with a long ID", lambda part: twice(one_break(int(10_000 * part), int(4_000_000 * part)), FALLBACK)),
     Kind("a closed break with a long ID", lambda part: twice(closed_break(int(10_000 * part), int(3_500_000 * part)), FALLBACK)),
-    Kind("two breaks with long IDs, entered in turns", lambda part: twice(breaks_in_turns(int(10_000 * part), int(200_000 * part)), FALLBACK),
-         "0.7 s a push of the largest size"),
+    Kind("two breaks with long IDs, entered in turns", lambda part: twice(breaks_in_turns(int(10_000 * part), int(1_600_000 * part)), FALLBACK)),
+    Kind("two such breaks, and a window that moves", turns_that_move),
+    Kind("a break with a long ID, after each two small ones", lambda part: twice(long_after_small(int(9_000 * part), int(1_800_000 * part)), FALLBACK)),
     Kind("two breaks with long IDs among small ones", lambda part: twice(long_among_small(int(11_000 * part), int(1_200_000 * part)), FALLBACK)),
     Kind("why of breaks that ended, under a long fallback", reasons),
     Kind("one EXT-X-MAP with a long URI", lambda part: twice(under(b'#EXT-X-MAP:URI="%s"\n' % (b"m" * int(4_000_000 * part)), int(10_000 * part)))),

@@ -11,3 +11,4 @@ mod Staying
 pub mod Again
 pub mod NothingNew
 pub mod Candidates
+pub mod Placed

@@ -51,12 +51,15 @@ first_entrance tolerance last instant found = option_map entrance_id (find (is_b
 
 -- ---- spans
 
--- time from an instant up to another, with the first break that is entered in it, and the first that is another
+-- time from an instant up to another, with the first break that is entered in it, and the first that is another; and their places
+-- among those that can be entered, if they are known
 pub record BreakSpan : Type 0 where
   pub from : ℤ
   pub to : ℤ
   pub first : Option (List ℕ)
   pub second : Option (List ℕ)
+  pub first_place : Option ℕ
+  pub second_place : Option ℕ
 
 abbrev pub is_within : ℤ → ℤ → ℤ → Bool
 is_within from to instant = int_le from instant && int_lt instant to

@@ -9,3 +9,4 @@ pub mod Ends
 pub mod Inner
 pub mod Stays
 pub mod Candidates
+pub mod Places

@@ -1,5 +1,6 @@
 //! The breaks that can be entered, and the one that a segment enters.
-ghost use Rattle.std.specs.Prelude.{◌≡◌, ℕ, ℤ, Bool, true, List, Option, Some, None, map, option_map, IfOk, IfSome};
+ghost use Rattle.std.specs.Prelude.{◌≡◌, ℕ, ℤ, Bool, true, List, Option, Some, None, map, option_map, bytes_eq, IfOk, IfSome};
+ghost use Rattle.indexmap.specs.IndexMap.{IsUnique};
 ghost use Rattle.std.specs.List.{All};
 ghost use Rattle.std.specs.Option.{option_copied};
 ghost use Rattle.pod_store.specs.Store.{Store};
@@ -7,12 +8,16 @@ ghost use Rattle.break_finder.specs.Breaks.{Break};
 ghost use Rattle.break_finder.specs.Kept.{break_at};
 ghost use Rattle.break_finder.specs.Entering.{EntryLimits, entered};
 ghost use Rattle.break_finder.specs.Entrances.{entrances_in, is_within, first_entrance, TellsEntrances};
+ghost use Rattle.break_finder.specs.Places.{AreApart, HasPlaces, IsPlaced, IsPlacedAt, entered_id};
 
 use crate::entrance::{
     Candidates, Entrance, break_entrance_of, first_candidate_break, first_entered_break,
 };
 use crate::kept::Breaks;
-use crate::spans::{BreakSpan, TimesWithin, break_span_at, break_spans_of, place_in_break_spans};
+use crate::spans::{
+    BreakSpan, EnteredBreak, LastEntered, TimesWithin, break_span_at, break_spans_of,
+    place_in_break_spans,
+};
 use fixed_duration::Nanos;
 use playlist_model::{Instant, Shared, Text};
 use pod_store::PodStore;
@@ -43,12 +48,13 @@ impl<'a> Model for Entrances<'a> {
     ghost use Rattle.std.specs.List.{All};
     ghost use Rattle.break_finder.specs.Entrances.{Entrances, TellsEntrances};
     ghost use Rattle.break_finder.specs.Candidates.{found_in};
+    ghost use Rattle.break_finder.specs.Places.{AreApart, HasPlaces};
 
     ghost Value = { Entrances };
 
     ghost view = { λ a. record { tolerance = a.tolerance; found = found_in a.candidates a.list.items } };
 
-    ghost invariant = { λ a. All (TellsEntrances a.tolerance (found_in a.candidates a.list.items)) a.spans.items };
+    ghost invariant = { λ a. All (TellsEntrances a.tolerance (found_in a.candidates a.list.items)) a.spans.items × All (HasPlaces (found_in a.candidates a.list.items)) a.spans.items × AreApart (found_in a.candidates a.list.items) };
 }
 
 // The spans of these breaks, if it pays to make them for so many segments.
@@ -58,7 +64,9 @@ fn entrance_spans_for<'a>(
     list: &[Entrance<'a>],
     segments: usize,
 ) -> Result<Vec<BreakSpan<'a>>, AllocError>
-    ensures { IfOk result (λ v. All (TellsEntrances tolerance list.now) v.items) }
+    requires { AreApart list.now }
+    ensures tells { IfOk result (λ v. All (TellsEntrances tolerance list.now) v.items) }
+    ensures places { IfOk result (λ v. All (HasPlaces list.now) v.items) }
 {
     if segments < FEW_SEGMENTS {
         return Ok(Vec::new(alloc));
@@ -74,8 +82,9 @@ fn list_break_entrances<'a>(
     store: &PodStore,
     breaks: &'a Breaks,
 ) -> Result<Vec<Entrance<'a>>, AllocError>
-    ensures { IfOk result
+    ensures list { IfOk result
         (λ v. v.items ≡ entrances_in target with_init_sections store.now (map break_at breaks.now.entries)) }
+    ensures unique { IsUnique bytes_eq breaks.now }
 {
     let mut list = Vec::new(alloc);
     for (id, said) in breaks {
@@ -92,12 +101,27 @@ fn list_break_entrances<'a>(
     Ok(list)
 }
 
+// The place of a break in the list, if it is there.
+fn place_in_break_list(list: &[Entrance<'_>], id: &str) -> Option<usize>
+    ensures { IsPlacedAt list.now result (Some id.now) }
+{
+    let mut place = 0;
+    for entrance in list {
+        if entrance.id.as_str() == id {
+            return Some(place);
+        }
+        place += 1;
+    }
+    None
+}
+
 // Nothing is listed: each segment looks among all.
 fn entrances_without_break_list<'a>(
     alloc: Global,
     tolerance: Nanos,
     candidates: Candidates<'a>,
 ) -> Entrances<'a>
+    requires { IsUnique bytes_eq candidates.breaks.now }
     ensures { result ≡ record { tolerance = tolerance; found = entrances_in candidates.entry.target candidates.entry.with_init_sections candidates.entry.store.now (map break_at candidates.entry.breaks.now.entries) } }
 {
     Entrances {
@@ -126,7 +150,7 @@ pub fn break_entrances_of<'a>(
         (λ found. found
         ≡ record { tolerance = tolerance; found = entrances_in target with_init_sections store.now (map break_at breaks.now.entries) }) }
 {
-    if segments <= FEW_TO_LIST {
+    if breaks.len() == 0 || segments <= FEW_TO_LIST {
         let candidates = Candidates {
             target,
             with_init_sections,
@@ -148,27 +172,34 @@ pub fn break_entrances_of<'a>(
 
 impl<'a> Entrances<'a> {
     // The same, without the spans.
-    fn first_found(&self, instant: Instant, last: Option<&str>) -> Option<&'a Shared<Text>>
-        ensures { option_map (λ id. id.now) result
+    fn first_found(&self, instant: Instant, last: Option<&str>) -> Option<EnteredBreak<'a>>
+        ensures taken { option_map entered_id result
             ≡ first_entrance self.now.tolerance (option_copied last.entry) instant self.now.found }
+        ensures placed { IsPlaced self.now.found result }
     {
-        match &self.candidates {
+        let id = match &self.candidates {
             Some(candidates) => first_candidate_break(candidates, self.tolerance, last, instant),
             None => first_entered_break(self.list.as_slice(), self.tolerance, last, instant),
-        }
+        };
+        Some(EnteredBreak {
+            id: id?,
+            place: None,
+        })
     }
 
-    // The ID of the first of them that is entered.
+    // The first of them that is entered.
     #[inline(always)]
-    fn first(&mut self, instant: Instant, last: Option<&str>) -> Option<&'a Shared<Text>>
-        ensures taken { option_copied result
-            ≡ first_entrance self.old.tolerance (option_copied last.entry) instant self.old.found }
+    fn first(&mut self, instant: Instant, last: LastEntered<'_>) -> Option<EnteredBreak<'a>>
+        requires { IsPlacedAt self.old.found last.place (option_copied last.id) }
+        ensures taken { option_map entered_id result
+            ≡ first_entrance self.old.tolerance (option_copied last.entry.id) instant self.old.found }
+        ensures placed { IsPlaced self.old.found result }
         ensures kept { self.new ≡ self.old }
     {
         self.place = place_in_break_spans(self.spans.as_slice(), self.place, instant);
         match break_span_at(self.spans.as_slice(), self.place, instant) {
             Some(span) => span.break_entered(last),
-            None => self.first_found(instant, last),
+            None => self.first_found(instant, last.id),
         }
     }
 
@@ -204,10 +235,15 @@ impl<'a> Entrances<'a> {
     #[tactic(auto, using(crate::proofs::Quiet::none_within))]
     /// The instants around `instant` at which a segment enters no break, if `last` was entered last. None if that isn't seen
     /// at once. So the IDs are compared once for many segments. Takes no memory.
-    pub fn quiet_around(&self, instant: Option<Instant>, last: Option<&str>) -> Option<TimesWithin>
+    pub fn quiet_around(
+        &self,
+        instant: Option<Instant>,
+        last: LastEntered<'_>,
+    ) -> Option<TimesWithin>
+        requires { IsPlacedAt self.now.found last.place (option_copied last.id) }
         ensures { IfSome result
             (λ times. (m : EntryLimits) (store : Store) (breaks : List Break) (i : ℤ)
-            → m.tolerance ≡ self.now.tolerance → m.last ≡ option_copied last.entry
+            → m.tolerance ≡ self.now.tolerance → m.last ≡ option_copied last.entry.id
             → self.now.found ≡ entrances_in m.target_duration m.with_init_sections store breaks
             → is_within times.from times.to i ≡ true → entered m store breaks (Some i) ≡ None) }
     {
@@ -218,18 +254,30 @@ impl<'a> Entrances<'a> {
         Some(span.times())
     }
 
-    /// The ID of the first known break, in the order of the IDs, that a segment which begins at `instant` enters. The
+    /// The place of the break `id` among them, from 0, if it is sought among many segments and is there. Takes no memory.
+    pub fn place_of(&self, id: &str) -> Option<usize>
+        ensures { IsPlacedAt self.now.found result (Some id.now) }
+    {
+        if self.candidates.is_some() || self.spans.is_empty() {
+            return None;
+        }
+        place_in_break_list(self.list.as_slice(), id)
+    }
+
+    /// The first known break that a segment which begins at `instant` enters, in the order in which they became known. The
     /// instant differs from the break's start by at most the tolerance, and is more than the tolerance before its
     /// end; and the break isn't `last`, the one that was entered last. Takes no memory.
     pub fn find_entered(
         &mut self,
         instant: Option<Instant>,
-        last: Option<&str>,
-    ) -> Option<&'a Shared<Text>>
+        last: LastEntered<'_>,
+    ) -> Option<EnteredBreak<'a>>
+        requires { IsPlacedAt self.old.found last.place (option_copied last.id) }
         ensures entered { (target : ℕ) → (with_init_sections : Bool) → (store : Store) → (breaks : List Break)
             → self.old.found ≡ entrances_in target with_init_sections store breaks
-            → option_map (λ id. id.now) result
-            ≡ entered (record { tolerance = self.old.tolerance; target_duration = target; with_init_sections = with_init_sections; last = option_copied last.entry }) store breaks instant }
+            → option_map entered_id result
+            ≡ entered (record { tolerance = self.old.tolerance; target_duration = target; with_init_sections = with_init_sections; last = option_copied last.entry.id }) store breaks instant }
+        ensures placed { IsPlaced self.old.found result }
         ensures kept { self.new ≡ self.old }
     {
         match instant {

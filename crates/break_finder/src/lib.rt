@@ -17,5 +17,5 @@ mod why;
 
 pub use entering::Entrances;
 pub use knowledge::{Knowledge, Stay};
-pub use spans::TimesWithin;
+pub use spans::{EnteredBreak, LastEntered, TimesWithin};
 pub use why::Why;

@@ -10,7 +10,7 @@ use Rattle.stitcher.specs.declared.marked.MarkedSegment.{MarkedSegment as Held}
 use Rattle.stitcher.specs.Making.{is_same_stitched_run}
 use Rattle.break_finder.specs.Entering.{entered}
 use Rattle.channel_spec.specs.Marking.{Moment, limits}
-use Rattle.channel_window.specs.Marking.{stays, next_id, mark_on, capped_in, length_before, length_after}
+use Rattle.channel_window.specs.Marking.{Hint, stays, next_id, mark_on, capped_in, length_before, length_after}
 use Rattle.channel_window.specs.Inner.Terms.{entered_after}
 use Rattle.channel_window.proofs.Marked.{none_entered, none_next}
 use Rattle.channel_window.specs.declared.marking.Run.{Run}
@@ -28,14 +28,14 @@ unmarked_on store duration run mark none is =
     }
 
 -- ... where no break has a pod
-pub unmarked_here : (m : Moment) (run : Run) (s : Segment) (instant : Option ℤ) (common : InCommon) (mark : Option (List ℕ)) (here : Held) → has_no_pod m.store ≡ true → run.before ≡ None → mark ≡ None
-    → here ≡ record { segment = s; instant = instant; mark = mark; goes_on = false; in_common = common }
-    → here ≡ record { segment = s; instant = instant; mark = next_id m run.before run.entered instant; goes_on = is_same_stitched_run (next_id m run.before run.entered instant) run.before; in_common = common }
-unmarked_here m run s instant common mark here none before unmarked is =
+pub unmarked_here : (m : Moment) (run : Run) (s : Segment) (instant : Option ℤ) (common : InCommon) (again : ℕ) (mark : Option (List ℕ)) (here : Held) → has_no_pod m.store ≡ true → run.before ≡ None → mark ≡ None
+    → here ≡ record { segment = s; instant = instant; mark = mark; goes_on = false; in_common = common; again = again }
+    → here ≡ record { segment = s; instant = instant; mark = next_id m run.before run.entered instant; goes_on = is_same_stitched_run (next_id m run.before run.entered instant) run.before; in_common = common; again = again }
+unmarked_here m run s instant common again mark here none before unmarked is =
     let next : next_id m run.before run.entered instant ≡ None = none_next m run.before run.entered instant before (none_entered (limits m run.entered) m.store m.breaks instant none) in
     is
-    ∙ (ap (λ id. record { segment = s; instant = instant; mark = id; goes_on = false; in_common = common }) (unmarked ∙ sym next)
-    ∙ ap (λ goes. record { segment = s; instant = instant; mark = next_id m run.before run.entered instant; goes_on = goes; in_common = common })
+    ∙ (ap (λ id. record { segment = s; instant = instant; mark = id; goes_on = false; in_common = common; again = again }) (unmarked ∙ sym next)
+    ∙ ap (λ goes. record { segment = s; instant = instant; mark = next_id m run.before run.entered instant; goes_on = goes; in_common = common; again = again })
     (sym (ap (λ id. is_same_stitched_run id run.before) next ∙ ap (is_same_stitched_run None) before)))
 
 -- ---- a segment that stays in its run
@@ -81,33 +81,33 @@ earlier_twice (Some id) last = refl
 
 -- ---- the marks of the next segments
 
-pub one_marked : (m : Moment) (newest last mark : Option (List ℕ)) (common : InCommon) (commons : List InCommon) (s : Segment) (later segments : List Segment) (instant : Option ℤ) (more instants : List (Option ℤ)) → segments ≡ s ∷ later → instants ≡ instant ∷ more
+pub one_marked : (m : Moment) (newest last mark : Option (List ℕ)) (common : InCommon) (again : ℕ) (hints : List Hint) (s : Segment) (later segments : List Segment) (instant : Option ℤ) (more instants : List (Option ℤ)) → segments ≡ s ∷ later → instants ≡ instant ∷ more
     → mark ≡ next_id m newest last instant
-    → mark_on m newest last (common ∷ commons) segments instants
-    ≡ record { segment = s; instant = instant; mark = mark; goes_on = is_same_stitched_run mark newest; in_common = common } ∷ mark_on m mark (or_earlier mark last) commons later more
-one_marked m newest last mark common commons s later segments instant more instants e f is =
-    ap (λ ss. mark_on m newest last (common ∷ commons) ss instants) e
-    ∙ (ap (mark_on m newest last (common ∷ commons) (s ∷ later)) f
-    ∙ ap (λ id. record { segment = s; instant = instant; mark = id; goes_on = is_same_stitched_run id newest; in_common = common } ∷ mark_on m id (or_earlier id last) commons later more) (sym is))
+    → mark_on m newest last ((common, again) ∷ hints) segments instants
+    ≡ record { segment = s; instant = instant; mark = mark; goes_on = is_same_stitched_run mark newest; in_common = common; again = again } ∷ mark_on m mark (or_earlier mark last) hints later more
+one_marked m newest last mark common again hints s later segments instant more instants e f is =
+    ap (λ ss. mark_on m newest last ((common, again) ∷ hints) ss instants) e
+    ∙ (ap (mark_on m newest last ((common, again) ∷ hints) (s ∷ later)) f
+    ∙ ap (λ id. record { segment = s; instant = instant; mark = id; goes_on = is_same_stitched_run id newest; in_common = common; again = again } ∷ mark_on m id (or_earlier id last) hints later more) (sym is))
 
-pub record OneMore (m : Moment) (old new : Run) (common : InCommon) (commons : List InCommon) (segments later : List Segment) (instants more : List (Option ℤ)) (here : Held) : Type 0 where
-  pub list : mark_on m old.before old.entered (common ∷ commons) segments instants ≡ here ∷ mark_on m new.before new.entered commons later more
-  pub entered : entered_after new.entered (mark_on m new.before new.entered commons later more) ≡ entered_after old.entered (mark_on m old.before old.entered (common ∷ commons) segments instants)
-  pub so_far : length_after m.store new.before new.so_far (mark_on m new.before new.entered commons later more) ≡ length_after m.store old.before old.so_far (mark_on m old.before old.entered (common ∷ commons) segments instants)
+pub record OneMore (m : Moment) (old new : Run) (common : InCommon) (again : ℕ) (hints : List Hint) (segments later : List Segment) (instants more : List (Option ℤ)) (here : Held) : Type 0 where
+  pub list : mark_on m old.before old.entered ((common, again) ∷ hints) segments instants ≡ here ∷ mark_on m new.before new.entered hints later more
+  pub entered : entered_after new.entered (mark_on m new.before new.entered hints later more) ≡ entered_after old.entered (mark_on m old.before old.entered ((common, again) ∷ hints) segments instants)
+  pub so_far : length_after m.store new.before new.so_far (mark_on m new.before new.entered hints later more) ≡ length_after m.store old.before old.so_far (mark_on m old.before old.entered ((common, again) ∷ hints) segments instants)
 
-pub one_more : (m : Moment) (old new : Run) (common : InCommon) (commons : List InCommon) (s : Segment) (later segments : List Segment) (instant : Option ℤ) (more instants : List (Option ℤ)) (here : Held) → segments ≡ s ∷ later → instants ≡ instant ∷ more
-    → here ≡ record { segment = s; instant = instant; mark = next_id m old.before old.entered instant; goes_on = is_same_stitched_run (next_id m old.before old.entered instant) old.before; in_common = common }
-    → IsExtended m.store s.duration here.mark old new → OneMore m old new common commons segments later instants more here
-one_more m old new common commons s later segments instant more instants here e f is goes =
-    let rest = mark_on m new.before new.entered commons later more in
+pub one_more : (m : Moment) (old new : Run) (common : InCommon) (again : ℕ) (hints : List Hint) (s : Segment) (later segments : List Segment) (instant : Option ℤ) (more instants : List (Option ℤ)) (here : Held) → segments ≡ s ∷ later → instants ≡ instant ∷ more
+    → here ≡ record { segment = s; instant = instant; mark = next_id m old.before old.entered instant; goes_on = is_same_stitched_run (next_id m old.before old.entered instant) old.before; in_common = common; again = again }
+    → IsExtended m.store s.duration here.mark old new → OneMore m old new common again hints segments later instants more here
+one_more m old new common again hints s later segments instant more instants here e f is goes =
+    let rest = mark_on m new.before new.entered hints later more in
     let mark : here.mark ≡ next_id m old.before old.entered instant = ap (λ (h : Held). h.mark) is in
-    let itself : record { segment = s; instant = instant; mark = here.mark; goes_on = is_same_stitched_run here.mark old.before; in_common = common } ≡ here =
-    ap (λ id. record { segment = s; instant = instant; mark = id; goes_on = is_same_stitched_run id old.before; in_common = common }) mark ∙ sym is in
-    let list : mark_on m old.before old.entered (common ∷ commons) segments instants ≡ here ∷ rest =
-    one_marked m old.before old.entered here.mark common commons s later segments instant more instants e f mark
-    ∙ (ap (λ (h : Held). h ∷ mark_on m here.mark (or_earlier here.mark old.entered) commons later more) itself
-    ∙ (ap (λ id. here ∷ mark_on m id (or_earlier here.mark old.entered) commons later more) (sym goes.before)
-    ∙ ap (λ id. here ∷ mark_on m new.before id commons later more) (sym goes.entered))) in
+    let itself : record { segment = s; instant = instant; mark = here.mark; goes_on = is_same_stitched_run here.mark old.before; in_common = common; again = again } ≡ here =
+    ap (λ id. record { segment = s; instant = instant; mark = id; goes_on = is_same_stitched_run id old.before; in_common = common; again = again }) mark ∙ sym is in
+    let list : mark_on m old.before old.entered ((common, again) ∷ hints) segments instants ≡ here ∷ rest =
+    one_marked m old.before old.entered here.mark common again hints s later segments instant more instants e f mark
+    ∙ (ap (λ (h : Held). h ∷ mark_on m here.mark (or_earlier here.mark old.entered) hints later more) itself
+    ∙ (ap (λ id. here ∷ mark_on m id (or_earlier here.mark old.entered) hints later more) (sym goes.before)
+    ∙ ap (λ id. here ∷ mark_on m new.before id hints later more) (sym goes.entered))) in
     record {
       list = list;
       entered = ap (λ id. entered_after id rest) goes.entered ∙ sym (ap (entered_after old.entered) list);

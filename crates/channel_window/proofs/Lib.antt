@@ -18,3 +18,4 @@ pub mod Few
 pub mod Since
 pub mod ListEnds
 pub mod NewItems
+pub mod KnownBreaks

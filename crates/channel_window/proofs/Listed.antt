@@ -8,7 +8,6 @@ use Rattle.std.proofs.lemmas.List.{length-drop}
 use Rattle.std.proofs.Math.Decide.{dec_le}
 use mathlib.Core.List.{reverse_aux}
 use Rattle.playlist_model.specs.Segments.{Segment}
-use Rattle.playlist_model.specs.declared.in_common.InCommon.{InCommon}
 use Rattle.pod_store.specs.Marks.{Marked, newest_mark, mark_in}
 use Rattle.playlist_model.specs.Instants.{ends_at, instants_after}
 use Rattle.pod_store.specs.Store.{Store}
@@ -20,7 +19,7 @@ use Rattle.channel_spec.specs.Successor.{first_number}
 use Rattle.channel_window.specs.Checked.{AreContiguous}
 use Rattle.channel_spec.specs.Marking.{Moment, newest_end, is_new}
 use Rattle.channel_spec.specs.Kept.{show_on, length_on}
-use Rattle.channel_window.specs.Marking.{history_in, mark_on, length_after}
+use Rattle.channel_window.specs.Marking.{Hint, history_in, mark_on, length_after}
 use Rattle.channel_window.specs.Inner.Listed.{IsTail, is_after}
 use Rattle.channel_window.proofs.Marked.{marks_are_shown, lengths_are_kept}
 
@@ -140,28 +139,28 @@ tail_whole segments = tail_of segments [] segments refl
 
 -- ---- the list
 
-module _ (m : Moment) (shown : List Held) (newest entered : Option (List ℕ)) (commons : List InCommon) (segments fresh : List Segment) (ended : Option ℤ) (begun : List (Option ℤ)) (marked list : List Held)
+module _ (m : Moment) (shown : List Held) (newest entered : Option (List ℕ)) (hints : List Hint) (segments fresh : List Segment) (ended : Option ℤ) (begun : List (Option ℤ)) (marked list : List Held)
     (mark_is : newest_mark (history_in m.store shown) ≡ mark_in m.store newest) (newest_is : IsDecided m.store newest) (decided : AreDecided m.store shown)
     (ended_is : ended ≡ newest_end (history_in m.store shown)) (fresh_is : fresh ≡ filter (is_new (history_in m.store shown)) segments) (begun_is : begun ≡ instants_after ended fresh)
-    (marked_is : marked ≡ mark_on m newest entered commons fresh begun) (list_is : list ≡ shown ++ marked) where
-  laid : marked ≡ mark_on m newest entered commons fresh (instants_after (newest_end (history_in m.store shown)) fresh)
-  laid = marked_is ∙ ap (mark_on m newest entered commons fresh) (begun_is ∙ ap (λ e. instants_after e fresh) ended_is)
+    (marked_is : marked ≡ mark_on m newest entered hints fresh begun) (list_is : list ≡ shown ++ marked) where
+  laid : marked ≡ mark_on m newest entered hints fresh (instants_after (newest_end (history_in m.store shown)) fresh)
+  laid = marked_is ∙ ap (mark_on m newest entered hints fresh) (begun_is ∙ ap (λ e. instants_after e fresh) ended_is)
 
   pub is_listed : history_in m.store list ≡ show_on m (history_in m.store shown) entered (filter (is_new (history_in m.store shown)) segments)
   is_listed =
       ap (history_in m.store) list_is ∙ seen_after m.store shown marked
       ∙ ap (λ held. reverse_aux (map (meant m.store) held) (history_in m.store shown)) laid
-      ∙ (marks_are_shown m newest entered commons (history_in m.store shown) fresh newest_is mark_is).0
+      ∙ (marks_are_shown m newest entered hints (history_in m.store shown) fresh newest_is mark_is).0
       ∙ ap (show_on m (history_in m.store shown) entered) fresh_is
 
   pub is_decided : AreDecided m.store list
   is_decided =
       subst (AreDecided m.store) (sym list_is)
       (both (λ (h : Held). IsDecided m.store h.mark) shown marked decided
-      (subst (AreDecided m.store) (sym laid) (marks_are_shown m newest entered commons (history_in m.store shown) fresh newest_is mark_is).1))
+      (subst (AreDecided m.store) (sym laid) (marks_are_shown m newest entered hints (history_in m.store shown) fresh newest_is mark_is).1))
 
   pub is_long : (before length : ℕ) → length ≡ length_after m.store newest before marked → length ≡ length_on m (history_in m.store shown) entered before (filter (is_new (history_in m.store shown)) segments)
   is_long before length e =
       e ∙ ap (length_after m.store newest before) laid
-      ∙ lengths_are_kept m newest entered commons (history_in m.store shown) before fresh newest_is mark_is
+      ∙ lengths_are_kept m newest entered hints (history_in m.store shown) before fresh newest_is mark_is
       ∙ ap (length_on m (history_in m.store shown) entered before) fresh_is

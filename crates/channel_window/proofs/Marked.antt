@@ -4,7 +4,6 @@ use Rattle.std.specs.Prelude.{Option, Some, None, IfSome, IsSome, ◌==◌, is_n
 use mathlib.Core.List.{reverse_aux}
 use Rattle.std.proofs.lemmas.Bool.{and_parts, eqb-true}
 use Rattle.playlist_model.specs.Segments.{Segment}
-use Rattle.playlist_model.specs.declared.in_common.InCommon.{InCommon}
 use Rattle.pod_store.specs.Pods.{Pod}
 use Rattle.pod_store.specs.Marks.{Marked, newest_mark, continues, are_one, mark_with, mark_in}
 use Rattle.playlist_model.specs.LookBack.{or_earlier}
@@ -16,7 +15,7 @@ use Rattle.break_finder.specs.Entering.{is_inside, enters_break, enters_with, id
 use Rattle.stitcher.specs.StitchedSegments.{meant, IsDecided, AreDecided, KnowsRun, KnowRuns}
 use Rattle.channel_spec.specs.Marking.{Moment, limits, next_mark, newest_end, continued}
 use Rattle.channel_spec.specs.Kept.{marked_on, entered_with, show_on, capped, extended, length_on}
-use Rattle.channel_window.specs.Marking.{is_still_inside, stays, next_id, first_common, mark_on, capped_by, capped_in, length_before, length_after}
+use Rattle.channel_window.specs.Marking.{Hint, is_still_inside, stays, next_id, first_hint, mark_on, capped_by, capped_in, length_before, length_after}
 use Rattle.break_finder.specs.Entrances.{Entrances, entrances_in, is_within}
 use Rattle.break_finder.specs.declared.spans.TimesWithin.{TimesWithin}
 use Rattle.channel_window.specs.declared.marking.Run.{Run}
@@ -106,12 +105,12 @@ either_decided store false x y h k = k
 next_decided : (m : Moment) (newest last : Option (List ℕ)) (instant : Option ℤ) → IsDecided m.store newest → IsDecided m.store (next_id m newest last instant)
 next_decided m newest last instant h = either_decided m.store (stays m newest instant) newest (entering.entered (limits m last) m.store m.breaks instant) h (entered_decided m last instant)
 
-all_decided : (m : Moment) (newest last : Option (List ℕ)) (commons : List InCommon) (segments : List Segment) (instants : List (Option ℤ)) → IsDecided m.store newest → AreDecided m.store (mark_on m newest last commons segments instants)
-all_decided m newest last commons [] instants h = tt
-all_decided m newest last commons (s ∷ later) [] h = tt
-all_decided m newest last commons (s ∷ later) (begun ∷ instants) h =
+all_decided : (m : Moment) (newest last : Option (List ℕ)) (hints : List Hint) (segments : List Segment) (instants : List (Option ℤ)) → IsDecided m.store newest → AreDecided m.store (mark_on m newest last hints segments instants)
+all_decided m newest last hints [] instants h = tt
+all_decided m newest last hints (s ∷ later) [] h = tt
+all_decided m newest last hints (s ∷ later) (begun ∷ instants) h =
     let here = next_decided m newest last begun h in
-    (here, all_decided m (next_id m newest last begun) (or_earlier (next_id m newest last begun) last) (drop 1 commons) later instants here)
+    (here, all_decided m (next_id m newest last begun) (or_earlier (next_id m newest last begun) last) (drop 1 hints) later instants here)
 
 -- ---- each knows its run
 
@@ -119,12 +118,12 @@ knows_run : (newest : Option (List ℕ)) (h : Held) → h.goes_on ≡ is_same_st
 knows_run None h e = tt
 knows_run (Some id) h e = e
 
-pub know_runs : (m : Moment) (newest last : Option (List ℕ)) (commons : List InCommon) (segments : List Segment) (instants : List (Option ℤ)) → KnowRuns newest (mark_on m newest last commons segments instants)
-know_runs m newest last commons [] instants = tt
-know_runs m newest last commons (s ∷ later) [] = tt
-know_runs m newest last commons (s ∷ later) (begun ∷ instants) =
+pub know_runs : (m : Moment) (newest last : Option (List ℕ)) (hints : List Hint) (segments : List Segment) (instants : List (Option ℤ)) → KnowRuns newest (mark_on m newest last hints segments instants)
+know_runs m newest last hints [] instants = tt
+know_runs m newest last hints (s ∷ later) [] = tt
+know_runs m newest last hints (s ∷ later) (begun ∷ instants) =
     let id = next_id m newest last begun in
-    (knows_run newest (record { segment = s; instant = begun; mark = id; goes_on = is_same_stitched_run id newest; in_common = first_common commons }) refl, know_runs m id (or_earlier id last) (drop 1 commons) later instants)
+    (knows_run newest (record { segment = s; instant = begun; mark = id; goes_on = is_same_stitched_run id newest; in_common = (first_hint hints).0; again = (first_hint hints).1 }) refl, know_runs m id (or_earlier id last) (drop 1 hints) later instants)
 
 pod_entered : (id : List ℕ) (last : Option (List ℕ)) (o : Option Pod) → IsSome o → entered_with (mark_with id o) last ≡ Some id
 pod_entered id last None h = absurd (cc)
@@ -136,22 +135,22 @@ entered_same store (Some id) last h = pod_entered id last (pod_for store id) h
 
 -- ---- all segments
 
-shown_all : (m : Moment) (newest last : Option (List ℕ)) (commons : List InCommon) (before : List Marked) (segments : List Segment) → IsDecided m.store newest → newest_mark before ≡ mark_in m.store newest
-    → reverse_aux (map (meant m.store) (mark_on m newest last commons segments (instants_after (newest_end before) segments))) before ≡ show_on m before last segments
-shown_all m newest last commons before [] h e = refl
-shown_all m newest last commons before (s ∷ later) h e =
+shown_all : (m : Moment) (newest last : Option (List ℕ)) (hints : List Hint) (before : List Marked) (segments : List Segment) → IsDecided m.store newest → newest_mark before ≡ mark_in m.store newest
+    → reverse_aux (map (meant m.store) (mark_on m newest last hints segments (instants_after (newest_end before) segments))) before ≡ show_on m before last segments
+shown_all m newest last hints before [] h e = refl
+shown_all m newest last hints before (s ∷ later) h e =
     let begun = begins_at (newest_end before) s later in
     let id = next_id m newest last begun in
     let here = marked_on m before last s later in
     let mark : mark_in m.store id ≡ here.mark = marks_agree m newest last begun ∙ ap (λ o. next_mark m o last begun) (sym e) in
-    let same : meant m.store (record { segment = s; instant = begun; mark = id; goes_on = is_same_stitched_run id newest; in_common = first_common commons }) ≡ here = ap (λ o. record { segment = s; instant = begun; mark = o }) mark in
+    let same : meant m.store (record { segment = s; instant = begun; mark = id; goes_on = is_same_stitched_run id newest; in_common = (first_hint hints).0; again = (first_hint hints).1 }) ≡ here = ap (λ o. record { segment = s; instant = begun; mark = o }) mark in
     let d = next_decided m newest last begun h in
-    ap (λ x. reverse_aux (map (meant m.store) (mark_on m id (or_earlier id last) (drop 1 commons) later (instants_after (ends_at begun s.duration) later))) (x ∷ before)) same
-    ∙ (shown_all m id (or_earlier id last) (drop 1 commons) (here ∷ before) later d (sym mark)
+    ap (λ x. reverse_aux (map (meant m.store) (mark_on m id (or_earlier id last) (drop 1 hints) later (instants_after (ends_at begun s.duration) later))) (x ∷ before)) same
+    ∙ (shown_all m id (or_earlier id last) (drop 1 hints) (here ∷ before) later d (sym mark)
     ∙ ap (λ l. show_on m (here ∷ before) l later) (sym (entered_same m.store id last d) ∙ ap (λ o. entered_with o last) mark))
 
 pub marks_are_shown : MarksAreShown
-marks_are_shown m newest last commons before segments h e = (shown_all m newest last commons before segments h e, all_decided m newest last commons segments (instants_after (newest_end before) segments) h)
+marks_are_shown m newest last hints before segments h e = (shown_all m newest last hints before segments h e, all_decided m newest last hints segments (instants_after (newest_end before) segments) h)
 
 -- ---- how long the newest run has lasted
 
@@ -164,8 +163,8 @@ capped_same store None n = refl
 capped_same store (Some id) n = pod_capped id (pod_for store id) n
 
 pub lengths_are_kept : LengthsAreKept
-lengths_are_kept m newest last commons before so_far [] h e = refl
-lengths_are_kept m newest last commons before so_far (s ∷ later) h e =
+lengths_are_kept m newest last hints before so_far [] h e = refl
+lengths_are_kept m newest last hints before so_far (s ∷ later) h e =
     let begun = begins_at (newest_end before) s later in
     let id = next_id m newest last begun in
     let here = marked_on m before last s later in
@@ -175,6 +174,6 @@ lengths_are_kept m newest last commons before so_far (s ∷ later) h e =
     let one : capped_in m.store id (s.duration + length_before id newest so_far) ≡ extended here before so_far =
     capped_same m.store id (s.duration + length_before id newest so_far)
     ∙ ap (λ o. capped o (s.duration + length_before id newest so_far)) mark ∙ ap (λ b. capped here.mark (s.duration + cond b so_far 0)) goes_on in
-    ap (λ n. length_after m.store id n (mark_on m id (or_earlier id last) (drop 1 commons) later (instants_after (ends_at begun s.duration) later))) one
-    ∙ (lengths_are_kept m id (or_earlier id last) (drop 1 commons) (here ∷ before) (extended here before so_far) later d (sym mark)
+    ap (λ n. length_after m.store id n (mark_on m id (or_earlier id last) (drop 1 hints) later (instants_after (ends_at begun s.duration) later))) one
+    ∙ (lengths_are_kept m id (or_earlier id last) (drop 1 hints) (here ∷ before) (extended here before so_far) later d (sym mark)
     ∙ ap (λ l. length_on m (here ∷ before) l (extended here before so_far) later) (sym (entered_same m.store id last d) ∙ ap (λ o. entered_with o last) mark))

@@ -15,12 +15,12 @@ use Rattle.stitcher.specs.declared.ends.Rest.{Rest}
 use Rattle.stitcher.specs.declared.ends.Ends.{Ends}
 use Rattle.stitcher.specs.declared.making.Last.{Last}
 use Rattle.stitcher.specs.Written.{written_item}
-use Rattle.stitcher.specs.StitchedSegments.{IsDecided, AreDecided, KnowRuns, item_fits, stitched_segments}
+use Rattle.stitcher.specs.StitchedSegments.{KnowPrevious, IsDecided, AreDecided, item_fits, stitched_segments}
 use Rattle.stitcher.specs.Making.{pod_with, begun, is_same_stitched_run}
 use Rattle.stitcher.specs.Inner.Making.{counted, last_of, numbers_after, begun_with, pieces_in_part, stitched_part_at, part_due, whole_from, stitched_run_goes_on_to_last, pieces_on, pieces_of_rest, pieces_between}
 use Rattle.stitcher.proofs.Parts.{whole_is_part}
 use Rattle.stitcher.proofs.Runs.{in_order, rest_in_order}
-use Rattle.stitcher.proofs.Known.{known_front}
+use Rattle.stitcher.proofs.Known.{known_previous_front}
 use Rattle.channel_spec.specs.Kept.{numbers_on}
 use Rattle.channel_spec.specs.declared.fault.RefreshFault.{RefreshFault}
 use Rattle.channel_spec.specs.declared.fault.RefreshFault.TheVariants.{NumberRange}
@@ -151,8 +151,8 @@ within store first ends list front d f = grind (arith, place_bounded, length-app
 pub front_decided : (store : Store) (list front : List MarkedSegment) → AreDecided store list → IsFront front list → AreDecided store front
 front_decided store list front d f = (all_after (λ (m : MarkedSegment). IsDecided store m.mark) front f.0 (subst (AreDecided store) f.1 d)).0
 
-pub front_known : (list front : List MarkedSegment) → KnowRuns None list → IsFront front list → KnowRuns None front
-front_known list front k f = known_front None front f.0 (subst (KnowRuns None) f.1 k)
+pub front_known_previous : (list front : List MarkedSegment) → KnowPrevious list → IsFront front list → KnowPrevious front
+front_known_previous list front k f = known_previous_front front f.0 (subst KnowPrevious f.1 k)
 
 pub first_here : (store : Store) (held : List MarkedSegment) (numbers : Numbers) (last : Option Heading) → AreDecided store held → last ≡ None → first_numbers_of held ≡ numbers_on last numbers (history_in store held)
 first_here store held numbers last d e = grind (arith, begins)

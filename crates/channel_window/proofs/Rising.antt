@@ -7,7 +7,6 @@ use Rattle.std.proofs.lemmas.List.{take-append-drop, take_all, take_at, length-m
 use Rattle.std.proofs.Math.Seq.{drop-append_seam}
 use mathlib.Core.List.{reverse_aux}
 use Rattle.playlist_model.specs.Segments.{Segment}
-use Rattle.playlist_model.specs.declared.in_common.InCommon.{InCommon}
 use Rattle.playlist_model.specs.LookBack.{or_earlier}
 use Rattle.pod_store.specs.Marks.{Marked}
 use Rattle.pod_store.specs.Store.{Store}
@@ -21,7 +20,7 @@ use Rattle.channel_spec.specs.Sound.{RiseFrom}
 use Rattle.channel_spec.specs.Successor.{first_number}
 use Rattle.channel_spec.proofs.Risen.{FallFrom, are_past}
 use Rattle.channel_window.specs.Checked.{AreContiguous}
-use Rattle.channel_window.specs.Marking.{history_in, mark_on, next_id}
+use Rattle.channel_window.specs.Marking.{Hint, history_in, mark_on, next_id}
 use Rattle.channel_window.proofs.Listed.{drop_all, drop_min}
 use Rattle.channel_window.specs.Listed.{AreRising, RiseByOne, RisesOn}
 
@@ -129,10 +128,10 @@ pub rise_joined : (n : ℕ) (xs ys : List Held) → RiseByOne n xs → RiseByOne
 rise_joined n [] ys r s = subst (λ k. RiseByOne k ys) (omega arith) s
 rise_joined n (x ∷ xs) ys r s = (r.0, rise_joined (n + 1) xs ys r.1 (subst (λ k. RiseByOne k ys) (omega arith) s))
 
-pub rise_marked : (m : Moment) (n : ℕ) (newest last : Option (List ℕ)) (commons : List InCommon) (segments : List Segment) (instants : List (Option ℤ)) → RiseFrom n segments → RiseByOne n (mark_on m newest last commons segments instants)
-rise_marked m n newest last commons [] instants r = tt
-rise_marked m n newest last commons (s ∷ later) [] r = tt
-rise_marked m n newest last commons (s ∷ later) (i ∷ more) r = grind (arith, rise_marked m (n + 1) (next_id m newest last i) (or_earlier (next_id m newest last i) last) (drop 1 commons) later more r.1)
+pub rise_marked : (m : Moment) (n : ℕ) (newest last : Option (List ℕ)) (hints : List Hint) (segments : List Segment) (instants : List (Option ℤ)) → RiseFrom n segments → RiseByOne n (mark_on m newest last hints segments instants)
+rise_marked m n newest last hints [] instants r = tt
+rise_marked m n newest last hints (s ∷ later) [] r = tt
+rise_marked m n newest last hints (s ∷ later) (i ∷ more) r = grind (arith, rise_marked m (n + 1) (next_id m newest last i) (or_earlier (next_id m newest last i) last) (drop 1 hints) later more r.1)
 
 every_new : (segments : List Segment) → filter (is_new []) segments ≡ segments
 every_new [] = refl
@@ -146,14 +145,14 @@ rise_fresh end (s ∷ before) segments f anew near r =
     subst (λ k. RiseFrom k (filter (is_new (s ∷ before)) segments)) f.0 past.rise
 
 -- a playlist's new segments go on those that are shown
-pub rises_on : (m : Moment) (shown : List Held) (newest last : Option (List ℕ)) (commons : List InCommon) (segments fresh : List Segment) (instants : List (Option ℤ)) (marked list : List Held) → RisesOn shown segments → AreContiguous segments
-    → fresh ≡ filter (is_new (history_in m.store shown)) segments → marked ≡ mark_on m newest last commons fresh instants → list ≡ shown ++ marked → AreRising list
-rises_on m shown newest last commons segments fresh instants marked list h r fresh_is marked_is list_is =
+pub rises_on : (m : Moment) (shown : List Held) (newest last : Option (List ℕ)) (hints : List Hint) (segments fresh : List Segment) (instants : List (Option ℤ)) (marked list : List Held) → RisesOn shown segments → AreContiguous segments
+    → fresh ≡ filter (is_new (history_in m.store shown)) segments → marked ≡ mark_on m newest last hints fresh instants → list ≡ shown ++ marked → AreRising list
+rises_on m shown newest last hints segments fresh instants marked list h r fresh_is marked_is list_is =
     let end = h.first + length shown in
     let fresh_rise : RiseFrom end fresh =
     subst (RiseFrom end) (sym fresh_is)
     (rise_fresh end (history_in m.store shown) segments (falls m.store h.first shown h.rise) (λ e. h.anew (omega (arith, e, seen_long m.store shown))) h.near r) in
-    let marked_rise : RiseByOne end marked = subst (RiseByOne end) (sym marked_is) (rise_marked m end newest last commons fresh instants fresh_rise) in
+    let marked_rise : RiseByOne end marked = subst (RiseByOne end) (sym marked_is) (rise_marked m end newest last hints fresh instants fresh_rise) in
     (h.first, subst (RiseByOne h.first) (sym list_is) (rise_joined h.first shown marked h.rise marked_rise))
 
 pub first_is : (n : ℕ) (list : List Held) (m : Held) → RiseByOne n list → slice_get list 0 ≡ Some m → m.segment.media_sequence ≡ n

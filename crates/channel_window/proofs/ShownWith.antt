@@ -5,7 +5,6 @@ use mathlib.Core.List.{reverse_aux}
 use Rattle.playlist_model.specs.LookBack.{or_earlier}
 use Rattle.playlist_model.specs.declared.Playlist.{Playlist}
 use Rattle.playlist_model.specs.Segments.{Segment}
-use Rattle.playlist_model.specs.declared.in_common.InCommon.{InCommon}
 use Rattle.playlist_model.specs.Instants.{instants_after}
 use Rattle.break_finder.specs.Breaks.{Break}
 use Rattle.pod_store.specs.Pods.{Pod}
@@ -13,6 +12,7 @@ use Rattle.pod_store.specs.Marks.{Mark, Marked, newest_mark, mark_with, mark_in}
 use Rattle.pod_store.specs.Store.{Store, pod_for}
 use Rattle.stitcher.specs.declared.marked.MarkedSegment.{MarkedSegment as Held}
 use Rattle.stitcher.specs.StitchedSegments.{meant, IsDecided, AreDecided, KnowRuns, KnowCommon, KnowPrevious}
+use Rattle.stitcher.specs.Inner.StitchedSegments.{KnowAgainWithin}
 use Rattle.stitcher.specs.Inner.Making.{mark_after}
 use Rattle.break_finder.specs.Known.{is_this_break, carry}
 use Rattle.channel_spec.specs.Successor.{has_init_sections}
@@ -21,7 +21,7 @@ use Rattle.channel_spec.specs.Live.{is_mark_of}
 use Rattle.channel_spec.specs.Kept.{show_on, length_on, kept_acceptance}
 use Rattle.channel_window.specs.declared.state.ChannelState.{ChannelState}
 use Rattle.channel_window.specs.declared.showing.Showing.{Showing}
-use Rattle.channel_window.specs.Marking.{history_in, mark_on, length_after}
+use Rattle.channel_window.specs.Marking.{Hint, history_in, mark_on, length_after}
 use Rattle.channel_window.specs.Inner.Terms.{entered_after}
 use Rattle.channel_window.specs.Checked.{AreContiguous}
 use Rattle.channel_window.specs.Listed.{RisesOn}
@@ -61,14 +61,14 @@ last_onto store (m ∷ later) before last e d h =
 -- ---- what is shown
 
 -- the known breaks, and the segments that were shown with the new ones, if the shown segments are handed on as a list
-module _ (tolerance : ℕ) (state : ChannelState) (p : Playlist) (shown : List Held) (newest : Option (List ℕ)) (fresh : List Segment) (ended : Option ℤ) (begun : List (Option ℤ)) (commons : List InCommon) (marked : List Held) (a : Showing)
+module _ (tolerance : ℕ) (state : ChannelState) (p : Playlist) (shown : List Held) (newest : Option (List ℕ)) (fresh : List Segment) (ended : Option ℤ) (begun : List (Option ℤ)) (hints : List Hint) (marked : List Held) (a : Showing)
     (before : AreDecided state.store state.list) (last_is : IsLastEntered (kept_in state)) (same : shown ≡ state.list)
     (mark_is : newest_mark (history_in state.store shown) ≡ mark_in state.store newest) (newest_is : AreDecided state.store shown → IsDecided state.store newest)
     (breaks_are : a.knowledge ≡ carry (record { playlist = p; carried = newest }) state.shown.knowledge) (fresh_is : fresh ≡ filter (is_new (history_in state.store shown)) p.segments)
     (ended_is : ended ≡ newest_end (history_in state.store shown)) (begun_is : begun ≡ instants_after ended fresh)
-    (marked_is : marked ≡ mark_on (record { tolerance = tolerance; target_duration = p.target_duration; with_init_sections = has_init_sections p.segments; breaks = a.knowledge; store = state.store }) newest state.shown.entered commons fresh begun)
+    (marked_is : marked ≡ mark_on (record { tolerance = tolerance; target_duration = p.target_duration; with_init_sections = has_init_sections p.segments; breaks = a.knowledge; store = state.store }) newest state.shown.entered hints fresh begun)
     (held : List Held) (list_is : held ≡ shown ++ marked) (contiguous : AreContiguous p.segments) (rises : RisesOn state.list p.segments) (entered_is : a.entered ≡ entered_after state.shown.entered marked)
-    (known : KnowPrevious state.list) (common : (before : Option Segment) → KnowCommon before marked) (newest_last : newest ≡ mark_after None shown) where
+    (known : KnowPrevious state.list) (common : (before : Option Segment) → KnowCommon before marked) (again : KnowAgainWithin marked) (newest_last : newest ≡ mark_after None shown) where
   abbrev store : Store
   store = state.store
 
@@ -90,10 +90,10 @@ module _ (tolerance : ℕ) (state : ChannelState) (p : Playlist) (shown : List H
   marked_know : KnowRuns (mark_after None shown) marked
   marked_know =
       subst (λ id. KnowRuns id marked) newest_last
-      (subst (KnowRuns newest) (sym marked_is) (know_runs (moment a.knowledge) newest state.shown.entered commons fresh begun))
+      (subst (KnowRuns newest) (sym marked_is) (know_runs (moment a.knowledge) newest state.shown.entered hints fresh begun))
 
   list_decided : AreDecided store held
-  list_decided = is_decided (moment a.knowledge) shown newest state.shown.entered commons p.segments fresh ended begun marked held mark_is (newest_is decided) decided ended_is fresh_is begun_is marked_is list_is
+  list_decided = is_decided (moment a.knowledge) shown newest state.shown.entered hints p.segments fresh ended begun marked held mark_is (newest_is decided) decided ended_is fresh_is begun_is marked_is list_is
 
   last_entered_is : a.entered ≡ or_earlier (last_entered (history_in store held)) state.shown.entered
   last_entered_is =
@@ -108,18 +108,18 @@ module _ (tolerance : ℕ) (state : ChannelState) (p : Playlist) (shown : List H
   shown_is count long = record {
     breaks = breaks_kept;
     list =
-        is_listed (moment a.knowledge) shown newest state.shown.entered commons p.segments fresh ended begun marked held mark_is (newest_is decided) decided ended_is fresh_is begun_is marked_is list_is
+        is_listed (moment a.knowledge) shown newest state.shown.entered hints p.segments fresh ended begun marked held mark_is (newest_is decided) decided ended_is fresh_is begun_is marked_is list_is
         ∙ (ap (λ (xs : List Held). show_on (moment a.knowledge) (history_in store xs) state.shown.entered (filter (is_new (history_in store xs)) p.segments)) same
         ∙ ap (λ b. show_on (moment b) (history_in store state.list) state.shown.entered (filter (is_new (history_in store state.list)) p.segments)) breaks_kept);
     fresh = count ∙ (ap length fresh_is ∙ ap (λ (xs : List Held). length (filter (is_new (history_in store xs)) p.segments)) same);
     entered = last_entered_is;
     length =
-        is_long (moment a.knowledge) shown newest state.shown.entered commons p.segments fresh ended begun marked held mark_is (newest_is decided) decided ended_is fresh_is begun_is marked_is list_is state.shown.so_far a.so_far long
+        is_long (moment a.knowledge) shown newest state.shown.entered hints p.segments fresh ended begun marked held mark_is (newest_is decided) decided ended_is fresh_is begun_is marked_is list_is state.shown.so_far a.so_far long
         ∙ (ap (λ (xs : List Held). length_on (moment a.knowledge) (history_in store xs) state.shown.entered state.shown.so_far (filter (is_new (history_in store xs)) p.segments)) same
         ∙ ap (λ b. length_on (moment b) (history_in store state.list) state.shown.entered state.shown.so_far (filter (is_new (history_in store state.list)) p.segments)) breaks_kept);
     decided = list_decided;
-    previous = subst KnowPrevious (sym list_is) (known_previous_after shown marked (subst KnowPrevious (sym same) known) marked_know common);
-    rising = rises_on (moment a.knowledge) shown newest state.shown.entered commons p.segments fresh begun marked held shown_rises contiguous fresh_is marked_is list_is;
+    previous = subst KnowPrevious (sym list_is) (known_previous_after shown marked (subst KnowPrevious (sym same) known) marked_know common again);
+    rising = rises_on (moment a.knowledge) shown newest state.shown.entered hints p.segments fresh begun marked held shown_rises contiguous fresh_is marked_is list_is;
   }
 
 -- the newest mark, if any, is that of the last break entered

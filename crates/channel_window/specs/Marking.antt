@@ -31,18 +31,23 @@ stays m (Some id) instant = is_still_inside m id instant (pod_for m.store id)
 abbrev pub next_id : Moment → Option (List ℕ) → Option (List ℕ) → Option ℤ → Option (List ℕ)
 next_id m newest last instant = if stays m newest instant then newest else entered (limits m last) m.store m.breaks instant
 
--- the first of these; nothing in common if none is left
-abbrev pub first_common : List InCommon → InCommon
-first_common [] = nothing_in_common
-first_common (common ∷ later) = common
+-- what a new segment is told of those before it: what it has in common with the last of them, and how many places before it one
+-- stands that has its mark too
+abbrev pub Hint : Type 0
+Hint = InCommon × ℕ
 
--- these segments, which begin at these instants, with their marks, and with what each has in common with the one before it
-abbrev pub mark_on : Moment → Option (List ℕ) → Option (List ℕ) → List InCommon → List Segment → List (Option ℤ) → List Held
-mark_on m newest last commons [] instants = []
-mark_on m newest last commons (s ∷ later) [] = []
-mark_on m newest last commons (s ∷ later) (instant ∷ instants) =
-    record { segment = s; instant = instant; mark = next_id m newest last instant; goes_on = is_same_stitched_run (next_id m newest last instant) newest; in_common = first_common commons }
-    ∷ mark_on m (next_id m newest last instant) (or_earlier (next_id m newest last instant) last) (drop 1 commons) later instants
+-- the first of these; nothing in common and no other segment if none is left
+abbrev pub first_hint : List Hint → Hint
+first_hint [] = (nothing_in_common, 0)
+first_hint (hint ∷ later) = hint
+
+-- these segments, which begin at these instants, with their marks, and with what each is told of those before it
+abbrev pub mark_on : Moment → Option (List ℕ) → Option (List ℕ) → List Hint → List Segment → List (Option ℤ) → List Held
+mark_on m newest last hints [] instants = []
+mark_on m newest last hints (s ∷ later) [] = []
+mark_on m newest last hints (s ∷ later) (instant ∷ instants) =
+    record { segment = s; instant = instant; mark = next_id m newest last instant; goes_on = is_same_stitched_run (next_id m newest last instant) newest; in_common = (first_hint hints).0; again = (first_hint hints).1 }
+    ∷ mark_on m (next_id m newest last instant) (or_earlier (next_id m newest last instant) last) (drop 1 hints) later instants
 
 -- the first list, turned round, before the second
 abbrev pub reversed_onto : {A : Type 0} → List A → List A → List A

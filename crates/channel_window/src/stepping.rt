@@ -358,7 +358,7 @@ pub fn stepped_window_of<'a>(
     let Some(front) = first_window_items(alloc, before, gone, list)? else {
         return Ok(None);
     };
-    let Start { place, rest } = window_start_of(before, read, list, stood)?;
+    let Start { place, rest } = window_start_of(alloc, before, read, list, stood)?;
     if place >= front.count() || place >= stood || place > later.count {
         return Ok(None);
     }

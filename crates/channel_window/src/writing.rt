@@ -87,26 +87,29 @@ fn window_ends_of(rest: &Option<Rest>, ended: bool, so_far: Nanos) -> Result<End
 
 // The place, from 0, of the item of the segment `number` of `list`, the rest before the first one apart.
 fn window_item_place(
+    alloc: Global,
     store: &PodStore,
     rest: &Option<Rest>,
     number: u64,
     list: &[MarkedSegment],
-) -> usize
+) -> Result<usize, AllocError>
     requires room { HasRoom store.now rest.now list.now }
     requires decided { AreDecided store.now list.now }
-    requires runs { KnowRuns None list.now }
+    requires previous { KnowPrevious list.now }
     requires rising { AreRising list.now }
-    ensures value { result ≡ item_place number (history_in store.now list.now) }
-    ensures room { result + window_rest_count store.now rest.now < 2 ^ 64 }
-    ensures within { (most : ℕ) → IsWithin store.now rest.now list.now most
-        → result + window_rest_count store.now rest.now ≤ most }
+    ensures value { IfOk result (λ place. place ≡ item_place number (history_in store.now list.now)) }
+    ensures room { IfOk result (λ place. place + window_rest_count store.now rest.now < 2 ^ 64) }
+    ensures within { IfOk result
+        (λ place. (most : ℕ) → IsWithin store.now rest.now list.now most
+        → place + window_rest_count store.now rest.now ≤ most) }
 {
-    newest_run_place(store, window_front_to(number, list))
+    newest_run_place(alloc, store, window_front_to(number, list))
 }
 
 // What a window that starts at `start` has of the pod of the newest run of `gone`, the segments before it, after `rest_items`
 // items of a rest.
 fn window_rest_of(
+    alloc: Global,
     store: &PodStore,
     gone: &[MarkedSegment],
     rest_items: usize,
@@ -114,7 +117,7 @@ fn window_rest_of(
 ) -> Result<Option<Rest>, AllocError>
     requires room { place_on store.now None 0 0 gone.now + rest_items < 2 ^ 64 }
     requires decided { AreDecided store.now gone.now }
-    requires runs { KnowRuns None gone.now }
+    requires previous { KnowPrevious gone.now }
     ensures decided { IfOk result (λ rest. IsRestDecided store.now rest) }
     ensures value { IfOk result
         (λ rest. rest_in store.now rest
@@ -126,9 +129,10 @@ fn window_rest_of(
     let Some(id) = &*newest.mark else {
         return Ok(None);
     };
+    let run = newest_run_place(alloc, store, gone)?;
     Ok(Some(Rest {
         id: id.clone()?,
-        place: start.saturating_sub(newest_run_place(store, gone) + rest_items),
+        place: start.saturating_sub(run + rest_items),
     }))
 }
 
@@ -144,6 +148,7 @@ pub(crate) struct Start {
 // The start of a window whose first segment has the number `number`, if the last window, of `stood` items, began with
 // another one: at the item of that segment, but no later than one past the last window.
 fn later_window_start(
+    alloc: Global,
     store: &PodStore,
     rest: &Option<Rest>,
     number: u64,
@@ -152,7 +157,7 @@ fn later_window_start(
 ) -> Result<Start, AllocError>
     requires room { HasRoom store.now rest.now list.now }
     requires decided { AreDecided store.now list.now }
-    requires runs { KnowRuns None list.now }
+    requires previous { KnowPrevious list.now }
     requires rising { AreRising list.now }
     ensures place { IfOk result
         (λ s. s.place ≡ min (item_place number
@@ -167,19 +172,20 @@ fn later_window_start(
         (history_in store.now list.now)) }
 {
     let rest_items = window_rest_count(store, rest);
-    let item = window_item_place(store, rest, number, list) + rest_items;
+    let item = window_item_place(alloc, store, rest, number, list)? + rest_items;
     let place = item.min(stood);
     if item <= place {
         return Ok(Start { place, rest: None });
     }
     let gone = window_front_before(number, list);
-    let rest = window_rest_of(store, gone, rest_items, place)?;
+    let rest = window_rest_of(alloc, store, gone, rest_items, place)?;
     Ok(Start { place, rest })
 }
 
 /// The start of the window of the playlist that was `read` in the stitched list of `list`, after the rest that a channel kept in
 /// `before` (RFC 8216, section 6.2.2). The last window had `stood` items. Fails only if an allocation fails.
 pub(crate) fn window_start_of(
+    alloc: Global,
     before: &Before<'_>,
     read: &Read<'_>,
     list: &[MarkedSegment],
@@ -187,7 +193,7 @@ pub(crate) fn window_start_of(
 ) -> Result<Start, AllocError>
     requires room { HasRoom (kept_before before.now).store (kept_before before.now).shown.rest list.now }
     requires decided { AreDecided (kept_before before.now).store list.now }
-    requires runs { KnowRuns None list.now }
+    requires previous { KnowPrevious list.now }
     requires rising { AreRising list.now }
     requires rest { IsRestDecided (kept_before before.now).store (kept_before before.now).shown.rest }
     requires stood { stood ≡ length (last_pieces (kept_before before.now).last (kept_in (kept_before before.now))) }
@@ -209,14 +215,14 @@ pub(crate) fn window_start_of(
     let (store, shown) = (&before.state.store, &before.state.shown);
     let number = first_successor_number(read);
     let Some(_) = &before.state.last else {
-        let place = window_item_place(store, &shown.rest, number, list);
+        let place = window_item_place(alloc, store, &shown.rest, number, list)?;
         return Ok(Start { place, rest: None });
     };
     if number == first_shown_number(before.list) {
         let rest = copied_window_rest(&shown.rest)?;
         return Ok(Start { place: 0, rest });
     }
-    Ok(later_window_start(store, &shown.rest, number, list, stood)?)
+    Ok(later_window_start(alloc, store, &shown.rest, number, list, stood)?)
 }
 
 /// The stitched list from the first item of the last window on.
@@ -276,7 +282,7 @@ pub fn placed_of<'a>(
     let first = window_numbers_on(&before.state.last, shown.numbers, list, store, &ends)?;
     let cut = before.list.len();
     let whole = stitch_window_segments(alloc, list, cut, store, first, &ends)?;
-    let start = window_start_of(before, read, list, stood)?;
+    let start = window_start_of(alloc, before, read, list, stood)?;
     Ok(PlacedList {
         whole,
         start: start.place,

@@ -1,10 +1,10 @@
 //! The breaks in use.
-ghost use Rattle.std.specs.Prelude.{◌≡◌, ◌++◌, ◌∷◌, [], None, true, IfOk, OnOk};
+ghost use Rattle.std.specs.Prelude.{◌≡◌, ◌<◌, ◌≤◌, ◌+◌, ◌++◌, ◌∷◌, [], ℕ, List, None, true, IfOk, OnOk};
 ghost use Rattle.pod_store.specs.Store.{is_one_of};
 ghost use Rattle.pod_store.specs.Inner.Store.{NameTheSame};
 ghost use Rattle.channel_spec.specs.Live.{ids_of_option};
-ghost use Rattle.stitcher.specs.StitchedSegments.{KnowRuns, KnowsRun};
-ghost use Rattle.live_channel.specs.Inner.Marks.{IsAmongMarks, breaks_held, mark_held, live_marks_and_last, rest_held};
+ghost use Rattle.stitcher.specs.StitchedSegments.{KnowPrevious, KnowsRun};
+ghost use Rattle.live_channel.specs.Inner.Marks.{IsAmongMarks, IsSettledAgain, breaks_held, mark_held, live_marks_and_last, rest_held};
 
 use playlist_model::{Shared, Text};
 use std::alloc::{AllocError, Global};
@@ -22,7 +22,7 @@ fn is_last_live_mark(marks: &[Shared<Text>], id: &Text) -> bool
 }
 
 #[tactic(auto, using(crate::proofs::Marks::named_in_front))]
-// Whether a break is one of the last two of these: segments may enter two breaks in turns.
+// Whether a break is one of the last two of these: segments that came by several refreshes may enter two breaks in turns.
 fn is_recent_live_mark(marks: &[Shared<Text>], id: &Text) -> bool
     ensures { result ≡ true → is_one_of marks.now id.now ≡ true }
 {
@@ -60,35 +60,91 @@ fn push_live_mark(
     }
 }
 
-#[tactic(auto, using(crate::proofs::Marks::none_there, crate::proofs::Marks::none_before, crate::proofs::Marks::one_there, crate::proofs::Marks::named_before, crate::proofs::Marks::named_here, crate::proofs::Marks::named_then))]
-// Puts the break of a segment after others, if it has one and is numbered from this number on. `previous` is the mark of the
-// segment before it, and `is_put` says that its break is one of the others. Answers the same of this segment. So a run's ID
-// is looked at where it begins.
+#[tactic(auto, using(crate::proofs::Marks::put_again, crate::proofs::Marks::put_none))]
+// Puts the break that a segment enters after others. It is compared with the last two of them only if no segment before it is
+// known to have its mark. A known one stands before those whose breaks are put, so its break is seldom one of the two.
+fn push_entered_live_mark(
+    marks: &mut Vec<Shared<Text>>,
+    marked: &MarkedSegment,
+) -> Result<(), AllocError>
+    ensures { OnOk result
+        (NameTheSame marks.new.items (marks.old.items ++ ids_of_option marked.now.mark)) }
+{
+    if marked.again == 0 {
+        return push_live_mark(marks, &marked.mark);
+    }
+    if let Some(id) = &*marked.mark {
+        marks.push(id.clone()?)?;
+    }
+    Ok(())
+}
+
+#[tactic(auto, using(crate::proofs::Marks::named_here))]
+// Whether the break of a segment is known to be put, without a look at its ID. `settled` is how many segments directly before
+// it have no mark or a break that is put, and `previous` is the mark of the last of them.
+fn is_live_mark_settled(
+    previous: &Option<Shared<Text>>,
+    settled: u32,
+    marked: &MarkedSegment,
+) -> bool
+    requires { KnowsRun previous.now marked.now }
+    ensures { result ≡ true → (marks : List (List ℕ)) → (0 < settled → IsAmongMarks marks previous.now)
+        → IsSettledAgain marks settled marked.now → IsAmongMarks marks marked.now.mark }
+{
+    let is_again = 0 < marked.again && marked.again <= settled;
+    is_again || settled > 0 && stitched_run_goes_on(marked, previous)
+}
+
+// Puts the break of a segment after others, if it isn't known to be one of them.
+fn push_unsettled_live_mark(
+    marks: &mut Vec<Shared<Text>>,
+    previous: &Option<Shared<Text>>,
+    settled: u32,
+    marked: &MarkedSegment,
+) -> Result<(), AllocError>
+    requires runs { KnowsRun previous.now marked.now }
+    requires before { 0 < settled → IsAmongMarks marks.old.items previous.now }
+    requires again { IsSettledAgain marks.old.items settled marked.now }
+    ensures { OnOk result
+        (NameTheSame marks.new.items (marks.old.items ++ ids_of_option marked.now.mark)) }
+{
+    if is_live_mark_settled(previous, settled, marked) {
+        return Ok(());
+    }
+    push_entered_live_mark(marks, marked)
+}
+
+#[tactic(auto, using(crate::proofs::Marks::none_there, crate::proofs::Marks::none_among, crate::proofs::Marks::none_before, crate::proofs::Marks::one_there, crate::proofs::Marks::named_then))]
+// Puts the break of a segment after others, if it has one and is numbered from this number on. `settled` is how many segments
+// directly before it have no mark or one of the others, and `previous` is the mark of the last of them. Answers how many these
+// are with this segment. So an ID is looked at only where a refresh enters its break first.
 fn push_live_mark_of_segment(
     marks: &mut Vec<Shared<Text>>,
     number: u64,
     previous: &Option<Shared<Text>>,
-    is_put: bool,
+    settled: u32,
     marked: &MarkedSegment,
-) -> Result<bool, AllocError>
+) -> Result<u32, AllocError>
     requires runs { KnowsRun previous.now marked.now }
-    requires before { is_put ≡ true → IsAmongMarks marks.old.items previous.now }
+    requires before { 0 < settled → IsAmongMarks marks.old.items previous.now }
+    requires again { IsSettledAgain marks.old.items settled marked.now }
     ensures same { OnOk result
         (NameTheSame marks.new.items (marks.old.items ++ mark_held number marked.now)) }
-    ensures named { IfOk result (λ put. put ≡ true → IsAmongMarks marks.new.items marked.now.mark) }
+    ensures named { IfOk result (λ next. 0 < next → IsAmongMarks marks.new.items marked.now.mark) }
+    ensures counted { IfOk result (λ next. next ≤ settled + 1) }
 {
     // Most segments have no mark.
-    if marked.mark.is_none() || marked.segment.get().media_sequence() < number {
-        return Ok(false);
+    if marked.mark.is_none() {
+        return Ok(settled.saturating_add(1));
     }
-    if is_put && stitched_run_goes_on(marked, previous) {
-        return Ok(true);
+    if marked.segment.get().media_sequence() < number {
+        return Ok(0);
     }
-    push_live_mark(marks, &marked.mark)?;
-    Ok(true)
+    push_unsettled_live_mark(marks, previous, settled, marked)?;
+    Ok(settled.saturating_add(1))
 }
 
-#[tactic(auto, using(crate::proofs::Marks::one_marked, crate::proofs::Marks::then_more))]
+#[tactic(auto, using(crate::proofs::Marks::one_marked, crate::proofs::Marks::then_more, crate::proofs::Marks::none_settled))]
 // The breaks that mark the segments from this number on, one for each run and in their order, and then the last one entered.
 fn live_marks_and_last(
     alloc: Global,
@@ -96,17 +152,17 @@ fn live_marks_and_last(
     list: &[MarkedSegment],
     entered: &Option<Shared<Text>>,
 ) -> Result<Vec<Shared<Text>>, AllocError>
-    requires { KnowRuns None list.now }
+    requires { KnowPrevious list.now }
     ensures { IfOk result
         (λ marks. NameTheSame marks.items (live_marks_and_last number list.now entered.now)) }
 {
     let mut marks = Vec::new(alloc);
     let unmarked: Option<Shared<Text>> = None;
     let mut previous = &unmarked;
-    let mut is_put = false;
+    let mut settled = 0;
     let mut rest = list;
     while let Some((marked, later)) = rest.split_first() {
-        is_put = push_live_mark_of_segment(&mut marks, number, previous, is_put, marked)?;
+        settled = push_live_mark_of_segment(&mut marks, number, previous, settled, marked)?;
         previous = &*marked.mark;
         rest = later;
     }
@@ -135,7 +191,7 @@ pub fn live_breaks_in_use(
     entered: &Option<Shared<Text>>,
     rest: &Option<Rest>,
 ) -> Result<Vec<Shared<Text>>, AllocError>
-    requires { KnowRuns None list.now }
+    requires { KnowPrevious list.now }
     ensures { IfOk result
         (λ breaks. NameTheSame breaks.items (breaks_held number list.now entered.now rest.now)) }
 {

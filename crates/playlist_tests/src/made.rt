@@ -42,6 +42,7 @@ pub(crate) fn unmarked(
             mark: Shared::new(alloc, None)?,
             goes_on: false,
             in_common: InCommon::nothing(),
+            again: 0,
         })?;
     }
     Ok(done)

@@ -33,7 +33,7 @@ abbrev pub state : ChannelState
 state = record {
   store = ab;
   last = Some (owed_heading_of five);
-  list = record { segment = stepped 5 3 1; instant = None; mark = None; goes_on = false; in_common = nothing_in_common } ∷ record { segment = stepped 6 3 0; instant = None; mark = Some (codes "a"); goes_on = false; in_common = nothing_in_common } ∷ [];
+  list = record { segment = stepped 5 3 1; instant = None; mark = None; goes_on = false; in_common = nothing_in_common; again = 0 } ∷ record { segment = stepped 6 3 0; instant = None; mark = Some (codes "a"); goes_on = false; in_common = nothing_in_common; again = 0 } ∷ [];
   shown = record {
     knowledge = record { id = codes "a"; said = nothing_said } ∷ [];
     entered = Some (codes "a");
@@ -64,7 +64,7 @@ StatesAreMeant = (base : Parts) → HasValues (channel_with base 5 state) (
 
 -- the same with five segments
 abbrev pub five_shown : ChannelState
-five_shown = record state { list = record { segment = stepped 5 3 0; instant = None; mark = None; goes_on = false; in_common = nothing_in_common } ∷ record { segment = stepped 6 3 0; instant = None; mark = None; goes_on = false; in_common = nothing_in_common } ∷ record { segment = stepped 7 3 0; instant = None; mark = None; goes_on = false; in_common = nothing_in_common } ∷ record { segment = stepped 8 3 0; instant = None; mark = None; goes_on = false; in_common = nothing_in_common } ∷ record { segment = stepped 9 3 0; instant = None; mark = None; goes_on = false; in_common = nothing_in_common } ∷ [] }
+five_shown = record state { list = record { segment = stepped 5 3 0; instant = None; mark = None; goes_on = false; in_common = nothing_in_common; again = 0 } ∷ record { segment = stepped 6 3 0; instant = None; mark = None; goes_on = false; in_common = nothing_in_common; again = 0 } ∷ record { segment = stepped 7 3 0; instant = None; mark = None; goes_on = false; in_common = nothing_in_common; again = 0 } ∷ record { segment = stepped 8 3 0; instant = None; mark = None; goes_on = false; in_common = nothing_in_common; again = 0 } ∷ record { segment = stepped 9 3 0; instant = None; mark = None; goes_on = false; in_common = nothing_in_common; again = 0 } ∷ [] }
 
 -- the segments that it holds, the oldest first
 abbrev pub SegmentsAreHeld : Type 0

@@ -52,23 +52,23 @@ passes_run made n m later same unfit more =
 
 -- ---- the segments in front that have no mark
 
-unmarked_more : (store : Store) (so_far : Option ℕ) (s : Segment) (instant : Option ℤ) (goes : Bool) (common : InCommon) (mark : Option (List ℕ)) (later : List MarkedSegment)
+unmarked_more : (store : Store) (so_far : Option ℕ) (s : Segment) (instant : Option ℤ) (goes : Bool) (common : InCommon) (again : ℕ) (mark : Option (List ℕ)) (later : List MarkedSegment)
     → pieces_on store so_far None later ≡ map unmarked_piece (take (unmarked_front_to_stitch later) later) ++ pieces_on store so_far None (drop (unmarked_front_to_stitch later) later)
-    → let m : MarkedSegment = record { segment = s; instant = instant; mark = mark; goes_on = goes; in_common = common } in
+    → let m : MarkedSegment = record { segment = s; instant = instant; mark = mark; goes_on = goes; in_common = common; again = again } in
     pieces_on store so_far None (m ∷ later)
     ≡ map unmarked_piece (take (unmarked_front_to_stitch (m ∷ later)) (m ∷ later)) ++ pieces_on store so_far None (drop (unmarked_front_to_stitch (m ∷ later)) (m ∷ later))
-unmarked_more store so_far s instant goes common mark later h = grind arith
+unmarked_more store so_far s instant goes common again mark later h = grind arith
 
 unmarked_pieces : (store : Store) (so_far : Option ℕ) (list : List MarkedSegment)
     → pieces_on store so_far None list ≡ map unmarked_piece (take (unmarked_front_to_stitch list) list) ++ pieces_on store so_far None (drop (unmarked_front_to_stitch list) list)
 unmarked_pieces store so_far [] = refl
-unmarked_pieces store so_far (m ∷ later) = unmarked_more store so_far m.segment m.instant m.goes_on m.in_common m.mark later (unmarked_pieces store so_far later)
+unmarked_pieces store so_far (m ∷ later) = unmarked_more store so_far m.segment m.instant m.goes_on m.in_common m.again m.mark later (unmarked_pieces store so_far later)
 
-front_with : (store : Store) (so_far : Option ℕ) (previous : Option (List ℕ)) (s : Segment) (instant : Option ℤ) (goes : Bool) (common : InCommon) (mark : Option (List ℕ)) (later : List MarkedSegment)
-    → let m : MarkedSegment = record { segment = s; instant = instant; mark = mark; goes_on = goes; in_common = common } in
+front_with : (store : Store) (so_far : Option ℕ) (previous : Option (List ℕ)) (s : Segment) (instant : Option ℤ) (goes : Bool) (common : InCommon) (again : ℕ) (mark : Option (List ℕ)) (later : List MarkedSegment)
+    → let m : MarkedSegment = record { segment = s; instant = instant; mark = mark; goes_on = goes; in_common = common; again = again } in
     pieces_on store so_far previous (m ∷ later) ≡ front_pieces store so_far previous (m ∷ later) ++ pieces_on store so_far mark (after_front (m ∷ later))
-front_with store so_far previous s instant goes common None later = grind (arith, unmarked_pieces)
-front_with store so_far previous s instant goes common (Some id) later = refl
+front_with store so_far previous s instant goes common again None later = grind (arith, unmarked_pieces)
+front_with store so_far previous s instant goes common again (Some id) later = refl
 
 pieces_front : (store : Store) (so_far : Option ℕ) (previous : Option (List ℕ)) (m : MarkedSegment) (later : List MarkedSegment)
     → pieces_on store so_far previous (m ∷ later) ≡ front_pieces store so_far previous (m ∷ later) ++ pieces_on store so_far m.mark (after_front (m ∷ later))

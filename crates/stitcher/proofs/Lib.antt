@@ -10,3 +10,4 @@ pub mod Cursors
 pub mod Cuts
 pub mod Known
 pub mod Seconds
+pub mod PodsOfRuns

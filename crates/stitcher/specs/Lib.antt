@@ -7,4 +7,5 @@ pub mod Making
 pub mod Stitched
 pub mod Paced
 pub mod Stretches
+pub mod RunPods
 pub mod Inner

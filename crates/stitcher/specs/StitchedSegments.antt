@@ -1,6 +1,6 @@
 -- What `stitch` answers: the stitched list of marked segments, told by IDs and a store of pods.
-use Rattle.std.specs.Prelude.{◌≡◌, ℕ, ◌^◌, Bool, ◌&&◌, nat_lt, List, [], ◌∷◌, map, reverse, Option, Some, None, IsSome, option_map}
-use Rattle.std.specs.List.{AllByRecursion}
+use Rattle.std.specs.Prelude.{◌≡◌, ℕ, ◌+◌, ◌^◌, Bool, ◌&&◌, nat_lt, List, [], ◌∷◌, map, reverse, Option, Some, None, IsSome, option_map}
+use Rattle.std.specs.List.{AllByRecursion, slice_get}
 use Rattle.pod_store.specs.Marks.{Mark, Marked as Meant, mark_in}
 use Rattle.playlist_model.specs.Segments.{Segment}
 use Rattle.playlist_model.specs.InCommon.{HaveInCommon}
@@ -47,10 +47,16 @@ abbrev pub KnowCommon : Option Segment → List MarkedSegment → Type 0
 KnowCommon previous [] = Unit {0}
 KnowCommon previous (m ∷ later) = KnowsCommon previous m × KnowCommon (Some m.segment) later
 
--- each of these knows of the one before it whether it goes on that one's run, and what both have in common
+-- each of these has the mark of the one that stands as many places before it as it says
+abbrev pub KnowAgain : List MarkedSegment → Type 0
+KnowAgain list = (place : ℕ) (before m : MarkedSegment) → slice_get list place ≡ Some before → slice_get list (place + m.again) ≡ Some m → m.mark ≡ before.mark
+
+-- each of these knows of the one before it whether it goes on that one's run, and what both have in common; and of one before it
+-- that it has its mark
 pub record KnowPrevious (list : List MarkedSegment) : Type 0 where
   pub runs : KnowRuns None list
   pub common : KnowCommon None list
+  pub again : KnowAgain list
 
 -- the rest of a pod that the store has
 abbrev pub rest_from : ℕ → Mark → PodRest

@@ -10,14 +10,16 @@ mod key_tags;
 pub mod laws;
 mod making;
 mod marked;
+mod run_pods;
 mod stitched_list;
 mod text_ref;
 
 pub use ends::{Ends, Rest};
 pub use fault::StitchFault;
 pub use key_tags::{is_new_key, keeps_formats, transition};
-pub use making::{is_same_stitched_run, stitch, stitched_run_goes_on};
+pub use making::{stitch, stitched_run_goes_on};
 pub use marked::{MarkedSegment, Numbers, SharedMark};
+pub use run_pods::RunPods;
 pub use stitched_list::{StitchedItems, StitchedList};
 pub use text_ref::TextRef;
 

@@ -1,5 +1,5 @@
 //! The stitched list of marked segments, as it is made.
-ghost use Rattle.std.specs.Prelude.{◌≡◌, ◌<◌, ◌≤◌, ◌^◌, Bool, true, false, [], ◌∷◌, map, take, drop, length, None, OnOk, IfOk, IfErr};
+ghost use Rattle.std.specs.Prelude.{◌≡◌, ◌<◌, ◌≤◌, ◌^◌, ℕ, List, Bool, true, false, [], ◌∷◌, map, take, drop, length, None, OnOk, IfOk, IfErr};
 ghost use Rattle.std.specs.List.{list_all};
 ghost use Rattle.pod_store.specs.Marks.{Mark};
 ghost use Rattle.pod_store.specs.Rules.{ad_keeps};
@@ -8,6 +8,8 @@ ghost use Rattle.stitcher.specs.StitchedSegments.{AreDecided, KnowCommon, KnowPr
 ghost use Rattle.pod_store.specs.Store.{pod_for};
 ghost use Rattle.stitcher.specs.Making.{is_same_stitched_run, unmarked_piece, pod_with};
 ghost use Rattle.stitcher.specs.Inner.Making.{IsUnder, Passes, PutsPieces, after_front, front_pieces, stitched_run_goes_on_to_last, kept_on, last_of_stitched_run, nothing_made, numbers_fit, numbers_with, stitched_part_after, part_after_one, stitched_part_at, part_here, pieces_in_part, pushed, pieces_of_rest, stitched_part_shows_next, steps_from, under_ad, unmarked_front_to_stitch, whole_from};
+ghost use Rattle.std.specs.Option.{option_copied};
+ghost use Rattle.stitcher.specs.RunPods.{AreLeftOf};
 ghost use Rattle.stitcher.specs.Stretches.{segment_items};
 ghost use Rattle.stitcher.specs.Written.{written_segment};
 
@@ -15,6 +17,7 @@ use crate::copies::stitched_init_section;
 use crate::ends::{Ends, Rest};
 use crate::fault::StitchFault;
 use crate::marked::{MarkedSegment, Numbers};
+use crate::run_pods::RunPods;
 use crate::stitched_list::{StitchedList, Stretch};
 use fixed_duration::Nanos;
 use playlist_model::{GrowingSegments, KeyPlaces, SegmentParts, Shared, Text};
@@ -144,17 +147,6 @@ fn unmarked_front_to_stitch(segments: &[MarkedSegment]) -> usize
         rest = later;
     }
     count
-}
-
-/// Whether a segment of the mark `mark` goes on the run of the one before it, whose mark is `previous`: both have a
-/// mark, of one break.
-pub fn is_same_stitched_run(mark: &Option<Shared<Text>>, previous: &Option<Shared<Text>>) -> bool
-    ensures { result ≡ is_same_stitched_run mark.now previous.now }
-{
-    match (mark, previous) {
-        (Some(mark), Some(previous)) => mark == previous,
-        _ => false,
-    }
 }
 
 // The part that is shown of what stands after a segment of this duration.
@@ -484,23 +476,17 @@ impl<'a> Stitching<'a> {
         Ok(())
     }
 
-    // Puts at the end what is shown of the pod that a break has in the store.
-    fn put_break(
-        &mut self,
-        alloc: Global,
-        id: &str,
-        part: Part,
-        store: &PodStore,
-    ) -> Result<(), StitchFault>
+    // Puts at the end what is shown of a break's pod, if it has one.
+    fn put_break(&mut self, alloc: Global, pod: Option<&Pod>, part: Part) -> Result<(), StitchFault>
         requires { numbers_fit self.old.first ≡ true }
         ensures ok { OnOk result
-            (PutsPieces self.old self.new
-            (pieces_in_part part (pod_with id.now (pod_for store.now id.now)))) }
+            ((id : List ℕ) → PutsPieces self.old self.new
+            (pieces_in_part part (pod_with id (option_copied pod.entry)))) }
         ensures err { IfErr result
-            (λ e. RefusesNumber e (Passes self.old
-            (pieces_in_part part (pod_with id.now (pod_for store.now id.now))))) }
+            (λ e. RefusesNumber e ((id : List ℕ) → Passes self.old
+            (pieces_in_part part (pod_with id (option_copied pod.entry))))) }
     {
-        match store.pod_for(id) {
+        match pod {
             Some(pod) => self.put_pod(alloc, pod, part),
             None => Ok(()),
         }
@@ -523,7 +509,7 @@ impl<'a> Stitching<'a> {
             return Ok(());
         };
         let part = stitched_part_from_place(rest.place);
-        self.put_break(alloc, rest.id.as_str(), part, store)
+        self.put_break(alloc, store.pod_for(rest.id.as_str()), part)
     }
 
     // Puts at the end what stands for the first of these after a segment of this mark, and, if it has no mark, for those
@@ -534,31 +520,34 @@ impl<'a> Stitching<'a> {
         segments: &'a [MarkedSegment],
         cut: usize,
         previous: &Option<Shared<Text>>,
-        store: &PodStore,
+        pods: &mut RunPods<'_>,
         ends: &Ends,
     ) -> Result<&'a [MarkedSegment], StitchFault>
         requires fits { numbers_fit self.old.first ≡ true }
         requires runs { KnowRuns previous.now segments.now }
         requires common { KnowCommon None segments.now }
+        requires left { AreLeftOf pods.old.marked segments.now }
         ensures ok { OnOk result
             (PutsPieces self.old self.new
-            (front_pieces store.now ends.now.so_far previous.now segments.now)) }
+            (front_pieces pods.old.store ends.now.so_far previous.now segments.now)) }
         ensures left { IfOk result (λ left. left.now ≡ after_front segments.now) }
         ensures err { IfErr result
             (λ e. RefusesNumber e (Passes self.old
-            (front_pieces store.now ends.now.so_far previous.now segments.now))) }
+            (front_pieces pods.old.store ends.now.so_far previous.now segments.now))) }
+        ensures kept { pods.new ≡ pods.old }
     {
         let Some((marked, later)) = segments.split_first() else {
             return Ok(segments);
         };
-        let Some(id) = &*marked.mark else {
+        if marked.mark.is_none() {
             return self.keep_front(alloc, segments, cut);
-        };
+        }
         if stitched_run_goes_on(marked, previous) {
             return Ok(later);
         }
         let part = stitched_part_at(ends, &marked.mark, later);
-        self.put_break(alloc, id.as_str(), part, store)?;
+        let pod = pods.pod_of_first(segments)?;
+        self.put_break(alloc, pod, part)?;
         Ok(later)
     }
 
@@ -617,12 +606,13 @@ pub fn stitch<'a>(
 {
     let mut stitching = Stitching::new(alloc, first);
     stitching.put_rest(alloc, &ends.rest, store)?;
+    let mut pods = RunPods::new(alloc, marked, store);
     let unmarked: Option<Shared<Text>> = None;
     let mut previous = &unmarked;
     let mut rest = marked;
     while let Some((here, _)) = rest.split_first() {
         let left = cut.saturating_sub(marked.len().saturating_sub(rest.len()));
-        rest = stitching.put_front(alloc, rest, left, previous, store, ends)?;
+        rest = stitching.put_front(alloc, rest, left, previous, &mut pods, ends)?;
         previous = &*here.mark;
     }
     stitching.finish(alloc)

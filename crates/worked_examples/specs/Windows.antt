@@ -51,11 +51,11 @@ TimesAreStated = HasValues states_time ((origin 0, true) ∷ (origin 1, false) �
 -- a marked segment means the break with its pod, and so does the rest of a pod; an ID that has no pod means none
 abbrev pub MarksAreMeant : Type 0
 MarksAreMeant = HasValues (meant pods.ab) ((
-  record { segment = stepped 5 3 1; instant = Some (pos 9); mark = Some (codes "a"); goes_on = true; in_common = nothing_in_common },
+  record { segment = stepped 5 3 1; instant = Some (pos 9); mark = Some (codes "a"); goes_on = true; in_common = nothing_in_common; again = 0 },
   record { segment = stepped 5 3 1; instant = Some (pos 9); mark = Some (record { id = codes "a"; pod = pods.short 1 }) },
 )
-    ∷ (record { segment = stepped 5 3 1; instant = None; mark = Some (codes "z"); goes_on = false; in_common = nothing_in_common }, unmarked (stepped 5 3 1))
-    ∷ (record { segment = stepped 5 3 1; instant = None; mark = None; goes_on = false; in_common = nothing_in_common }, unmarked (stepped 5 3 1)) ∷ [])
+    ∷ (record { segment = stepped 5 3 1; instant = None; mark = Some (codes "z"); goes_on = false; in_common = nothing_in_common; again = 0 }, unmarked (stepped 5 3 1))
+    ∷ (record { segment = stepped 5 3 1; instant = None; mark = None; goes_on = false; in_common = nothing_in_common; again = 0 }, unmarked (stepped 5 3 1)) ∷ [])
 
 abbrev pub RestsAreMeant : Type 0
 RestsAreMeant = HasValues (rest_in pods.ab) (

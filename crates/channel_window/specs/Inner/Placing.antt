@@ -1,10 +1,11 @@
 -- Where a window starts, as inner functions and proofs say it.
-use Rattle.std.specs.Prelude.{◌<◌, ◌≤◌, ℕ, ◌+◌, ◌-◌, ◌^◌, List, length, Option, None, option_map}
+use Rattle.std.specs.Prelude.{◌<◌, ◌≤◌, ℕ, ◌+◌, ◌-◌, ◌^◌, List, [], ◌∷◌, length, Option, None, option_map}
 use Rattle.pod_store.specs.Store.{Store}
 use Rattle.stitcher.specs.declared.marked.MarkedSegment.{MarkedSegment as Held}
 use Rattle.stitcher.specs.declared.ends.Rest.{Rest}
 use Rattle.pod_store.specs.Marks.{Mark, Marked, newest_mark}
 use Rattle.stitcher.specs.Stitched.{newest_place}
+use Rattle.stitcher.specs.Making.{begun}
 use Rattle.stitcher.specs.Paced.{PodRest, rest_pieces}
 use Rattle.stitcher.specs.StitchedSegments.{rest_in}
 use Rattle.channel_window.specs.Marking.{place_on}
@@ -15,6 +16,11 @@ use Rattle.channel_window.specs.Inner.Listed.{IsFront}
 -- how many items stand for the rest of a pod
 abbrev pub window_rest_count : Store → Option Rest → ℕ
 window_rest_count store rest = length (rest_pieces (rest_in store rest))
+
+-- how many items stand for a whole run that begins with the first of these segments
+abbrev pub window_items_of_first : Store → List Held → ℕ
+window_items_of_first store [] = 0
+window_items_of_first store (m ∷ later) = length (begun store m m.mark)
 
 -- wherever a window starts among these segments after this rest, its place can be told
 abbrev pub HasRoom : Store → Option Rest → List Held → Type 0

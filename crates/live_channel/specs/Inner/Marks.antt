@@ -1,5 +1,6 @@
 -- The breaks that mark segments, as a channel holds them.
-use Rattle.std.specs.Prelude.{◌≡◌, ℕ, true, nat_le, List, [], ◌∷◌, ◌++◌, Option, Some, None, if◌then◌else◌}
+use Rattle.std.specs.Prelude.{◌≡◌, ◌<◌, ◌≤◌, ◌+◌, ℕ, true, nat_le, List, [], ◌∷◌, ◌++◌, length, Option, Some, None, if◌then◌else◌}
+use Rattle.std.specs.List.{slice_get}
 use Rattle.stitcher.specs.declared.marked.MarkedSegment.{MarkedSegment}
 use Rattle.stitcher.specs.declared.ends.Rest.{Rest}
 use Rattle.pod_store.specs.Store.{is_one_of}
@@ -9,6 +10,17 @@ use Rattle.channel_spec.specs.Live.{ids_of_option}
 abbrev pub IsAmongMarks : List (List ℕ) → Option (List ℕ) → Type 0
 IsAmongMarks marks None = Unit {0}
 IsAmongMarks marks (Some id) = is_one_of marks id ≡ true
+
+-- so is that of a segment, if one of so many directly before it is known to have its mark
+abbrev pub IsSettledAgain : List (List ℕ) → ℕ → MarkedSegment → Type 0
+IsSettledAgain marks settled m = 0 < m.again → m.again ≤ settled → IsAmongMarks marks m.mark
+
+-- so many segments directly before the rest of a list are settled: the break of each, if it has one, is one of these
+pub record AreSettled (marks : List (List ℕ)) (settled : ℕ) (list rest : List MarkedSegment) : Type 0 where
+  pub front : List MarkedSegment
+  pub is : list ≡ front ++ rest
+  pub within : settled ≤ length front
+  pub among : (place : ℕ) (m : MarkedSegment) → place < length front → length front ≤ place + settled → slice_get list place ≡ Some m → IsAmongMarks marks m.mark
 
 -- the break that marks a segment, if it is numbered from this number on
 abbrev pub mark_held : ℕ → MarkedSegment → List (List ℕ)

@@ -1,12 +1,14 @@
-use Rattle.std.proofs.Common.{List, subst, ap, ◌∙◌, arith}
+use Rattle.std.proofs.Common.{◌≡◌, List, subst, sym, ap, ◌∙◌, arith}
 use Rattle.std.specs.List.{list_all}
 use Rattle.std.proofs.lemmas.Grind.{common_steps}
 use Rattle.stitcher.specs.Stitched.{Piece}
-use Rattle.stitcher.specs.StitchedSegments.{item_fits}
-use Rattle.stitcher.specs.Inner.Making.{after_front, front_pieces, nothing_made, pieces_between, pieces_on}
+use Rattle.stitcher.specs.StitchedSegments.{RefusesNumber, item_fits}
+use Rattle.stitcher.specs.RunPods.{AreLeftOf, Runs}
+use Rattle.stitcher.specs.Inner.Making.{Passes, PutsPieces, after_front, front_pieces, nothing_made, pieces_between, pieces_on}
 use Rattle.stitcher.proofs.Kept.{pieces_front_at}
 use Rattle.stitcher.proofs.Known.{common_after_front, known_after_front}
 use Rattle.stitcher.proofs.Outcomes.{handed_on, if_ok}
+use Rattle.stitcher.proofs.PodsOfRuns.{left_after_front}
 use Rattle.stitcher.proofs.Putting.{Walks, walks_on, comes_whole, passes_whole, none_left}
 use Rattle.stitcher.proofs.Runs.{in_order}
 use Rattle.stitcher.proofs.making.stitch.Goals as goal
@@ -23,7 +25,8 @@ returns-in_err-rest-clause-err c =
     let rest = c.loop-here.rest.now in
     let previous = c.loop-here.previous.now in
     let walks = subst (λ (ps : List Piece). Walks (nothing_made c.args.first) c.loop-here.stitching all ps) (pieces_front_at store ends.so_far previous rest here c.in-Some.field-0-1.now c.in-Some.ensures.cases.0) c.loop-here.invariant.walks in
-    handed_on c.from_residual-in_err-rest.result c.in_err-rest.field-0.0 c.from_residual-in_err-rest.ensures.1 c.in_err-rest.ensures.err
+    let refused = subst (λ (r : Runs). RefusesNumber c.in_err-rest.field-0.0 (Passes c.loop-here.stitching (front_pieces r.store ends.so_far previous rest))) c.loop-here.invariant.pods c.in_err-rest.ensures.err in
+    handed_on c.from_residual-in_err-rest.result c.in_err-rest.field-0.0 c.from_residual-in_err-rest.ensures.1 refused
     (λ p. ap (list_all item_fits) (in_order store c.args.first ends c.args.marked.now c.requires.decided)
     ∙ passes_whole (nothing_made c.args.first) c.loop-here.stitching all (front_pieces store ends.so_far previous rest) (pieces_on store ends.so_far here.mark (after_front rest)) walks p)
 
@@ -36,7 +39,20 @@ loop-here-preserved c =
     let rest = c.loop-here.rest.now in
     let previous = c.loop-here.previous.now in
     let walks = subst (λ (ps : List Piece). Walks (nothing_made c.args.first) c.loop-here.stitching all ps) (pieces_front_at store ends.so_far previous rest here c.in-Some.field-0-1.now c.in-Some.ensures.cases.0) c.loop-here.invariant.walks in
-    grind (arith, common_steps, walks_on, known_after_front, common_after_front)
+    let puts = subst (λ (r : Runs). PutsPieces c.loop-here.stitching c.put_front.new.self (front_pieces r.store ends.so_far previous rest)) c.loop-here.invariant.pods c.in_ok-rest.ensures.ok in
+    let more = walks_on (nothing_made c.args.first) c.loop-here.stitching c.put_front.new.self all (front_pieces store ends.so_far previous rest) (pieces_on store ends.so_far here.mark (after_front rest)) walks puts in
+    let is : c.in_ok-rest.rest.now ≡ after_front rest = c.in_ok-rest.ensures.left in
+    let same = c.in_ok-rest.ensures.kept ∙ c.loop-here.invariant.pods in
+    let left = subst (AreLeftOf c.args.marked.now) (sym is) (left_after_front c.args.marked.now rest c.loop-here.invariant.left) in
+    record {
+      fits = grind (arith, common_steps);
+      walks = grind (arith, common_steps);
+      fit = grind (arith, common_steps);
+      runs = grind (arith, common_steps, known_after_front);
+      common = grind (arith, common_steps, common_after_front);
+      left = left;
+      pods = same;
+    }
 
 pub returns-clause-ok : goal.returns-clause-ok
 returns-clause-ok c = grind (arith, common_steps, none_left, in_order, comes_whole, if_ok)

@@ -2,6 +2,7 @@ use Rattle.std.proofs.Common.{◌≡◌, true, length}
 use Rattle.std.specs.Prelude.{None}
 use Rattle.std.specs.List.{list_all}
 use Rattle.stitcher.specs.StitchedSegments.{item_fits, KnowCommon, KnowRuns}
+use Rattle.stitcher.specs.RunPods.{AreLeftOf}
 use Rattle.stitcher.specs.Inner.Making.{nothing_made, numbers_fit, pieces_on, pieces_between}
 use Rattle.stitcher.proofs.Putting.{Walks}
 use Rattle.stitcher.proofs.making.stitch.Given as goal
@@ -13,6 +14,8 @@ invariant-loop-here l = record {
   fit : list_all item_fits l.stitching.items ≡ true;
   runs : KnowRuns l.previous l.rest;
   common : KnowCommon None l.rest;
+  left : AreLeftOf l.marked l.rest;
+  pods : l.pods ≡ record { marked = l.marked; store = l.store };
 }
 
 abbrev pub decreases-loop-here : goal.decreases-loop-here

@@ -1,7 +1,11 @@
-use Rattle.std.proofs.Common.{◌≡◌, ap, sym, ◌∙◌, arith}
+use Rattle.std.proofs.Common.{◌≡◌, ap, subst, sym, ◌∙◌, arith}
 use Rattle.std.specs.Prelude.{None}
 use Rattle.std.proofs.lemmas.Grind.{common_steps}
 use Rattle.stitcher.specs.declared.marked.MarkedSegment.{MarkedSegment as Held}
+use Rattle.stitcher.specs.Inner.StitchedSegments.{KnowAgainWithin}
+use Rattle.stitcher.proofs.Known.{again_pushed}
+use Rattle.channel_window.specs.Inner.Terms.{IsMarkedAgain}
+use Rattle.channel_window.proofs.KnownBreaks.{not_again}
 use Rattle.channel_window.proofs.Extended.{unmarked_here, unmarked_on}
 use Rattle.channel_window.proofs.MarkedSoFar.{none_marked, one_marked_on, no_segment_left, no_instant_left}
 use Rattle.channel_window.proofs.marking.Marker.all_unmarked.Goals as goal
@@ -10,6 +14,7 @@ pub loop-segment-init : goal.loop-segment-init
 loop-segment-init c = record {
   marked = none_marked _ _ _ _ _ _ (λ before now. c.nothing-in_common.ensures.common before.keys now.keys before.init_section now.init_section);
   before = c.requires.unmarked;
+  again = c.requires.again;
 }
 
 pub loop-segment-preserved : goal.loop-segment-preserved
@@ -18,15 +23,19 @@ loop-segment-preserved c =
     let left = rw c.in-Some.is at c.in_ok-segment.ensures.next in
     let instants = rw c.in-Some-2.is at c.in_ok-begun.ensures.next in
     let unmarked : c.in_ok-clone.field-0 ≡ None = grind (arith, common_steps) in
-    let is = unmarked_here _ c.loop-segment.run c.in-Some.segment c.in-Some-2.begun c.loop-segment.in_common _ _ c.requires.empty so_far.before unmarked c.window_segment_marked_with.ensures in
+    let is = unmarked_here _ c.loop-segment.run c.in-Some.segment c.in-Some-2.begun c.loop-segment.in_common 0 _ _ c.requires.empty so_far.before unmarked c.window_segment_marked_with.ensures in
     let mark : c.window_segment_marked_with.result.mark ≡ c.loop-segment.run.before = ap (λ (h : Held). h.mark) c.window_segment_marked_with.ensures ∙ (unmarked ∙ sym so_far.before) in
+    let here = c.window_segment_marked_with.result in
+    let none : here.again ≡ 0 = ap (λ (h : Held). h.again) c.window_segment_marked_with.ensures in
+    let told = subst (λ n. IsMarkedAgain c.loop-segment.done.items n here.mark) (sym none) (not_again c.loop-segment.done.items here.mark) in
     record {
-      marked = one_marked_on _ _ _ _ _ _ _ _ _ _ _ _ _ _ _ _ _ _ so_far.marked left instants is (unmarked_on _ _ _ _ so_far.before mark) c.second_in_common-next_in_common.ensures c.in_ok-push.ensures.items;
+      marked = one_marked_on _ _ _ _ _ _ _ _ _ _ _ _ _ _ _ _ _ _ _ so_far.marked left instants is (unmarked_on _ _ _ _ so_far.before mark) c.second_in_common-next_in_common.ensures c.in_ok-push.ensures.items;
       before = so_far.before;
+      again = subst KnowAgainWithin (sym c.in_ok-push.ensures.items) (again_pushed c.loop-segment.done.items here so_far.again told.within told.same);
     }
 
 pub returns-in_default : goal.returns-in_default
-returns-in_default c = record { marked = no_segment_left _ _ _ _ _ _ _ _ _ _ c.loop-segment.invariant.marked (grind (arith, common_steps)) }
+returns-in_default c = record { marked = no_segment_left _ _ _ _ _ _ _ _ _ _ c.loop-segment.invariant.marked (grind (arith, common_steps)); again = c.loop-segment.invariant.again }
 
 pub returns-in_default-2 : goal.returns-in_default-2
-returns-in_default-2 c = record { marked = no_instant_left _ _ _ _ _ _ _ _ _ _ c.loop-segment.invariant.marked (grind (arith, common_steps)) }
+returns-in_default-2 c = record { marked = no_instant_left _ _ _ _ _ _ _ _ _ _ c.loop-segment.invariant.marked (grind (arith, common_steps)); again = c.loop-segment.invariant.again }

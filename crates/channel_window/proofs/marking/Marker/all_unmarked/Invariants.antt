@@ -1,5 +1,6 @@
 use Rattle.std.proofs.Common.{◌≡◌, length}
 use Rattle.std.specs.Prelude.{None}
+use Rattle.stitcher.specs.Inner.StitchedSegments.{KnowAgainWithin}
 use Rattle.channel_window.proofs.MarkedSoFar.{AreMarkedTo}
 use Rattle.channel_window.proofs.marking.Marker.all_unmarked.Given as goal
 
@@ -7,6 +8,7 @@ abbrev pub invariant-loop-segment : goal.invariant-loop-segment
 invariant-loop-segment l = record {
   marked : AreMarkedTo l.self l.fn.run l.run l.fn.segments l.segments l.fn.instants l.instants l.fn.done.items l.done.items l.in_common;
   before : l.run.before ≡ None;
+  again : KnowAgainWithin l.done.items;
 }
 
 abbrev pub decreases-loop-segment : goal.decreases-loop-segment

@@ -1,4 +1,4 @@
-use Rattle.std.proofs.Common.{sym, subst, ap, ◌∙◌}
+use Rattle.std.proofs.Common.{sym, subst, ap}
 use Rattle.std.specs.Prelude.{Option}
 use Rattle.std.specs.Option.{option_copied}
 use Rattle.pod_store.specs.Pods.{Pod}
@@ -9,7 +9,5 @@ use Rattle.stitcher.proofs.making.Stitching.put_break.Goals as goal
 
 pub returns-in-Some-clause-ok : goal.returns-in-Some-clause-ok
 returns-in-Some-clause-ok c =
-    let id = c.args.id.now in
-    let found = sym c.pod_for.ensures ∙ ap option_copied c.in-Some.is in
-    on_ok c.put_pod.result c.put_pod.ensures.ok (λ p.
-    subst (λ (o : Option Pod). PutsPieces c.args.self.now c.put_pod.new.self (pieces_in_part c.args.part (pod_with id o))) (sym found) (p (record { id = id; pod = c.in-Some.pod.now })))
+    on_ok c.put_pod.result c.put_pod.ensures.ok (λ p id.
+    subst (λ (o : Option Pod). PutsPieces c.args.self.now c.put_pod.new.self (pieces_in_part c.args.part (pod_with id o))) (sym (ap option_copied c.in-Some.is)) (p (record { id = id; pod = c.in-Some.pod.now })))
