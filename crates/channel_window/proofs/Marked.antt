@@ -43,7 +43,7 @@ marks_agree m (Some id) last instant = stay_step m id (entering.entered (limits 
 
 -- ---- if no break is decided, none is entered
 
-no_pod : (entries : List Entry) (fallback : Option Pod) → (length entries == 0 && is_none fallback) ≡ true → (id : List ℕ) → or_earlier (option_map pod_of (find (has_id id) entries)) fallback ≡ None
+pub no_pod : (entries : List Entry) (fallback : Option Pod) → (length entries == 0 && is_none fallback) ≡ true → (id : List ℕ) → or_earlier (option_map pod_of (find (has_id id) entries)) fallback ≡ None
 no_pod [] None h id = refl
 no_pod [] (Some pod) h id = let k : false ≡ true = (and_parts (length {A = Entry} [] == 0) false h).1 in absurd (cc)
 no_pod (e ∷ entries) fallback h id = absurd (omega (arith, eqb-true (length (e ∷ entries)) 0 (and_parts (length (e ∷ entries) == 0) (is_none fallback) h).0))

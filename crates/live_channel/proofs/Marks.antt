@@ -1,15 +1,15 @@
 -- The breaks that mark segments, as a channel holds them and as they are meant.
-use Rattle.std.proofs.Common.{◌≡◌, ℕ, ◌<◌, ◌≤◌, ◌+◌, ◌-◌, ◌⊎◌, inl, inr, suc, true, List, [], ◌∷◌, ◌++◌, length, get_or, length-append, map, refl, ap, sym, subst, ◌∙◌, append_assoc, arith}
+use Rattle.std.proofs.Common.{◌≡◌, Bool, false, cond, ℕ, ◌<◌, ◌≤◌, ◌+◌, ◌-◌, ◌⊎◌, inl, inr, suc, true, List, [], ◌∷◌, ◌++◌, length, get_or, length-append, map, refl, ap, sym, subst, ◌∙◌, append_assoc, arith}
 use Rattle.std.proofs.lemmas.Bool.{lt-leb, cases_lt}
 use Rattle.std.proofs.lemmas.Slice.Eq.{bytes_eq-Decides}
 use Rattle.std.proofs.lemmas.List.{append-nil}
 use Rattle.std.proofs.lemmas.List.Folds.{list_any-append}
 use Rattle.std.proofs.lemmas.Option.{slice_get-get_or}
-use Rattle.std.specs.Prelude.{Option, Some, None, IsSome, option_map, bytes_eq, ◌||◌, slice_get}
+use Rattle.std.specs.Prelude.{Option, Some, None, IsSome, option_map, bytes_eq, ◌||◌, slice_get, nat_le}
 use mathlib.Core.List.{reverse_aux}
 use Rattle.pod_store.specs.Pods.{Pod}
 use Rattle.pod_store.specs.Marks.{Marked, mark_with, mark_in}
-use Rattle.pod_store.specs.Store.{Store, pod_for, is_one_of}
+use Rattle.pod_store.specs.Store.{Store, pod_for, is_one_of, has_no_pod}
 use Rattle.pod_store.specs.Inner.Store.{NameTheSame}
 use Rattle.pod_store.proofs.Repeats.{itself, and_then, with_more, once, last_named}
 use Rattle.stitcher.specs.declared.marked.MarkedSegment.{MarkedSegment as Held}
@@ -20,6 +20,7 @@ use Rattle.channel_spec.specs.Kept.{Kept, rest_after}
 use Rattle.channel_spec.specs.Successor.{first_number}
 use Rattle.playlist_model.specs.declared.Playlist.{Playlist}
 use Rattle.stitcher.specs.declared.ends.Rest.{Rest}
+use Rattle.channel_window.proofs.Marked.{no_pod}
 use Rattle.channel_window.specs.Listed.{IsRestDecided}
 use Rattle.channel_window.specs.declared.state.ChannelState.{ChannelState}
 use Rattle.channel_window.specs.Marking.{history_in}
@@ -158,3 +159,22 @@ put_none marks more e = grind (arith, append-nil, itself)
 -- a break among those before the last is one of them
 pub named_in_front : (marks before : List (List ℕ)) (last id : List ℕ) → marks ≡ before ++ last ∷ [] → is_one_of before id ≡ true → is_one_of marks id ≡ true
 named_in_front marks before last id e h = ap (λ l. is_one_of l id) e ∙ (list_any-append (bytes_eq id) before (last ∷ []) ∙ ap (λ b. b || is_one_of (last ∷ []) id) h)
+
+-- ---- if no break has a pod, none marks a segment
+
+no_mark : (store : Store) (mark : Option (List ℕ)) → has_no_pod store ≡ true → IsDecided store mark → mark ≡ None
+no_mark store None h d = refl
+no_mark store (Some id) h d = absurd (nothing (pod_for store id) (no_pod store.entries store.fallback h id) d)
+  where
+    nothing : (pod : Option Pod) → pod ≡ None → IsSome pod → ⊥
+    nothing None e d = cc
+    nothing (Some pod) e d = cc e
+
+unmarked_held : (number : ℕ) (m : Held) (b : Bool) → m.mark ≡ None → cond b (ids_of_option m.mark) [] ≡ []
+unmarked_held number m true e = ap ids_of_option e
+unmarked_held number m false e = refl
+
+pub none_held : (store : Store) (list : List Held) → has_no_pod store ≡ true → AreDecided store list → (number : ℕ) → [] ≡ marks_held number list
+none_held store [] h d number = refl
+none_held store (m ∷ later) h d number =
+    none_held store later h d.1 number ∙ sym (ap (λ ids. ids ++ marks_held number later) (unmarked_held number m (nat_le number m.segment.media_sequence) (no_mark store m.mark h d.0)))

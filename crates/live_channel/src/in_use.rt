@@ -3,10 +3,11 @@ ghost use Rattle.std.specs.Prelude.{◌≡◌, ◌<◌, ◌≤◌, ◌+◌, ◌+
 ghost use Rattle.pod_store.specs.Store.{is_one_of};
 ghost use Rattle.pod_store.specs.Inner.Store.{NameTheSame};
 ghost use Rattle.channel_spec.specs.Live.{ids_of_option};
-ghost use Rattle.stitcher.specs.StitchedSegments.{KnowPrevious, KnowsRun};
-ghost use Rattle.live_channel.specs.Inner.Marks.{IsAmongMarks, IsSettledAgain, breaks_held, mark_held, live_marks_and_last, rest_held};
+ghost use Rattle.stitcher.specs.StitchedSegments.{AreDecided, KnowPrevious, KnowsRun};
+ghost use Rattle.live_channel.specs.Inner.Marks.{IsAmongMarks, IsSettledAgain, breaks_held, mark_held, marks_held, live_marks_and_last, rest_held};
 
 use playlist_model::{Shared, Text};
+use pod_store::PodStore;
 use std::alloc::{AllocError, Global};
 use stitcher::{MarkedSegment, Rest, stitched_run_goes_on};
 
@@ -181,21 +182,39 @@ fn push_live_rest(marks: &mut Vec<Shared<Text>>, rest: &Option<Rest>) -> Result<
     }
 }
 
+#[tactic(auto, using(crate::proofs::Marks::none_held))]
+// The segments that may have a mark: none of these, if no break has a pod and there is no fallback.
+fn live_segments_to_mark<'a>(store: &PodStore, list: &'a [MarkedSegment]) -> &'a [MarkedSegment]
+    requires decided { AreDecided store.now list.now }
+    requires previous { KnowPrevious list.now }
+    ensures same { (number : ℕ) → marks_held number result.now ≡ marks_held number list.now }
+    ensures previous { KnowPrevious result.now }
+{
+    if store.is_empty() {
+        return &[];
+    }
+    list
+}
+
 /// The breaks in use: those that mark the segments of `list` from the media sequence number `number` on, one for each
 /// run and in their order; then the last one entered, `entered`; then the one of `rest`, the rest of a pod that
-/// the window starts with. Fails only if an allocation fails.
+/// the window starts with. Each has a pod in `store`: if there is no pod, no segment is looked at. Fails only if an allocation
+/// fails.
 pub fn live_breaks_in_use(
     alloc: Global,
+    store: &PodStore,
     number: u64,
     list: &[MarkedSegment],
     entered: &Option<Shared<Text>>,
     rest: &Option<Rest>,
 ) -> Result<Vec<Shared<Text>>, AllocError>
-    requires { KnowPrevious list.now }
+    requires decided { AreDecided store.now list.now }
+    requires previous { KnowPrevious list.now }
     ensures { IfOk result
         (λ breaks. NameTheSame breaks.items (breaks_held number list.now entered.now rest.now)) }
 {
-    let mut marks = live_marks_and_last(alloc, number, list, entered)?;
+    let marked = live_segments_to_mark(store, list);
+    let mut marks = live_marks_and_last(alloc, number, marked, entered)?;
     push_live_rest(&mut marks, rest)?;
     Ok(marks)
 }

@@ -230,8 +230,9 @@ fn stepped_live_window(
     }
     let numbers = window_head_numbers(&first);
     let (number, entered) = (first_successor_number(read), refresh.entered);
-    let in_use = live_breaks_in_use(alloc, number, list, entered, &stepped.rest)?;
-    let hashing = before.state.store.hashing();
+    let store = &before.state.store;
+    let in_use = live_breaks_in_use(alloc, store, number, list, entered, &stepped.rest)?;
+    let hashing = store.hashing();
     let out = live_playlist_written_of(alloc, hashing, &read.playlist, in_use.as_slice(), first)?;
     let again = stood - stepped.start;
     let fresh = &stepped.fresh;
@@ -287,10 +288,11 @@ fn whole_live_window(
     let mut items = whole;
     items.leave_out(start);
     let number = first_successor_number(read);
-    let in_use = live_breaks_in_use(alloc, number, list, refresh.entered, &rest)?;
+    let store = &before.state.store;
+    let in_use = live_breaks_in_use(alloc, store, number, list, refresh.entered, &rest)?;
     let (numbers, count) = (window_head_numbers(&items), items.count());
     let gone = place_of_number(number, list);
-    let hashing = before.state.store.hashing();
+    let hashing = store.hashing();
     let out = live_playlist_written_of(alloc, hashing, &read.playlist, in_use.as_slice(), items)?;
     Ok(NextWindow {
         numbers,

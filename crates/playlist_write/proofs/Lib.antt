@@ -16,3 +16,4 @@ pub mod GoesOn
 pub mod SameKeys
 pub mod Changes
 pub mod CommonKeys
+pub mod ShortTexts

@@ -5,6 +5,7 @@ ghost use Rattle.playlist_write.specs.Owed.{line_saying};
 ghost use Rattle.fixed_duration.specs.Appended.{Appends};
 
 use crate::segments::write_segment_duration_line;
+use crate::short_text::ShortText;
 use fixed_duration::Nanos;
 use std::alloc::{AllocError, Global};
 use std::marker::Model;
@@ -16,10 +17,12 @@ pub struct LastDuration<'a> {
     duration: Nanos,
     title: &'a str,
     line: Option<String>,
+    // That line too, if the title is empty, as most are, and the line is short.
+    short: ShortText,
 }
 
 impl<'a> Model for LastDuration<'a> {
-    ghost use Rattle.std.specs.Prelude.{◌≡◌, ℕ, List, IfSome, string_bytes};
+    ghost use Rattle.std.specs.Prelude.{◌≡◌, ◌==◌, ℕ, List, [], IfSome, false, length, string_bytes};
     ghost use Rattle.playlist_model.specs.Said as Said;
     ghost use Rattle.playlist_write.specs.Owed.{line_saying};
 
@@ -27,7 +30,9 @@ impl<'a> Model for LastDuration<'a> {
 
     ghost view = { λ a. (a.duration, a.title.now) };
 
-    ghost invariant = { λ a. IfSome a.line (λ line. string_bytes line ≡ line_saying (Said.duration a.duration a.title.now)) };
+    ghost invariant = { λ a.
+        IfSome a.line (λ line. string_bytes line ≡ line_saying (Said.duration a.duration a.title.now))
+        × ((length a.short == 0) ≡ false → a.short ≡ line_saying (Said.duration a.duration [])) };
 }
 
 // The line of a duration and a title.
@@ -48,6 +53,7 @@ impl<'a> LastDuration<'a> {
             duration: Nanos(0),
             title: "",
             line: None,
+            short: ShortText::new(),
         }
     }
 
@@ -71,6 +77,9 @@ impl<'a> LastDuration<'a> {
     {
         let line = written_duration_line(self.alloc, self.duration, self.title)?;
         out.push_str(line.as_str())?;
+        if self.title.is_empty() {
+            self.short = ShortText::of(line.as_str());
+        }
         self.line = Some(line);
         Ok(())
     }
@@ -86,6 +95,7 @@ impl<'a> LastDuration<'a> {
         ensures { Appends result out.old out.new (line_saying (Said.duration duration title.now)) }
     {
         self.line = None;
+        self.short = ShortText::new();
         self.duration = duration;
         self.title = title;
         write_segment_duration_line(out, duration, title)
@@ -102,6 +112,9 @@ impl<'a> LastDuration<'a> {
     ) -> Result<(), AllocError>
         ensures { Appends result out.old out.new (line_saying (Said.duration duration title.now)) }
     {
+        if duration == self.duration && title.is_empty() && !self.short.is_empty() {
+            return self.short.push_to(out);
+        }
         if duration == self.duration && title == self.title {
             return self.push_again(out);
         }

@@ -33,6 +33,7 @@ mod pieces;
 pub mod resumed;
 mod room;
 mod segments;
+mod short_text;
 mod well_formed;
 
 /// A playlist as it is written.

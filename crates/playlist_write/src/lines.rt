@@ -10,6 +10,7 @@ use playlist_model::ByteRange;
 use std::alloc::AllocError;
 
 /// Appends `number` to `out` in decimal. Fails only if an allocation fails.
+#[inline(always)]
 pub fn write_number(out: &mut String, number: u64) -> Result<(), AllocError>
     ensures { Appends result out.old out.new (decimal number) }
 {

@@ -7,7 +7,7 @@ ghost use Rattle.playlist_model.specs.Said as Said;
 ghost use Rattle.playlist_model.specs.Same.{same_option, same_init_section};
 ghost use Rattle.playlist_model.specs.declared.InitSection.{InitSection};
 ghost use Rattle.playlist_model.specs.declared.Key.{Key};
-ghost use Rattle.playlist_write.specs.Inner.Changes.{HasInCommon, written_segment_changes_nothing, changes_owed};
+ghost use Rattle.playlist_write.specs.Inner.Changes.{HasInCommon, written_segment_changes_nothing, changes_owed, segment_changes_owed};
 ghost use Rattle.playlist_write.specs.Owed.{line_saying, with_feed, said_text, changed_written_init_section, init_section_owed, written_keys_then, time_owed, byte_range_owed, media_owed, segment_owed, after_segment};
 ghost use Rattle.fixed_duration.specs.Appended.{Appends};
 
@@ -239,28 +239,29 @@ fn write_segment_media_lines<'a>(
     Ok(())
 }
 
-// Appends what the segment `next` changes: its discontinuities, and the tags of its initialisation section and its
-// keys. It is out of line, as is all that few segments have, so that the loop over segments stays small.
+// Appends what a segment changes: so many discontinuities, and the tags of its initialisation section and its keys. It is out
+// of line, as is all that few segments have, so that the loop over segments stays small. What it is given are copies: what
+// is lent to a call can't stay in registers.
 #[inline(never)]
 fn write_each_change_before_segment(
     out: &mut String,
-    keys: &KeysRef<'_>,
+    keys: KeysRef<'_>,
     init_section: Option<&InitSection>,
-    next: &OutSegment<'_>,
+    discontinuities: u64,
+    segment: SegmentRef<'_>,
     common: InCommon,
 ) -> Result<(), AllocError>
-    requires { HasInCommon common
-        (record { keys = keys.now; init_section = option_copied init_section }) next.now }
+    requires { IsInCommon common keys (option_copied init_section) segment.keys segment.init_section }
     ensures { Appends result out.old out.new
-        (said_text (changes_owed
-        (record { keys = keys.now; init_section = option_copied init_section.entry }) next.now)) }
+        (said_text (segment_changes_owed
+        (record { keys = keys.entry; init_section = option_copied init_section.entry }) discontinuities segment.entry)) }
 {
-    let changed = changed_written_init_section(init_section, next.segment.init_section(), common);
-    write_discontinuity_lines(out, next.discontinuities)?;
-    write_changed_init_section_line(out, keys, changed, common.keys.both(common.own_keys))?;
-    let then = written_keys_then(keys, changed);
+    let changed = changed_written_init_section(init_section, segment.init_section(), common);
+    write_discontinuity_lines(out, discontinuities)?;
+    write_changed_init_section_line(out, &keys, changed, common.keys.both(common.own_keys))?;
+    let then = written_keys_then(&keys, changed);
     let same = places_of_written_keys_then(changed, common);
-    write_key_tag_lines(out, &then, &next.segment.keys(), same)?;
+    write_key_tag_lines(out, &then, &segment.keys(), same)?;
     Ok(())
 }
 
@@ -285,7 +286,14 @@ fn write_changes_before_segment(
     if written_segment_changes_nothing(keys, next) {
         return Ok(false);
     }
-    write_each_change_before_segment(out, keys, init_section, next, common)?;
+    write_each_change_before_segment(
+        out,
+        keys.again(),
+        init_section,
+        next.discontinuities,
+        next.segment.again(),
+        common,
+    )?;
     Ok(true)
 }
 

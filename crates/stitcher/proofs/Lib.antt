@@ -6,6 +6,7 @@ pub mod Parts
 pub mod Runs
 pub mod Outcomes
 pub mod Kept
+pub mod OneDiscontinuity
 pub mod Cursors
 pub mod Cuts
 pub mod Known

@@ -1,5 +1,5 @@
 //! The stitched list of marked segments, as it is made.
-ghost use Rattle.std.specs.Prelude.{◌≡◌, ◌<◌, ◌≤◌, ◌^◌, ℕ, List, Bool, true, false, [], ◌∷◌, map, take, drop, length, None, OnOk, IfOk, IfErr};
+ghost use Rattle.std.specs.Prelude.{◌≡◌, ◌+◌, ◌<◌, ◌≤◌, ◌^◌, ℕ, List, Bool, true, false, [], ◌∷◌, map, take, drop, length, None, OnOk, IfOk, IfErr};
 ghost use Rattle.std.specs.List.{list_all};
 ghost use Rattle.pod_store.specs.Marks.{Mark};
 ghost use Rattle.pod_store.specs.Rules.{ad_keeps};
@@ -7,7 +7,7 @@ ghost use Rattle.stitcher.specs.Stitched.{ad_piece, ad_pieces, next_stitched_num
 ghost use Rattle.stitcher.specs.StitchedSegments.{AreDecided, KnowCommon, KnowPrevious, KnowRuns, KnowsRun, RefusesNumber, item_fits, stitched_segments};
 ghost use Rattle.pod_store.specs.Store.{pod_for};
 ghost use Rattle.stitcher.specs.Making.{is_same_stitched_run, unmarked_piece, pod_with};
-ghost use Rattle.stitcher.specs.Inner.Making.{IsUnder, Passes, PutsPieces, after_front, front_pieces, stitched_run_goes_on_to_last, kept_on, last_of_stitched_run, nothing_made, numbers_fit, numbers_with, stitched_part_after, part_after_one, stitched_part_at, part_here, pieces_in_part, pushed, pieces_of_rest, stitched_part_shows_next, steps_from, under_ad, unmarked_front_to_stitch, whole_from};
+ghost use Rattle.stitcher.specs.Inner.Making.{IsUnder, Passes, PutsPieces, after_front, front_pieces, is_in_discontinuity, stitched_run_goes_on_to_last, kept_on, last_of_one_discontinuity, last_of_stitched_run, nothing_made, numbers_fit, numbers_with, stitched_part_after, part_after_one, stitched_part_at, part_here, pieces_in_part, pushed, pieces_of_rest, stitched_part_shows_next, steps_from, under_ad, unmarked_front_to_stitch, whole_from};
 ghost use Rattle.std.specs.Option.{option_copied};
 ghost use Rattle.stitcher.specs.RunPods.{AreLeftOf};
 ghost use Rattle.stitcher.specs.Stretches.{segment_items};
@@ -98,8 +98,50 @@ fn next_stitched_numbers(numbers: Numbers, steps: u64) -> Result<Numbers, Stitch
     Ok(stitched_numbers_of(media, discontinuity, steps))
 }
 
-// The last of kept segments that follow each other, the first of which has these numbers.
-fn last_of_stitched_run(
+// Whether each of these segments has this discontinuity number, and there is one. The last is looked at first.
+fn have_one_discontinuity(discontinuity: u64, segments: &[MarkedSegment]) -> bool
+    ensures some { result ≡ true → 0 < length segments.now }
+    ensures one { result ≡ true → list_all (is_in_discontinuity discontinuity) segments.now ≡ true }
+{
+    let Some((last, _)) = segments.split_last() else {
+        return false;
+    };
+    if last.segment.get().discontinuity_sequence() != discontinuity {
+        return false;
+    }
+    let mut rest = segments;
+    while let Some((here, later)) = rest.split_first() {
+        if here.segment.get().discontinuity_sequence() != discontinuity {
+            return false;
+        }
+        rest = later;
+    }
+    true
+}
+
+// The last of so many segments that follow one with these numbers, and have its discontinuity number at the origin.
+fn last_of_one_discontinuity(
+    numbers: Numbers,
+    discontinuity: u64,
+    count: usize,
+) -> Result<Last, StitchFault>
+    requires { numbers_fit numbers ≡ true }
+    ensures ok { IfOk result
+        (λ last. (last ≡ last_of_one_discontinuity numbers discontinuity count) × (numbers.media_sequence + count < 2 ^ 64)) }
+    ensures err { IfErr result
+        (λ e. (e ≡ StitchFault.NumberRange) × (2 ^ 64 ≤ numbers.media_sequence + count)) }
+{
+    let Some(media) = numbers.media_sequence.checked_add(count as u64) else {
+        return Err(StitchFault::NumberRange);
+    };
+    Ok(Last {
+        numbers: stitched_numbers_of(media, numbers.discontinuity_sequence, 0),
+        origin: Some(discontinuity),
+    })
+}
+
+// The same, by the numbers of each of them.
+fn last_of_stitched_walk(
     numbers: Numbers,
     first: &MarkedSegment,
     later: &[MarkedSegment],
@@ -130,6 +172,28 @@ fn last_of_stitched_run(
         numbers,
         origin: Some(here.segment.get().discontinuity_sequence()),
     })
+}
+
+#[tactic(auto, using(crate::proofs::OneDiscontinuity::last_of_one, crate::proofs::OneDiscontinuity::one_fits, crate::proofs::OneDiscontinuity::one_unfit))]
+// The last of kept segments that follow each other, the first of which has these numbers. Most have one discontinuity number.
+fn last_of_stitched_run(
+    numbers: Numbers,
+    first: &MarkedSegment,
+    later: &[MarkedSegment],
+) -> Result<Last, StitchFault>
+    requires { numbers_fit numbers ≡ true }
+    ensures ok { IfOk result
+        (λ last. (last ≡ last_of_stitched_run numbers first.now later.now)
+        × (list_all item_fits (segment_items numbers (first.now ∷ later.now)) ≡ true)) }
+    ensures err { IfErr result
+        (λ e. (e ≡ StitchFault.NumberRange)
+        × (list_all item_fits (segment_items numbers (first.now ∷ later.now)) ≡ false)) }
+{
+    let discontinuity = first.segment.get().discontinuity_sequence();
+    if have_one_discontinuity(discontinuity, later) {
+        return last_of_one_discontinuity(numbers, discontinuity, later.len());
+    }
+    last_of_stitched_walk(numbers, first, later)
 }
 
 // How many segments in front have no mark.

@@ -1,11 +1,12 @@
 -- What is kept of segments: their stack, or nothing if nothing is reckoned back.
 use Rattle.std.proofs.Common.{◌≡◌, ◌+◌, true, List, [], ◌∷◌, ◌++◌, length, refl, sym, ap, ◌∙◌, arith, ℤ, length-append}
-use Rattle.std.specs.Prelude.{Option, None, option_map, is_none}
+use Rattle.std.specs.Prelude.{Option, None, Some, option_map, is_none, replicate}
 use Rattle.std.specs.List.{list_all}
 use Rattle.std.proofs.lemmas.Bool.{and_parts}
 use Rattle.std.proofs.lemmas.List.{same_from_push}
 use Rattle.playlist_model.specs.Segments.{Segment}
-use Rattle.playlist_model.specs.Instants.{reckoned_back}
+use Rattle.playlist_model.specs.Instants.{bounded, reckoned_back, ends_at, instants_after}
+use Rattle.playlist_model.specs.LookBack.{or_earlier}
 use Rattle.timeline.specs.Inner.Reckoned.{is_beginning_unstated}
 use Rattle.timeline.specs.Reckoned.{clamped, reckoned, stack_of, IsKeptStack}
 
@@ -46,3 +47,18 @@ popped_first kept first s later h = (same_from_push kept (stack_of later) first 
 
 pub popped_others : (kept : List (Option ℤ)) (first : Option ℤ) (s : Segment) (later : List Segment) → IsKeptStack (kept ++ first ∷ []) (s ∷ later) → IsKeptStack kept later
 popped_others kept first s later h = stack_kept later kept (same_from_push kept (stack_of later) first (reckoned (s ∷ later)) (whole kept first s later h)).0
+
+-- ---- if no time is stated
+
+none_here : (s : Segment) (later : List Segment) → is_none s.program_date_time ≡ true → reckoned_back (s ∷ later) ≡ None → bounded (or_earlier s.program_date_time (or_earlier None (reckoned_back (s ∷ later)))) ≡ None
+none_here s later here e = grind (arith, here, e)
+
+none_on : (s : Segment) (later : List Segment) (begun : Option ℤ) → begun ≡ None → instants_after None later ≡ replicate (length later) None
+    → begun ∷ instants_after (ends_at begun s.duration) later ≡ replicate (length (s ∷ later)) None
+none_on s later None e h = ap (λ instants. None ∷ instants) h
+none_on s later (Some begun) e h = absurd (cc e)
+
+-- no segment begins at a known instant
+pub none_begin : (segments : List Segment) → list_all is_beginning_unstated segments ≡ true → instants_after None segments ≡ replicate (length segments) None
+none_begin [] h = refl
+none_begin (s ∷ later) h = none_on s later _ (none_here s later (and_parts _ _ h).0 (none_back (s ∷ later) h)) (none_begin later (and_parts _ _ h).1)

@@ -1,7 +1,7 @@
 //! The instants at which a playlist's segments begin (RFC 8216, sections 4.3.2.6 and 6.2.1).
 #![tactic(auto)]
 
-ghost use Rattle.std.specs.Prelude.{◌≡◌, ℤ, List, [], ◌∷◌, IfOk, IfErr, MatchOption, option_map, pos, ◌-ℤ◌, ◌||◌};
+ghost use Rattle.std.specs.Prelude.{◌≡◌, ℤ, List, [], ◌∷◌, IfOk, IfErr, IfSome, None, MatchOption, option_map, pos, ◌-ℤ◌, ◌||◌, replicate};
 ghost use Rattle.std.specs.List.{list_all};
 ghost use Rattle.std.specs.Option.{is_some};
 ghost use Rattle.playlist_model.specs.Instants.{bounded, instants_after};
@@ -188,6 +188,18 @@ impl<'a> Beginnings<'a> {
             segments,
             kept: None,
         }
+    }
+
+    #[tactic(auto, using(crate::proofs::Kept::none_begin))]
+    /// How many segments are left, if it is seen that none of them begins at a known instant: none states its time, and it isn't
+    /// known when the one before them ended.
+    pub fn len_if_unknown(&self) -> Option<usize>
+        ensures { IfSome result (λ count. self.now ≡ replicate count None) }
+    {
+        if self.ended.is_some() || !are_beginnings_unstated(&self.segments) {
+            return None;
+        }
+        Some(self.segments.len())
     }
 
     /// Where the next segment begins, if there is one. If an allocation fails, all are still to come.

@@ -1,19 +1,24 @@
 -- What stands before the time of a segment.
-use Rattle.std.specs.Prelude.{Bool, ◌&&◌, ◌==◌, List, [], ◌∷◌, ◌++◌, length, replicate, is_none}
+use Rattle.std.specs.Prelude.{ℕ, Bool, ◌&&◌, ◌==◌, List, [], ◌∷◌, ◌++◌, length, replicate, is_none}
 use Rattle.playlist_model.specs.declared.Key.{Key}
 use Rattle.playlist_model.specs.declared.in_common.InCommon.{InCommon}
 use Rattle.playlist_model.specs.InCommon.{IsInCommon}
+use Rattle.playlist_model.specs.Segments.{Segment}
 use Rattle.playlist_model.specs.Said.{Said, discontinuity}
 use Rattle.stitcher.specs.declared.OutSegment.{OutSegment}
 use Rattle.playlist_write.specs.Owed.{Current, changed_written_init_section, init_section_owed, written_keys_then, keys_owed}
 
--- the discontinuities before a segment, and the tags of its initialisation section and its keys
-abbrev pub changes_owed : Current → OutSegment → List Said
-changes_owed current out =
-    let changed = changed_written_init_section current.init_section out.segment.init_section in
-    replicate out.discontinuities discontinuity
+-- so many discontinuities before a segment, and the tags of its initialisation section and its keys
+abbrev pub segment_changes_owed : Current → ℕ → Segment → List Said
+segment_changes_owed current steps segment =
+    let changed = changed_written_init_section current.init_section segment.init_section in
+    replicate steps discontinuity
     ++ (init_section_owed current.keys changed
-    ++ keys_owed (written_keys_then current.keys changed) out.segment.keys)
+    ++ keys_owed (written_keys_then current.keys changed) segment.keys)
+
+-- the same of a segment that is written
+abbrev pub changes_owed : Current → OutSegment → List Said
+changes_owed current out = segment_changes_owed current out.discontinuities out.segment
 
 -- what is in force has this in common with the segment
 abbrev pub HasInCommon : InCommon → Current → OutSegment → Type 0

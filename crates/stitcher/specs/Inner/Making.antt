@@ -93,6 +93,14 @@ abbrev pub last_of_stitched_run : Numbers → MarkedSegment → List MarkedSegme
 last_of_stitched_run n m [] = record { numbers = n; origin = Some m.segment.discontinuity_sequence }
 last_of_stitched_run n m (next ∷ later) = last_of_stitched_run (stitched_numbers_on n m (next ∷ later)) next later
 
+-- its discontinuity number at the origin is this one
+abbrev pub is_in_discontinuity : ℕ → MarkedSegment → Bool
+is_in_discontinuity discontinuity m = m.segment.discontinuity_sequence == discontinuity
+
+-- the last of so many segments of one discontinuity number that follow one with these numbers
+abbrev pub last_of_one_discontinuity : Numbers → ℕ → ℕ → Last
+last_of_one_discontinuity n discontinuity count = record { numbers = record { media_sequence = n.media_sequence + count; discontinuity_sequence = n.discontinuity_sequence; discontinuities = 0 }; origin = Some discontinuity }
+
 -- pieces in order, with the numbers counted on
 abbrev pub counted : Numbers → Option Last → List Piece → List Item
 counted first last [] = []

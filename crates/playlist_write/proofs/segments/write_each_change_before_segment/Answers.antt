@@ -8,13 +8,13 @@ use Rattle.playlist_write.proofs.segments.write_each_change_before_segment.Goals
 
 pub write_changed_init_section_line-requires : goal.write_changed_init_section_line-requires
 write_changed_init_section_line-requires c =
-    let changed : option_copied c.changed_written_init_section-changed.result ≡ changed_written_init_section (option_copied c.args.init_section) c.args.next.now.segment.init_section = grind (arith, common_steps) in
-    changed_keys_known c.args.common c.both.result c.args.keys.now c.args.next.now.segment.keys _ _ _ changed c.both.ensures.places c.requires
+    let changed : option_copied c.changed_written_init_section-changed.result ≡ changed_written_init_section (option_copied c.args.init_section) c.args.segment.init_section = grind (arith, common_steps) in
+    changed_keys_known c.args.common c.both.result c.args.keys c.args.segment.keys _ _ _ changed c.both.ensures.places c.requires
 
 pub write_key_tag_lines-requires : goal.write_key_tag_lines-requires
 write_key_tag_lines-requires c =
-    let changed : option_copied c.changed_written_init_section-changed.result ≡ changed_written_init_section (option_copied c.args.init_section) c.args.next.now.segment.init_section = grind (arith, common_steps) in
-    let known : AreSameAt c.places_of_written_keys_then-same.result (written_keys_then c.args.keys.now (option_copied c.changed_written_init_section-changed.result)) c.args.next.now.segment.keys =
-    c.places_of_written_keys_then-same.ensures c.args.keys.now c.args.next.now.segment.keys _ _ c.requires (changed_is_now _ _ _ changed) in
+    let changed : option_copied c.changed_written_init_section-changed.result ≡ changed_written_init_section (option_copied c.args.init_section) c.args.segment.init_section = grind (arith, common_steps) in
+    let known : AreSameAt c.places_of_written_keys_then-same.result (written_keys_then c.args.keys (option_copied c.changed_written_init_section-changed.result)) c.args.segment.keys =
+    c.places_of_written_keys_then-same.ensures c.args.keys c.args.segment.keys _ _ c.requires (changed_is_now _ _ _ changed) in
     subst (λ keys. AreSameAt c.places_of_written_keys_then-same.result keys c.keys.result) (sym c.written_keys_then-then.ensures)
-    (subst (λ keys. AreSameAt c.places_of_written_keys_then-same.result (written_keys_then c.args.keys.now (option_copied c.changed_written_init_section-changed.result)) keys) (sym c.keys.ensures) known)
+    (subst (λ keys. AreSameAt c.places_of_written_keys_then-same.result (written_keys_then c.args.keys (option_copied c.changed_written_init_section-changed.result)) keys) (sym c.keys.ensures) known)

@@ -1,4 +1,4 @@
-use Rattle.std.proofs.Common.{◌≡◌, ap, subst, sym, ◌∙◌, arith}
+use Rattle.std.proofs.Common.{◌≡◌, length, refl, ap, subst, sym, ◌∙◌, arith}
 use Rattle.std.specs.Prelude.{None}
 use Rattle.std.proofs.lemmas.Grind.{common_steps}
 use Rattle.stitcher.specs.declared.marked.MarkedSegment.{MarkedSegment as Held}
@@ -15,6 +15,7 @@ loop-segment-init c = record {
   marked = none_marked _ _ _ _ _ _ (λ before now. c.nothing-in_common.ensures.common before.keys now.keys before.init_section now.init_section);
   before = c.requires.unmarked;
   again = c.requires.again;
+  room = c.requires.room;
 }
 
 pub loop-segment-preserved : goal.loop-segment-preserved
@@ -22,16 +23,17 @@ loop-segment-preserved c =
     let so_far = c.loop-segment.invariant in
     let left = rw c.in-Some.is at c.in_ok-segment.ensures.next in
     let instants = rw c.in-Some-2.is at c.in_ok-begun.ensures.next in
-    let unmarked : c.in_ok-clone.field-0 ≡ None = grind (arith, common_steps) in
-    let is = unmarked_here _ c.loop-segment.run c.in-Some.segment c.in-Some-2.begun c.loop-segment.in_common 0 _ _ c.requires.empty so_far.before unmarked c.window_segment_marked_with.ensures in
-    let mark : c.window_segment_marked_with.result.mark ≡ c.loop-segment.run.before = ap (λ (h : Held). h.mark) c.window_segment_marked_with.ensures ∙ (unmarked ∙ sym so_far.before) in
-    let here = c.window_segment_marked_with.result in
-    let none : here.again ≡ 0 = ap (λ (h : Held). h.again) c.window_segment_marked_with.ensures in
+    let here = c.in_ok-unmarked_segment.field-0 in
+    let made = c.in_ok-unmarked_segment.ensures in
+    let is = unmarked_here _ c.loop-segment.run c.in-Some.segment c.in-Some-2.begun c.loop-segment.in_common 0 None here c.requires.empty so_far.before refl made in
+    let mark : here.mark ≡ c.loop-segment.run.before = ap (λ (h : Held). h.mark) made ∙ sym so_far.before in
+    let none : here.again ≡ 0 = ap (λ (h : Held). h.again) made in
     let told = subst (λ n. IsMarkedAgain c.loop-segment.done.items n here.mark) (sym none) (not_again c.loop-segment.done.items here.mark) in
     record {
-      marked = one_marked_on _ _ _ _ _ _ _ _ _ _ _ _ _ _ _ _ _ _ _ so_far.marked left instants is (unmarked_on _ _ _ _ so_far.before mark) c.second_in_common-next_in_common.ensures c.in_ok-push.ensures.items;
+      marked = one_marked_on _ _ _ _ _ _ _ _ _ _ _ _ _ _ _ _ _ _ _ so_far.marked left instants is (unmarked_on _ _ _ _ so_far.before mark) c.second_in_common-next_in_common.ensures c.push_reserved.ensures.items;
       before = so_far.before;
-      again = subst KnowAgainWithin (sym c.in_ok-push.ensures.items) (again_pushed c.loop-segment.done.items here so_far.again told.within told.same);
+      again = subst KnowAgainWithin (sym c.push_reserved.ensures.items) (again_pushed c.loop-segment.done.items here so_far.again told.within told.same);
+      room = omega (arith, so_far.room, ap length left, c.push_reserved.ensures.len, c.push_reserved.ensures.capacity);
     }
 
 pub returns-in_default : goal.returns-in_default

@@ -3,7 +3,7 @@ use Rattle.std.specs.List.{list_all}
 use Rattle.stitcher.specs.StitchedSegments.{item_fits}
 use Rattle.stitcher.specs.Inner.Making.{numbers_fit, last_of_stitched_run}
 use Rattle.stitcher.specs.Stretches.{segment_items}
-use Rattle.stitcher.proofs.making.last_of_stitched_run.Given as goal
+use Rattle.stitcher.proofs.making.last_of_stitched_walk.Given as goal
 
 abbrev pub invariant-loop-next : goal.invariant-loop-next
 invariant-loop-next l = record {
