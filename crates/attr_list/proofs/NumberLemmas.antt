@@ -1,21 +1,21 @@
--- What `parse` and `from_str_radix` give at texts that are known to be digits.
-use Rattle.std.proofs.Common.{◌≡◌, ℕ, zero, suc, ◌+◌, ◌-◌, ◌*◌, ◌^◌, ◌<◌, ◌≤◌, Bool, true, false, cond, List, [], ◌∷◌, take, drop, length, get_or, refl, ap, sym, ◌∙◌, arith, rules, Some, None, Result}
-use Rattle.std.specs.Prelude.{◌&&◌, ◌==◌, nat_lt}
+-- The numbers that digits write.
+use Rattle.std.proofs.Common.{◌≡◌, ℕ, zero, suc, ◌+◌, ◌-◌, ◌*◌, ◌^◌, ◌<◌, ◌≤◌, Bool, true, cond, List, [], ◌∷◌, take, length, get_or, refl, ap, sym, ◌∙◌, arith, rules, Some, None}
+use Rattle.std.specs.Prelude.{◌&&◌, nat_lt, Option}
+use Rattle.std.specs.Option.{SomeIff}
 use Rattle.std.specs.List.{list_all}
 use Rattle.std.specs.Char.{is_ascii_digit, is_ascii_hexdigit, digit_value}
-use Rattle.std.specs.Result.{result_ok}
-use Rattle.std.specs.Str.Parse.{digits_value, AllDigits, ParsesUnsigned, without_leading_plus}
+use Rattle.std.specs.Str.Parse.{digits_value, AllDigits}
 use Rattle.std.proofs.lemmas.Bool.{and_parts, and_from, cond-true, lt-ltb, le-leb, ltb-true}
 use Rattle.std.proofs.lemmas.Bool.Decides.{nat_tests}
 use Rattle.std.proofs.Math.Nat.{pow-le-pow_right}
 use Rattle.std.proofs.lemmas.Int.Digits.{digits_value-lt, digits_value_more}
-use Rattle.std.proofs.lemmas.List.{take_all}
-use Rattle.std.proofs.lemmas.Str.Parse.{without_leading_plus_none, digits_value-take-le}
+use Rattle.std.proofs.lemmas.List.{take_all, length-take-le}
+use Rattle.std.proofs.lemmas.Str.Parse.{digits_value-take-le}
 use Rattle.std.specs.Fmt.{decimal}
 use Rattle.std.proofs.lemmas.Str.Parse.{IsNumeralModel, numerals_by_value}
 use Rattle.std.proofs.lemmas.Fmt.{decimal_is_IsNumeral, length-decimal-le, decimal_nonempty, digits_decimal}
 use Rattle.std.proofs.lemmas.Grind.{common_steps}
-use Rattle.attr_list.specs.Numbers.{decimal_of, hex_of, has_up_to, has_hex_prefix}
+use Rattle.attr_list.specs.Numbers.{decimal_of, has_up_to}
 
 -- digits by a test of each
 digits_by : (p : ℕ → Bool) (radix : ℕ) (ds : List ℕ) → ((c : ℕ) → p c ≡ true → digit_value c < radix) → list_all p ds ≡ true → AllDigits radix ds
@@ -24,21 +24,6 @@ digits_by p radix (c ∷ ds) each h = let a = and_parts _ _ h in (each c a.0, di
 
 hex_digit : (c : ℕ) → is_ascii_hexdigit c ≡ true → digit_value c < 16
 hex_digit c h = grind (arith, nat_tests)
-
--- no plus stands before digits
-no_plus : (radix : ℕ) (ds : List ℕ) → radix ≤ 16 → AllDigits radix ds → get_or ds 0 0 ≡ 43 → 0 < length ds → ⊥
-no_plus radix ds s h e l = grind (arith, common_steps)
-
-plain : (radix : ℕ) (ds : List ℕ) → radix ≤ 16 → AllDigits radix ds → 0 < length ds → without_leading_plus ds ≡ ds
-plain radix ds s h l = without_leading_plus_none ds (λ e. no_plus radix ds s h e l)
-
--- the answer of a parse, if the text has digits alone
-parsed : {E : Type 0} (k radix : ℕ) (ds : List ℕ) (r : Result ℕ E) → radix ≤ 16 → AllDigits radix ds → 0 < length ds → ParsesUnsigned k radix ds r
-    → result_ok r ≡ cond (nat_lt (digits_value radix ds) (2 ^ k)) (Some (digits_value radix ds)) None
-parsed k radix ds r s h l p = grind arith
-
-pub some_digits : (ds : List ℕ) → (length ds == 0) ≡ false → 0 < length ds
-some_digits ds h = grind arith
 
 -- ---- digits of a decimal, one after the other
 
@@ -67,22 +52,35 @@ no_decimal ds i v within value h =
 pub is_decimal : (ds : List ℕ) (v n : ℕ) → 0 < length ds → length ds ≤ 20 → length ds ≤ n → v ≡ digits_value 10 (take n ds) → v < 2 ^ 64 → list_all is_ascii_digit (take n ds) ≡ true → decimal_of ds ≡ Some v
 is_decimal ds v n some few long value below digits = grind (arith, take_all)
 
-below_top : (n l : ℕ) → n < 16 ^ l → l ≤ 32 → n < 2 ^ 128
-below_top n l h few = let most : 16 ^ l ≤ 16 ^ 32 = pow-le-pow_right {n = 16} (omega arith) few in omega arith
+-- the last digit, which may be too many
+pub last_digit : (ds : List ℕ) (n v d : ℕ) (o : Option ℕ) → n < length ds → length ds ≤ n + 1 → n ≤ 19 → v ≡ digits_value 10 (take n ds) → list_all is_ascii_digit (take n ds) ≡ true → d ≡ get_or ds n 0
+    → SomeIff o ((is_ascii_digit d ≡ true) × (v * 10 + (d - 48) < 2 ^ 64)) (v * 10 + (d - 48)) → o ≡ decimal_of ds
+last_digit ds n v d None within few most value digits at h = sym (no_decimal ds n v within value (rw at at h))
+last_digit ds n v d (Some x) within few most value digits at h =
+    let digit : is_ascii_digit (get_or ds n 0) ≡ true = grind (arith, h, at) in
+    let more : x ≡ digits_value 10 (take (n + 1) ds) = grind (arith, h, at, value, value_more) in
+    sym (is_decimal ds x (n + 1) (omega (arith, within)) (omega (arith, few, most)) few more (grind (arith, h)) (digits_more ds n within digits digit))
 
-pub hex_read : {E : Type 0} (text ds : List ℕ) (r : Result ℕ E) → has_hex_prefix text ≡ true → ds ≡ drop 2 text → (length ds == 0) ≡ false → length ds ≤ 32 → list_all is_ascii_hexdigit ds ≡ true → ParsesUnsigned 128 16 ds r → result_ok r ≡ hex_of text
-hex_read text ds r prefix after some few all p =
-    let l = some_digits ds some in
-    let h = digits_by is_ascii_hexdigit 16 ds hex_digit all in
-    let size : has_up_to 32 ds ≡ true = and_from _ _ (lt-ltb _ _ l) (le-leb _ _ few) in
-    let below = below_top (digits_value 16 ds) (length ds) (digits_value-lt 16 ds h) few in
-    let parse = parsed 128 16 ds r (omega arith) h l p ∙ cond-true _ _ _ (lt-ltb _ _ below) in
-    parse ∙ sym (by text ds (has_hex_prefix text) prefix after size all)
-  where
-    by : (text ds : List ℕ) (a : Bool) → a ≡ true → ds ≡ drop 2 text → has_up_to 32 ds ≡ true → list_all is_ascii_hexdigit ds ≡ true
-        → cond (a && has_up_to 32 (drop 2 text) && list_all is_ascii_hexdigit (drop 2 text)) (Some (digits_value 16 (drop 2 text))) None ≡ Some (digits_value 16 ds)
-    by text ds a prefix after size all =
-        rw (← after, prefix, size, all) refl
+decimal_digit : (c : ℕ) → is_ascii_digit c ≡ true → digit_value c < 10
+decimal_digit c h = grind (arith, nat_tests)
+
+-- before the last of 19 there is room for one digit more
+pub decimal_room : (ds : List ℕ) (i v : ℕ) → i < length ds → length ds ≤ 19 → v ≡ digits_value 10 (take i ds) → list_all is_ascii_digit (take i ds) ≡ true → v * 10 + 9 < 2 ^ 64
+decimal_room ds i v below few value digits =
+    let size : length (take i ds) ≤ 18 = omega (arith, length-take-le i ds (omega (arith, below)), below, few) in
+    let small = digits_value-lt 10 (take i ds) (digits_by is_ascii_digit 10 (take i ds) decimal_digit digits) in
+    let most : 10 ^ length (take i ds) ≤ 10 ^ 18 = pow-le-pow_right {n = 10} (omega arith) size in
+    omega (arith, small, most, value)
+
+-- ---- digits of a hexadecimal sequence, one after the other
+
+-- before the last of 32 there is room for one digit more
+pub hex_room : (ds : List ℕ) (i v : ℕ) → i < length ds → length ds ≤ 32 → v ≡ digits_value 16 (take i ds) → list_all is_ascii_hexdigit (take i ds) ≡ true → v * 16 + 15 < 2 ^ 128
+hex_room ds i v below few value digits =
+    let size : length (take i ds) ≤ 31 = omega (arith, length-take-le i ds (omega (arith, below)), below, few) in
+    let small = digits_value-lt 16 (take i ds) (digits_by is_ascii_hexdigit 16 (take i ds) hex_digit digits) in
+    let most : 16 ^ length (take i ds) ≤ 16 ^ 31 = pow-le-pow_right {n = 16} (omega arith) size in
+    omega (arith, small, most, value)
 
 -- ---- a number that is written is read
 

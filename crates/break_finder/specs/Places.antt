@@ -8,7 +8,7 @@ use Rattle.break_finder.specs.Entrances.{BreakSpan, Entrance, entrance_id}
 abbrev pub AreApart : List Entrance → Type 0
 AreApart found = IsDistinct bytes_eq (map entrance_id found)
 
--- the break of this ID, if any, is at this place
+-- the break of this ID is at this place
 abbrev pub IsAt : List Entrance → ℕ → Option (List ℕ) → Type 0
 IsAt found place id = (e : Entrance) × (slice_get found place ≡ Some e) × (id ≡ Some e.id)
 

@@ -10,3 +10,6 @@ pub mod CivilDays
 pub mod TimeForms
 pub mod TimeRange
 pub mod KeptDates
+pub mod ClockFields
+pub mod SecondEnds
+pub mod MinuteTexts

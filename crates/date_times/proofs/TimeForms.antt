@@ -1,22 +1,20 @@
 -- The parts of a date and time.
-use Rattle.std.proofs.Common.{◌≡◌, ℕ, ◌+◌, ◌≤◌, Bool, true, false, List, [], ◌∷◌, take, drop, length, refl, ap, ◌∙◌, arith, ℤ, pos, ◌+ℤ◌, ◌-ℤ◌, ◌*ℤ◌, ◌*◌, suc, length-drop, Some, None, cond}
-use Rattle.std.specs.Prelude.{◌&&◌, ◌==◌, slice_index, slice_range, Option}
+use Rattle.std.proofs.Common.{◌≡◌, ℕ, ◌+◌, ◌≤◌, Bool, true, false, List, [], ◌∷◌, take, drop, length, refl, ap, sym, ◌∙◌, arith, ℤ, pos, ◌+ℤ◌, ◌-ℤ◌, ◌*ℤ◌, ◌*◌, suc, length-drop, Some, None, cond}
+use Rattle.std.specs.Prelude.{◌&&◌, ◌==◌, slice_index, slice_range, Option, if◌then◌else◌}
 use Rattle.std.specs.List.{list_all, prefix_len}
 use Rattle.std.specs.Char.{is_ascii_digit}
-use Rattle.std.proofs.lemmas.Bool.{and_from, cond-true}
+use Rattle.std.proofs.lemmas.Bool.{and_from}
 use Rattle.std.proofs.lemmas.List.{take_all}
 use Rattle.jiff_core.proofs.SignedLemmas.{signed_arith}
-use Rattle.date_times.specs.Instant.{are_date_digits, has_date_form, is_date, has_clock_form, is_clock, second_fraction_length, is_second_fraction, fraction_nanos, zone_offset_of, instant_of_seconds, instant_of, seconds_at, if_in_range, nanos_from_1970, calendar_day_number, date_field}
+use Rattle.date_times.specs.Instant.{are_date_digits, has_date_form, is_date, is_clock, second_fraction_length, is_second_fraction, fraction_nanos, zone_offset_of, instant_of_seconds, instant_of, seconds_at, if_in_range, nanos_from_1970, calendar_day_number, date_field}
+use Rattle.date_times.specs.Inner.Instant.{with_fraction, second_end_of}
 
--- the three numbers of `a-b-c` or `a:b:c` are digits
+-- the three numbers of `a-b-c` are digits
 pub form_parts : (a b c d e : Bool) → (a && b && c && d && e) ≡ true → (a ≡ true) × (c ≡ true) × (e ≡ true)
 form_parts a b c d e h = grind arith
 
 pub date_parts : (text : List ℕ) → has_date_form text ≡ true → (are_date_digits text 0 4 ≡ true) × (are_date_digits text 5 7 ≡ true) × (are_date_digits text 8 10 ≡ true)
 date_parts text h = form_parts (are_date_digits text 0 4) (slice_index text 4 == 45) (are_date_digits text 5 7) (slice_index text 7 == 45) (are_date_digits text 8 10) h
-
-pub clock_parts : (text : List ℕ) → has_clock_form text ≡ true → (are_date_digits text 11 13 ≡ true) × (are_date_digits text 14 16 ≡ true) × (are_date_digits text 17 19 ≡ true)
-clock_parts text h = form_parts (are_date_digits text 11 13) (slice_index text 13 == 58) (are_date_digits text 14 16) (slice_index text 16 == 58) (are_date_digits text 17 19) h
 
 -- ---- the fraction
 
@@ -39,29 +37,9 @@ fraction_digits (x ∷ xs) = after_point (x == 46) x xs
 
 -- ---- the whole text
 
-last_false : (b w : Bool) (s : Option ℤ) → w ≡ false → cond (b && w) s None ≡ None
-last_false true w s h = rw h refl
-last_false false w s h = refl
-
-pub no_fraction : (text : List ℕ) → is_second_fraction (second_fraction_length (drop 19 text)) ≡ false → instant_of text ≡ None
-no_fraction text h = last_false (is_date text && slice_index text 10 == 84 && is_clock text) (is_second_fraction (second_fraction_length (drop 19 text))) _ h
-
 -- a time of day is 19 bytes long
 pub clock_length : (text : List ℕ) → is_clock text ≡ true → 19 ≤ length text
 clock_length text h = grind arith
-
--- what a text says from 19 bytes on
-pub zoned : List ℕ → ℕ → Option ℤ
-zoned rest seconds = instant_of_seconds seconds (fraction_nanos (drop 1 (take (second_fraction_length rest) rest))) (zone_offset_of (drop (second_fraction_length rest) rest))
-
-pub read_parts : (text : List ℕ) → is_date text ≡ true → (slice_index text 10 == 84) ≡ true → is_clock text ≡ true → is_second_fraction (second_fraction_length (drop 19 text)) ≡ true
-    → instant_of text ≡ zoned (drop 19 text) (seconds_at text)
-unfolding zoned
-read_parts text d t c f = cond-true _ _ _ (and_from _ _ (and_from _ _ (and_from _ _ d t) c) f)
-
-pub no_zone : (rest : List ℕ) (seconds : ℕ) → None ≡ zone_offset_of (drop (second_fraction_length rest) rest) → None ≡ zoned rest seconds
-unfolding zoned
-no_zone rest seconds h = ap (instant_of_seconds seconds (fraction_nanos (drop 1 (take (second_fraction_length rest) rest)))) h
 
 nanos_same : (number clock nanos : ℕ) (day offset seconds : ℤ) → day +ℤ pos 719528 ≡ pos number → seconds ≡ (day *ℤ pos 86400 +ℤ pos clock) -ℤ offset
     → seconds *ℤ pos 1000000000 +ℤ pos nanos ≡ nanos_from_1970 (number * 86400 + clock) nanos offset
@@ -70,15 +48,39 @@ nanos_same number clock nanos day offset seconds h e = omega (arith, signed_arit
 seconds_same : (n a b c k : ℕ) → k ≡ a * 3600 + b * 60 + c → n * 86400 + k ≡ n * 86400 + a * 3600 + b * 60 + c
 seconds_same n a b c k e = omega (arith, e)
 
-pub zone_found : (text rest : List ℕ) (clock nanos : ℕ) (day offset seconds : ℤ) → day +ℤ pos 719528 ≡ pos (calendar_day_number (date_field text 0 4) (date_field text 5 7) (date_field text 8 10))
-    → clock ≡ date_field text 11 13 * 3600 + date_field text 14 16 * 60 + date_field text 17 19 → nanos ≡ fraction_nanos (drop 1 (take (second_fraction_length rest) rest)) → Some offset ≡ zone_offset_of (drop (second_fraction_length rest) rest)
-    → seconds ≡ (day *ℤ pos 86400 +ℤ pos clock) -ℤ offset → if_in_range (seconds *ℤ pos 1000000000 +ℤ pos nanos) ≡ zoned rest (seconds_at text)
-unfolding zoned
-zone_found text rest clock nanos day offset seconds d k n z e =
+no_end_if : (b w : Bool) (seconds nanos : ℕ) (zone : Option ℤ) → None ≡ (if w then with_fraction nanos zone else None) → cond (b && w) (instant_of_seconds seconds nanos zone) None ≡ None
+no_end_if true true seconds nanos None h = refl
+no_end_if true true seconds nanos (Some offset) h = absurd (cc h)
+no_end_if true false seconds nanos zone h = refl
+no_end_if false w seconds nanos zone h = refl
+
+same_end : (x y : ℕ × ℤ) → ◌≡◌ {A = Option (ℕ × ℤ)} (Some x) (Some y) → x ≡ y
+same_end x y h = cc h
+
+end_if : (b w : Bool) (seconds nanos : ℕ) (zone : Option ℤ) (end : ℕ × ℤ) → b ≡ true → Some end ≡ (if w then with_fraction nanos zone else None)
+    → cond (b && w) (instant_of_seconds seconds nanos zone) None ≡ if_in_range (nanos_from_1970 seconds end.0 end.1)
+end_if true true seconds nanos None end e h = absurd (cc h)
+end_if true true seconds nanos (Some offset) end e h = ap (λ x. if_in_range (nanos_from_1970 seconds x.0 x.1)) (sym (same_end end (nanos, offset) h))
+end_if true false seconds nanos zone end e h = absurd (cc h)
+end_if false w seconds nanos zone end e h = absurd (cc e)
+
+-- what stands after the time of day may state no instant
+pub no_end : (text : List ℕ) → None ≡ second_end_of (drop 19 text) → instant_of text ≡ None
+no_end text h =
+    let rest = drop 19 text in
+    let len = second_fraction_length rest in
+    no_end_if (is_date text && slice_index text 10 == 84 && is_clock text) (is_second_fraction len) (seconds_at text) (fraction_nanos (drop 1 (take len rest))) (zone_offset_of (drop len rest)) h
+
+-- or one with its nanoseconds and its offset
+pub end_found : (text : List ℕ) (clock : ℕ) (end : ℕ × ℤ) (day seconds : ℤ) → is_date text ≡ true → (slice_index text 10 == 84) ≡ true → is_clock text ≡ true
+    → day +ℤ pos 719528 ≡ pos (calendar_day_number (date_field text 0 4) (date_field text 5 7) (date_field text 8 10)) → clock ≡ date_field text 11 13 * 3600 + date_field text 14 16 * 60 + date_field text 17 19
+    → Some end ≡ second_end_of (drop 19 text) → seconds ≡ (day *ℤ pos 86400 +ℤ pos clock) -ℤ end.1 → if_in_range (seconds *ℤ pos 1000000000 +ℤ pos end.0) ≡ instant_of text
+end_found text clock end day seconds d t c known k is e =
     let number = calendar_day_number (date_field text 0 4) (date_field text 5 7) (date_field text 8 10) in
-    ap if_in_range (nanos_same number clock nanos day offset seconds d e ∙ ap (λ s. nanos_from_1970 s nanos offset) (seconds_same number (date_field text 11 13) (date_field text 14 16) (date_field text 17 19) clock k))
-    ∙ ap (λ m. instant_of_seconds (seconds_at text) m (Some offset)) n
-    ∙ ap (instant_of_seconds (seconds_at text) (fraction_nanos (drop 1 (take (second_fraction_length rest) rest)))) z
+    let rest = drop 19 text in
+    let len = second_fraction_length rest in
+    ap if_in_range (nanos_same number clock end.0 day end.1 seconds known e ∙ ap (λ s. nanos_from_1970 s end.0 end.1) (seconds_same number (date_field text 11 13) (date_field text 14 16) (date_field text 17 19) clock k))
+    ∙ sym (end_if (is_date text && slice_index text 10 == 84 && is_clock text) (is_second_fraction len) (seconds_at text) (fraction_nanos (drop 1 (take len rest))) (zone_offset_of (drop len rest)) end (and_from _ _ (and_from _ _ d t) c) is)
 
 pub rest_is : (text : List ℕ) → slice_range text 19 (length text) ≡ drop 19 text
 rest_is text = take_all _ (drop 19 text) (omega (arith, length-drop 19 text))

@@ -1,5 +1,5 @@
 -- How an instant is written: as a time text in UTC with `Z` (RFC 8216, 4.3.2.6).
-use Rattle.std.specs.Prelude.{ℕ, zero, suc, ◌+◌, ◌-◌, ◌/◌, ◌%◌, ◌==◌, nat_lt, List, [], ◌∷◌, ◌++◌, ℤ, pos, negsuc, if◌then◌else◌}
+use Rattle.std.specs.Prelude.{ℕ, zero, suc, ◌+◌, ◌-◌, ◌/◌, ◌%◌, ◌==◌, nat_lt, List, [], ◌∷◌, ◌++◌, ℤ, pos, negsuc, codes, if◌then◌else◌}
 use Rattle.spec_words.specs.Bytes.{hyphen, point, colon, capital_t, capital_z}
 use Rattle.date_times.specs.Instant.{is_leap_year, calendar_days_in_month}
 use Rattle.date_times.specs.Digits.{fixed_digits}
@@ -46,3 +46,11 @@ time_text t = time_text_at (instant_from_1900 t)
 -- the date so many days after the first of 1900
 abbrev pub date_at : ℕ → List ℕ
 date_at days = let year = year_after_days 300 1900 days in let month = month_after_days 12 year.0 1 year.1 in date_text year.0 month.0 (month.1 + 1) []
+
+-- what stands before the seconds, so many minutes after the first of 1900
+abbrev pub minute_text : ℕ → List ℕ
+minute_text minute = date_at (minute / 1440) ++ capital_t ∷ (fixed_digits 10 2 (minute % 1440 / 60) ++ colon ∷ (fixed_digits 10 2 (minute % 60) ++ colon ∷ []))
+
+-- what stands before an instant on its line
+unfoldable pub time_tag : List ℕ
+time_tag = codes "#EXT-X-PROGRAM-DATE-TIME:"

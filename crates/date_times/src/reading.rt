@@ -1,11 +1,11 @@
 //! The instant that a text says.
 ghost use Rattle.std.specs.Prelude.{◌≡◌, ◌+◌, ◌-◌, ◌*◌, ◌^◌, ◌<◌, ◌≤◌, ◌==◌, drop, length, pos, ◌-ℤ◌, ◌+ℤ◌, ◌*ℤ◌, Some, IsTrue, true, false, slice_index, MatchOption};
-ghost use Rattle.std.specs.Option.{ok_or, IfSome};
+ghost use Rattle.std.specs.Option.{ok_or, IfSome, SomeIff};
 ghost use Rattle.jiff_core.specs.Calendar.{IsEpochDay, IsWithin};
 ghost use Rattle.std.specs.List.{prefix_len};
 ghost use Rattle.std.specs.Char.{is_ascii_digit};
-ghost use Rattle.date_times.specs.Instant.{date_field, are_date_digits, has_date_form, is_day, is_date, calendar_day_number, has_clock_form, is_clock, second_fraction_length, is_second_fraction, zone_offset_seconds, zone_offset_of, if_in_range, instant_of, IsDayOf};
-ghost use Rattle.date_times.specs.Inner.Instant.{has_offset_form, zone_offset_minutes};
+ghost use Rattle.date_times.specs.Instant.{date_field, are_date_digits, has_date_form, is_day, is_date, calendar_day_number, is_clock, second_fraction_length, is_second_fraction, zone_offset_seconds, zone_offset_of, if_in_range, instant_of, IsDayOf};
+ghost use Rattle.date_times.specs.Inner.Instant.{has_offset_form, zone_offset_minutes, second_end_of};
 
 use crate::Instant;
 use fixed_duration::{are_duration_digits, nanos_number_of_digits, nanos_of_fraction};
@@ -22,6 +22,9 @@ pub enum TimeFault {
 
 // `YYYY-MM-DD` has this many bytes.
 const DATE_LEN: usize = 10;
+
+// `YYYY-MM-DDThh:mm:ss` has this many bytes.
+const CLOCK_END: usize = 19;
 
 const SECONDS_PER_DAY: i64 = 86_400;
 
@@ -105,15 +108,55 @@ fn instant_on_day(text: &[u8], day: i64) -> Option<Instant>
         return None;
     }
     let clock = clock_seconds_of(text)?;
-    let rest = text.get(19..)?;
-    let len = second_fraction_length(rest);
+    let rest = text.get(CLOCK_END..)?;
+    let (nanos, offset) = second_end_of(rest)?;
+    instant_of_seconds(instant_seconds_from_1970(day, clock, offset), nanos)
+}
+
+// The nanoseconds of a second, and the seconds east of UTC, that stand after a time of day.
+#[inline(always)]
+fn second_end_of(text: &[u8]) -> Option<(u32, i64)>
+    ensures value { result ≡ second_end_of text.now }
+    ensures bound { IfSome result (λ end. (end.0 < 10 ^ 9) × IsWithin 86400 end.1) }
+{
+    // Most texts end so.
+    if let Some(nanos) = nanos_of_milliseconds_in_utc(text) {
+        return Some((nanos, 0));
+    }
+    other_second_end_of(text)
+}
+
+#[tactic(auto, using(crate::proofs::SecondEnds::milliseconds))]
+// The nanoseconds of three decimals, if just these and `Z` stand there.
+#[inline(always)]
+fn nanos_of_milliseconds_in_utc(text: &[u8]) -> Option<u32>
+    ensures { IfSome result
+        (λ nanos. (nanos < 10 ^ 9) × (second_end_of text.now ≡ Some (nanos, pos 0))) }
+{
+    let [b'.', hundreds, tens, ones, b'Z'] = text else {
+        return None;
+    };
+    if !hundreds.is_ascii_digit() || !tens.is_ascii_digit() || !ones.is_ascii_digit() {
+        return None;
+    }
+    let (hundreds, tens, ones) = (*hundreds - b'0', *tens - b'0', *ones - b'0');
+    let milliseconds = u32::from(hundreds) * 100 + u32::from(tens) * 10 + u32::from(ones);
+    Some(milliseconds * 1_000_000)
+}
+
+// The same as `second_end_of`, of any text.
+#[inline(never)]
+fn other_second_end_of(text: &[u8]) -> Option<(u32, i64)>
+    ensures value { result ≡ second_end_of text.now }
+    ensures bound { IfSome result (λ end. (end.0 < 10 ^ 9) × IsWithin 86400 end.1) }
+{
+    let len = second_fraction_length(text);
     if !is_second_fraction(len) {
         return None;
     }
-    let (fraction, zone) = rest.split_at(len);
+    let (fraction, zone) = text.split_at(len);
     let nanos = nanos_of_fraction(second_digits_after_point(fraction));
-    let offset = zone_offset_of(zone)?;
-    instant_of_seconds(instant_seconds_from_1970(day, clock, offset), nanos)
+    Some((nanos, zone_offset_of(zone)?))
 }
 
 fn instant_seconds_from_1970(day: i64, clock: u32, offset: i64) -> i64
@@ -192,14 +235,24 @@ fn date_day_of(text: &[u8]) -> Option<i64>
     )
 }
 
-fn has_clock_form(text: &[u8]) -> bool
-    ensures { result ≡ has_clock_form text.now }
+#[tactic(auto, using(crate::proofs::ClockFields::pair_digits, crate::proofs::ClockFields::pair_value))]
+// The number below a limit that the two digits from a place on write.
+#[inline(always)]
+fn clock_field(text: &[u8], from: usize, limit: u32) -> Option<u32>
+    requires { from + 2 ≤ length text.now }
+    ensures { SomeIff result
+        ((are_date_digits text.now from (from + 2) ≡ true) × (date_field text.now from (from + 2) < limit))
+        (date_field text.now from (from + 2)) }
 {
-    are_date_digits(text, 11, 13)
-        && is_date_mark_at(text, 13, b':')
-        && are_date_digits(text, 14, 16)
-        && is_date_mark_at(text, 16, b':')
-        && are_date_digits(text, 17, 19)
+    let (tens, ones) = (text[from], text[from + 1]);
+    if !tens.is_ascii_digit() || !ones.is_ascii_digit() {
+        return None;
+    }
+    let number = u32::from(tens - b'0') * 10 + u32::from(ones - b'0');
+    if number >= limit {
+        return None;
+    }
+    Some(number)
 }
 
 // The time of day, in seconds.
@@ -208,17 +261,15 @@ fn clock_seconds_of(text: &[u8]) -> Option<u32>
         (λ seconds. (is_clock text.now ≡ true) × (seconds ≡ date_field text.now 11 13 * 3600 + date_field text.now 14 16 * 60 + date_field text.now 17 19)) }
     ensures bound { IfSome result (λ seconds. seconds < 86400) }
 {
-    if !has_clock_form(text) {
+    if text.len() < CLOCK_END {
         return None;
     }
-    let (hour, minute, second) = (
-        date_field(text, 11, 13),
-        date_field(text, 14, 16),
-        date_field(text, 17, 19),
-    );
-    if hour >= 24 || minute >= 60 || second >= 60 {
+    if text[13] != b':' || text[16] != b':' {
         return None;
     }
+    let hour = clock_field(text, 11, 24)?;
+    let minute = clock_field(text, 14, 60)?;
+    let second = clock_field(text, 17, 60)?;
     Some(hour * 3600 + minute * 60 + second)
 }
 

@@ -2,7 +2,8 @@
 ghost use Rattle.std.specs.Prelude.{◌≡◌, ◌++◌, ◌<◌, ◌≤◌, ◌^◌, ◌+◌, ◌-◌, ◌*◌, ◌/◌, [], ◌∷◌, take, OnErr, string_bytes, Some, true};
 ghost use Rattle.date_times.specs.Instant.{is_leap_year, calendar_days_in_month, in_range, instant_of};
 ghost use Rattle.date_times.specs.Digits.{fixed_digits};
-ghost use Rattle.date_times.specs.Times.{instant_from_1900, calendar_days_in_year, year_after_days, month_after_days, decimals, date_at, clock_text, time_text_at, time_text};
+ghost use Rattle.date_times.specs.Times.{instant_from_1900, calendar_days_in_year, year_after_days, month_after_days, decimals, date_at, minute_text, time_tag, time_text_at, time_text};
+ghost use Rattle.spec_words.specs.Bytes.{line_feed};
 ghost use Rattle.fixed_duration.specs.Appended.{Appends};
 
 use crate::{FIRST_INSTANT, Instant};
@@ -10,13 +11,23 @@ use std::alloc::AllocError;
 use std::marker::Model;
 use std::str;
 
-// `YYYY-MM-DDThh:mm:ss.nnnnnnnnnZ` has this many bytes.
-const LONGEST: usize = 30;
+// `#EXT-X-PROGRAM-DATE-TIME:` has this many bytes.
+const TAG: usize = 25;
+
+// The tag with `YYYY-MM-DDThh:mm:ss.nnnnnnnnnZ` and a line feed has this many.
+const LONGEST: usize = 56;
+
+// The tag, and room for what stands after it.
+const EMPTY: [u8; LONGEST] = *b"#EXT-X-PROGRAM-DATE-TIME:0000000000000000000000000000000";
 
 /// The nanoseconds from the first instant to 1970.
 const NANOS_TO_1970: u64 = (-FIRST_INSTANT) as u64;
 
-const NANOS_PER_DAY: u64 = 86_400_000_000_000;
+const NANOS_PER_SECOND: u64 = 1_000_000_000;
+
+const NANOS_PER_MINUTE: u64 = 60_000_000_000;
+
+const MINUTES_PER_DAY: u64 = 1_440;
 
 /// The days from the first of 1900 to the first of 1901.
 const DAYS_TO_1901: u64 = 365;
@@ -33,7 +44,7 @@ static PAIRS: [u8; 200] =
 
 // Writes one character after the first `at` ones.
 fn put_date_mark(text: &mut [u8; LONGEST], at: usize, mark: u8)
-    requires { at < 30 }
+    requires { at < LONGEST }
     ensures { take (at + 1) text.new ≡ take at text.old ++ mark ∷ [] }
 {
     text[at] = mark;
@@ -42,7 +53,7 @@ fn put_date_mark(text: &mut [u8; LONGEST], at: usize, mark: u8)
 // Writes the two digits of a number.
 fn put_two_date_digits(text: &mut [u8; LONGEST], at: usize, number: u64)
     requires small { number < 100 }
-    requires room { at + 2 ≤ 30 }
+    requires room { at + 2 ≤ LONGEST }
     ensures { take (at + 2) text.new ≡ take at text.old ++ fixed_digits 10 2 number }
 {
     let from = number as usize * 2;
@@ -53,7 +64,7 @@ fn put_two_date_digits(text: &mut [u8; LONGEST], at: usize, number: u64)
 // Writes the three digits of a number.
 fn put_three_second_digits(text: &mut [u8; LONGEST], at: usize, number: u64)
     requires small { number < 1000 }
-    requires room { at + 3 ≤ 30 }
+    requires room { at + 3 ≤ LONGEST }
     ensures { take (at + 3) text.new ≡ take at text.old ++ fixed_digits 10 3 number }
 {
     put_date_mark(text, at, b'0' + (number / 100) as u8);
@@ -63,7 +74,7 @@ fn put_three_second_digits(text: &mut [u8; LONGEST], at: usize, number: u64)
 // Writes the four digits of a number.
 fn put_four_year_digits(text: &mut [u8; LONGEST], at: usize, number: u64)
     requires small { number < 10000 }
-    requires room { at + 4 ≤ 30 }
+    requires room { at + 4 ≤ LONGEST }
     ensures { take (at + 4) text.new ≡ take at text.old ++ fixed_digits 10 4 number }
 {
     put_two_date_digits(text, at, number / 100);
@@ -187,57 +198,67 @@ fn instant_from_1900(time: Instant) -> u64
     }
 }
 
+// Writes the date of the day so many days after 1900 after the tag.
 fn put_calendar_date(text: &mut [u8; LONGEST], days: u64)
     requires { days < 2 ^ 40 }
-    ensures { take 10 text.new ≡ date_at days }
+    ensures { take 35 text.new ≡ take 25 text.old ++ date_at days }
 {
     let (year, rest) = year_of_days(days);
     let (month, day) = month_of_days(year, rest);
-    put_four_year_digits(text, 0, year);
-    put_date_mark(text, 4, b'-');
-    put_two_date_digits(text, 5, month);
-    put_date_mark(text, 7, b'-');
-    put_two_date_digits(text, 8, (day + 1) % 100);
+    put_four_year_digits(text, TAG, year);
+    put_date_mark(text, 29, b'-');
+    put_two_date_digits(text, 30, month);
+    put_date_mark(text, 32, b'-');
+    put_two_date_digits(text, 33, (day + 1) % 100);
 }
 
-fn put_clock_time(text: &mut [u8; LONGEST], seconds: u64)
-    requires { seconds < 86400 }
-    ensures { take 19 text.new ≡ take 11 text.old ++ clock_text seconds [] }
+// Writes what stands before the seconds of the minute so many minutes after 1900, after the tag.
+fn put_minute(text: &mut [u8; LONGEST], minute: u64)
+    requires days { minute < 2 ^ 40 }
+    requires tag { take 25 text.old ≡ time_tag }
+    ensures { take 42 text.new ≡ time_tag ++ minute_text minute }
 {
-    put_two_date_digits(text, 11, seconds / 3600);
-    put_date_mark(text, 13, b':');
-    put_two_date_digits(text, 14, seconds / 60 % 60);
-    put_date_mark(text, 16, b':');
-    put_two_date_digits(text, 17, seconds % 60);
+    put_calendar_date(text, minute / MINUTES_PER_DAY);
+    put_date_mark(text, 35, b'T');
+    put_two_date_digits(text, 36, minute % MINUTES_PER_DAY / 60);
+    put_date_mark(text, 38, b':');
+    put_two_date_digits(text, 39, minute % 60);
+    put_date_mark(text, 41, b':');
 }
 
 // Writes the decimals, and returns where they end.
 fn put_second_decimals(text: &mut [u8; LONGEST], nanos: u64) -> usize
     requires { nanos < 1000000000 }
-    ensures text { take result text.new ≡ take 20 text.old ++ decimals nanos }
-    ensures room { result < 30 }
+    ensures text { take result text.new ≡ take 45 text.old ++ decimals nanos }
+    ensures start { 48 ≤ result }
+    ensures room { result < 55 }
 {
     if nanos % 1_000_000 == 0 {
-        put_three_second_digits(text, 20, nanos / 1_000_000);
-        return 23;
+        put_three_second_digits(text, 45, nanos / 1_000_000);
+        return 48;
     }
-    put_three_second_digits(text, 20, nanos / 1_000_000);
-    put_three_second_digits(text, 23, nanos / 1000 % 1000);
-    put_three_second_digits(text, 26, nanos % 1000);
-    29
+    put_three_second_digits(text, 45, nanos / 1_000_000);
+    put_three_second_digits(text, 48, nanos / 1000 % 1000);
+    put_three_second_digits(text, 51, nanos % 1000);
+    54
 }
 
-// Writes what stands after the date of the instant so many nanoseconds after 1900, and returns where it ends.
-fn put_clock_after_date(text: &mut [u8; LONGEST], nanos: u64) -> usize
-    requires { take 10 text.old ≡ date_at (nanos / 86400000000000) }
-    ensures text { take result text.new ≡ time_text_at nanos }
-    ensures room { result ≤ 30 }
+// Writes what stands after the minute of the instant so many nanoseconds after 1900, with a line feed. Returns where the line feed
+// stands.
+fn put_seconds_after_minute(text: &mut [u8; LONGEST], nanos: u64) -> usize
+    requires { take 42 text.old ≡ time_tag ++ minute_text (nanos / 60000000000) }
+    ensures text { take result text.new ≡ time_tag ++ time_text_at nanos }
+    ensures line { take (result + 1) text.new ≡ time_tag ++ (time_text_at nanos ++ line_feed ∷ []) }
+    ensures start { 25 ≤ result }
+    ensures room { result < 56 }
+    ensures minute { take 42 text.new ≡ take 42 text.old }
 {
-    put_date_mark(text, 10, b'T');
-    put_clock_time(text, nanos / 1_000_000_000 % 86_400);
-    put_date_mark(text, 19, b'.');
-    let end = put_second_decimals(text, nanos % 1_000_000_000);
+    let within = nanos % NANOS_PER_MINUTE;
+    put_two_date_digits(text, 42, within / NANOS_PER_SECOND);
+    put_date_mark(text, 44, b'.');
+    let end = put_second_decimals(text, within % NANOS_PER_SECOND);
     put_date_mark(text, end, b'Z');
+    put_date_mark(text, end + 1, b'\n');
     end + 1
 }
 
@@ -254,43 +275,53 @@ pub fn write_instant(instant: Instant, out: &mut String) -> Result<(), AllocErro
     TimeWriter::new().write(instant, out)
 }
 
-/// Writes instants one after the other, of which most lie on the day of the one before: the date of that day is kept.
+// Writes the line of an instant over that of another in this minute, and returns where its line feed stands. What stands before the
+// seconds is written if the instant lies in another minute.
+#[inline(always)]
+fn put_instant(text: &mut [u8; LONGEST], minute: &mut u64, instant: Instant) -> usize
+    requires { take 42 text.old ≡ time_tag ++ minute_text minute.old }
+    ensures text { take result text.new ≡ time_tag ++ time_text instant }
+    ensures line { take (result + 1) text.new ≡ time_tag ++ (time_text instant ++ line_feed ∷ []) }
+    ensures start { 25 ≤ result }
+    ensures room { result < 56 }
+    ensures minute { take 42 text.new ≡ time_tag ++ minute_text minute.new }
+{
+    let since = instant_from_1900(instant);
+    let now = since / NANOS_PER_MINUTE;
+    if now != *minute {
+        put_minute(text, now);
+        *minute = now;
+    }
+    put_seconds_after_minute(text, since)
+}
+
+/// Writes instants one after the other, of which most lie in the minute of the one before: what stands before its seconds is kept.
 #[derive(Drop)]
 pub struct TimeWriter {
-    days: u64,
-    date: [u8; LONGEST],
+    // The minutes from the first of 1900 to that minute.
+    minute: u64,
+    // The line of its tag.
+    text: [u8; LONGEST],
 }
 
 impl Model for TimeWriter {
-    ghost use Rattle.std.specs.Prelude.{◌≡◌, take};
-    ghost use Rattle.date_times.specs.Times.{date_at};
+    ghost use Rattle.std.specs.Prelude.{◌≡◌, ◌++◌, take};
+    ghost use Rattle.date_times.specs.Times.{minute_text, time_tag};
 
     ghost Value = { Unit {0} };
 
     ghost view = { λ _. tt };
 
-    ghost invariant = { λ a. take 10 a.date ≡ date_at a.days };
+    ghost invariant = { λ a. take 42 a.text ≡ time_tag ++ minute_text a.minute };
 }
 
 impl TimeWriter {
+    #[tactic(auto, unfolding(crate::specs::Times::time_tag))]
     /// It has written nothing yet.
     pub fn new() -> TimeWriter {
-        let mut date = [b'0'; LONGEST];
-        put_calendar_date(&mut date, 0);
-        TimeWriter { days: 0, date }
-    }
-
-    // The date of a day so many days after the first of 1900, with room for what stands after it.
-    fn date_of(&mut self, days: u64) -> [u8; LONGEST]
-        requires { days < 2 ^ 40 }
-        ensures { take 10 result ≡ date_at days }
-    {
-        if days == self.days {
-            return self.date;
-        }
-        put_calendar_date(&mut self.date, days);
-        self.days = days;
-        self.date
+        let mut text = EMPTY;
+        put_minute(&mut text, 0);
+        TimeWriter { minute: 0, text }
     }
 
     /// Appends `instant` to `out`, as [`write_instant`] does (RFC 8216, section 4.3.2.6). After a failed allocation
@@ -299,11 +330,21 @@ impl TimeWriter {
         ensures text { Appends result out.old out.new (time_text instant) }
         ensures err { OnErr result (string_bytes out.new ≡ string_bytes out.old) }
     {
-        let since = instant_from_1900(instant);
-        let mut bytes = self.date_of(since / NANOS_PER_DAY);
-        let end = put_clock_after_date(&mut bytes, since);
+        let end = put_instant(&mut self.text, &mut self.minute, instant);
         // What is written is ASCII.
-        let time = unsafe { str::from_utf8_unchecked(&bytes[..end]) };
+        let time = unsafe { str::from_utf8_unchecked(&self.text[TAG..end]) };
         out.push_str(time)
+    }
+
+    /// Appends to `out` the tag of `instant`, EXT-X-PROGRAM-DATE-TIME, and a line feed (RFC 8216, section 4.3.2.6). After a
+    /// failed allocation `out` is as it was.
+    pub fn write_line(&mut self, instant: Instant, out: &mut String) -> Result<(), AllocError>
+        ensures text { Appends result out.old out.new (time_tag ++ (time_text instant ++ line_feed ∷ [])) }
+        ensures err { OnErr result (string_bytes out.new ≡ string_bytes out.old) }
+    {
+        let end = put_instant(&mut self.text, &mut self.minute, instant);
+        // What is written is ASCII.
+        let line = unsafe { str::from_utf8_unchecked(&self.text[..end + 1]) };
+        out.push_str(line)
     }
 }

@@ -6,7 +6,7 @@ use Rattle.std.proofs.lemmas.Option.{slice_get_within, get_or_from_slice_get}
 use Rattle.playlist_model.specs.declared.Key.{Key}
 use Rattle.playlist_model.specs.declared.InitSection.{InitSection}
 use Rattle.playlist_model.specs.declared.in_common.InCommon.{InCommon}
-use Rattle.playlist_model.specs.declared.segments.Standing.{Standing}
+use Rattle.playlist_model.specs.declared.standings.Standing.{Standing}
 use Rattle.playlist_model.specs.EffectiveKeys.{effective_key}
 use Rattle.playlist_model.specs.InCommon.{IsInCommon}
 use Rattle.playlist_model.specs.Rows.{AreCompared, IsComparedWithLast, IsLastOf, no_standing, row_standing}

@@ -14,3 +14,4 @@ pub mod InCommons
 pub mod SameInCommon
 pub mod ComparedRows
 pub mod Rows
+pub mod JoinedTexts

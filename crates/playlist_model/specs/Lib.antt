@@ -12,7 +12,6 @@ pub mod Laws
 pub mod FaultTexts
 pub mod Same
 pub mod Numbering
-pub mod ShortTexts
 pub mod Members
 pub mod Segments
 pub mod InCommon

@@ -1,55 +1,64 @@
 -- What the rows of a list mean by its tables.
-use Rattle.std.specs.Prelude.{◌≡◌, ℕ, zero, suc, ◌+◌, string_bytes, ◌<◌, ◌≤◌, ◌-◌, List, [], Option, Some, None, map, get_or, length, slice_range}
+use Rattle.std.specs.Prelude.{◌≡◌, ℕ, zero, suc, ◌+◌, ◌++◌, ◌^◌, string_bytes, ◌<◌, ◌≤◌, ◌-◌, List, [], Option, Some, None, map, get_or, length, slice_range}
 use Rattle.std.specs.List.{slice_get}
 use Rattle.std.specs.Str.{IsUtf8}
 use Rattle.playlist_model.specs.declared.Key.{Key}
-use Rattle.playlist_model.specs.declared.ByteRange.{ByteRange}
 use Rattle.playlist_model.specs.declared.InitSection.{InitSection}
 use Rattle.playlist_model.specs.EffectiveKeys.{effective_key}
 use Rattle.playlist_model.specs.Segments.{Segment}
 use Rattle.playlist_model.specs.declared.in_common.InCommon.{InCommon}
 use Rattle.playlist_model.specs.InCommon.{AreSameAt, IsInCommon, init_section_keys, nothing_in_common}
+use Rattle.playlist_model.specs.declared.places.Extra.{Extra}
 use Rattle.playlist_model.specs.declared.places.Place.{Place}
-use Rattle.playlist_model.specs.declared.segments.Standing.{Standing}
+use Rattle.playlist_model.specs.declared.standings.Standing.{Standing}
 use Rattle.playlist_model.specs.declared.segments.Tables.{Tables}
 use Rattle.playlist_model.specs.declared.segments.Row.{Row}
 
 -- what stands past the end
 abbrev pub no_standing : Standing
-no_standing = record { discontinuities = 0; keys = []; init_section = None; in_common = nothing_in_common; whole = nothing_in_common }
+no_standing = record { numbers = record { media_sequence = 0; discontinuity_sequence = 0; discontinuities = 0 }; uri_front = record { from = 0; to = 0 }; keys = []; init_section = None; in_common = nothing_in_common; whole = nothing_in_common }
 
 abbrev pub segment_text_at : List ℕ → Place → List ℕ
 segment_text_at texts place = slice_range texts place.from place.to
 
-abbrev pub no_range : ByteRange
-no_range = record { length = 0; offset = 0 }
+-- what a segment has of that which few have, if it is one of the others
+abbrev pub no_extra : Extra
+no_extra = record { byte_range = None; program_date_time = None }
 
--- places of byte ranges are counted from 1
-abbrev pub range_at : List ByteRange → ℕ → Option ByteRange
-range_at byte_ranges zero = None
-range_at byte_ranges (suc place) = Some (get_or byte_ranges place no_range)
+-- places of extras are counted from 1
+abbrev pub extra_at : List Extra → ℕ → Extra
+extra_at extras zero = no_extra
+extra_at extras (suc place) = get_or extras place no_extra
+
+-- the title of a row lies after the rest of its URI
+abbrev pub title_place : Row → Place
+title_place row = record { from = row.uri_rest.to; to = row.title_end }
 
 abbrev pub row_standing : List Standing → ℕ → Standing
 row_standing standings place = get_or standings place no_standing
 
+-- the Media Sequence Number of a row over which this stands
+abbrev pub row_number : Standing → Row → ℕ
+row_number standing row = standing.numbers.media_sequence + row.number
+
 -- the segment of a row over which this stands
-abbrev pub row_segment_over : List ℕ → List ByteRange → Standing → Row → Segment
-row_segment_over texts byte_ranges standing row = record {
-  media_sequence = row.media_sequence;
-  discontinuity_sequence = row.discontinuity_sequence;
-  discontinuities = standing.discontinuities;
-  uri = segment_text_at texts row.uri;
-  byte_range = range_at byte_ranges row.byte_range;
-  keys = map (effective_key row.media_sequence) standing.keys;
+abbrev pub row_segment_over : List ℕ → List Extra → Standing → Row → Segment
+row_segment_over texts extras standing row = record {
+  media_sequence = row_number standing row;
+  discontinuity_sequence = standing.numbers.discontinuity_sequence;
+  discontinuities = standing.numbers.discontinuities;
+  uri = segment_text_at texts standing.uri_front ++ segment_text_at texts row.uri_rest;
+  byte_range = (extra_at extras row.extra).byte_range;
+  keys = map (effective_key (row_number standing row)) standing.keys;
   init_section = standing.init_section;
   duration = row.duration;
-  title = segment_text_at texts row.title;
-  program_date_time = row.program_date_time;
+  title = segment_text_at texts (title_place row);
+  program_date_time = (extra_at extras row.extra).program_date_time;
 }
 
 -- the segment of a row
 abbrev pub row_segment : Tables → Row → Segment
-row_segment tables row = row_segment_over (string_bytes tables.texts) tables.byte_ranges.items (row_standing tables.standings.items row.standing) row
+row_segment tables row = row_segment_over (string_bytes tables.texts) tables.extras.items (row_standing tables.standings.items row.standing) row
 
 abbrev pub row_segments : Tables → List Row → List Segment
 row_segments tables rows = map (row_segment tables) rows
@@ -60,17 +69,19 @@ pub record HasText (texts : List ℕ) (place : Place) : Type 0 where
   pub within : place.to ≤ length texts
   pub utf8 : IsUtf8 (segment_text_at texts place)
 
--- a byte range lies there, if it is a place of one
-abbrev pub HasRange : List ByteRange → ℕ → Type 0
-HasRange byte_ranges zero = Unit {0}
-HasRange byte_ranges (suc place) = place < length byte_ranges
+-- what few segments have lies there, if it is a place of that
+abbrev pub HasExtra : List Extra → ℕ → Type 0
+HasExtra extras zero = Unit {0}
+HasExtra extras (suc place) = place < length extras
 
 -- all that a row points to is there
 pub record Fits (tables : Tables) (row : Row) : Type 0 where
-  pub uri : HasText (string_bytes tables.texts) row.uri
-  pub title : HasText (string_bytes tables.texts) row.title
-  pub byte_range : HasRange tables.byte_ranges.items row.byte_range
+  pub uri_front : HasText (string_bytes tables.texts) (row_standing tables.standings.items row.standing).uri_front
+  pub uri_rest : HasText (string_bytes tables.texts) row.uri_rest
+  pub title : HasText (string_bytes tables.texts) (title_place row)
+  pub extra : HasExtra tables.extras.items row.extra
   pub standing : row.standing < length tables.standings.items
+  pub number : row_number (row_standing tables.standings.items row.standing) row < 2 ^ 64
 
 -- the last of these has these keys and this initialisation section
 pub record IsLastOf (standings : List Standing) (keys : List Key) (init_section : Option InitSection) : Type 0 where

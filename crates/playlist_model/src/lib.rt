@@ -23,8 +23,9 @@ mod other_attributes;
 mod places;
 mod same;
 mod segments;
-mod short_text;
+mod standings;
 mod uri;
+mod uri_ref;
 
 pub use date_times::{Instant, TimeFault, read_instant, write_instant};
 pub use fault::FaultText;
@@ -39,8 +40,8 @@ pub use same::{
     is_same_key, is_same_key_in_common, same_segment,
 };
 pub use segments::{GrowingSegments, SegmentParts, SegmentRef, SegmentSlice, Segments};
-pub use short_text::ShortText;
 pub use uri::{has_quote, has_scheme, same_resource};
+pub use uri_ref::UriRef;
 
 /// Why a text is no playlist that can be read.
 #[derive(Clone, Copy, PartialEq, Eq, Debug)]

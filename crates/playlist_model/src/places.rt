@@ -1,9 +1,10 @@
-//! Texts and byte ranges of a list of segments, which hold them together: each is put after the others, and found by its place.
-ghost use Rattle.std.specs.Prelude.{◌≡◌, ◌++◌, Some, IfOk, string_bytes};
-ghost use Rattle.playlist_model.specs.Rows.{HasRange, HasText, segment_text_at, range_at};
+//! Texts of a list of segments, and what few of these have. The list holds them together: each is put after the others, and
+//! found by its place.
+ghost use Rattle.std.specs.Prelude.{◌≡◌, ◌++◌, true, IfOk, OnOk, OnErr, string_bytes, length};
+ghost use Rattle.playlist_model.specs.Rows.{HasExtra, HasText, extra_at, segment_text_at};
 ghost use Rattle.playlist_model.specs.Inner.Rows.{Grows};
 
-use crate::ByteRange;
+use crate::{ByteRange, Instant};
 use std::alloc::AllocError;
 
 /// Where a text lies among those of a list.
@@ -13,6 +14,16 @@ pub(crate) struct Place {
     pub from: u32,
     /// The place after its last byte.
     pub to: u32,
+}
+
+impl Place {
+    /// Whether it is `other`.
+    #[inline(always)]
+    pub fn is(self, other: Place) -> bool
+        ensures { result ≡ true → self ≡ other }
+    {
+        self.from == other.from && self.to == other.to
+    }
 }
 
 /// The `number` as a place. Fails if it has more than 32 bits.
@@ -25,39 +36,54 @@ pub(crate) fn segment_text_place(number: usize) -> Result<u32, AllocError>
     }
 }
 
-#[tactic(auto, using(crate::proofs::Rows::text_put))]
-/// Puts the text of the two parts `front` and `rest` after the `texts` of a list. Fails if an allocation fails, or the texts have
-/// 2^32 bytes or more.
+// Appends a text, unless it is empty: the rest of a part's URI is, since all of that URI is shared.
 #[inline(always)]
-pub(crate) fn put_segment_text(
-    texts: &mut String,
-    front: &str,
-    rest: &str,
-) -> Result<Place, AllocError>
+fn append_segment_text(texts: &mut String, text: &str) -> Result<(), AllocError>
+    ensures appended { OnOk result (string_bytes texts.new ≡ string_bytes texts.old ++ text.now) }
+    ensures refused { OnErr result (string_bytes texts.new ≡ string_bytes texts.old) }
+{
+    if text.is_empty() {
+        return Ok(());
+    }
+    texts.push_str(text)
+}
+
+#[tactic(auto, using(crate::proofs::Rows::text_put))]
+/// Puts `text` after the `texts` of a list. Fails if an allocation fails, or the texts have 2^32 bytes or more.
+#[inline(always)]
+pub(crate) fn put_segment_text(texts: &mut String, text: &str) -> Result<Place, AllocError>
     ensures grows { Grows (string_bytes texts.old) (string_bytes texts.new) }
     ensures there { IfOk result
         (λ place. HasText (string_bytes texts.new) place
-        × (segment_text_at (string_bytes texts.new) place ≡ front.now ++ rest.now)) }
+        × (segment_text_at (string_bytes texts.new) place ≡ text.now)
+        × (place.from ≡ length (string_bytes texts.old))
+        × (place.to ≡ length (string_bytes texts.new))) }
 {
     let from = segment_text_place(texts.len())?;
-    texts.push_str(front)?;
-    texts.push_str(rest)?;
+    append_segment_text(texts, text)?;
     let to = segment_text_place(texts.len())?;
     Ok(Place { from, to })
 }
 
-/// Puts `title` after the `texts` of a list, unless it is empty, as most are. Fails as `put_segment_text` does.
+/// Puts `title` after `uri`, the last of the `texts` of a list, and answers the place after it. Fails as `put_segment_text` does.
 #[inline(always)]
-pub(crate) fn put_segment_title(texts: &mut String, title: &str) -> Result<Place, AllocError>
+pub(crate) fn put_segment_title(
+    texts: &mut String,
+    uri: Place,
+    title: &str,
+) -> Result<u32, AllocError>
+    requires { uri.to ≡ length (string_bytes texts.old) }
     ensures grows { Grows (string_bytes texts.old) (string_bytes texts.new) }
     ensures there { IfOk result
-        (λ place. HasText (string_bytes texts.new) place
-        × (segment_text_at (string_bytes texts.new) place ≡ title.now)) }
+        (λ end. HasText (string_bytes texts.new) (record { from = uri.to; to = end })
+        × (segment_text_at (string_bytes texts.new) (record { from = uri.to; to = end }) ≡ title.now)) }
 {
+    // Most segments have none.
     if title.is_empty() {
-        return Ok(Place { from: 0, to: 0 });
+        return Ok(uri.to);
     }
-    put_segment_text(texts, title, "")
+    let place = put_segment_text(texts, title)?;
+    Ok(place.to)
 }
 
 /// The text at `place` among the `texts` of a list.
@@ -71,35 +97,80 @@ pub(crate) fn segment_text_at(texts: &str, place: Place) -> &str
     unsafe { str::from_utf8_unchecked(bytes) }
 }
 
-/// Puts `byte_range`, if there is one, after the `byte_ranges` of a list, and answers its place there, from 1; 0 if there is none.
-/// Fails if an allocation fails, or they are 2^32 or more.
+#[tactic(auto, using(crate::proofs::Rows::text_is_at))]
+/// Whether `text` lies at `place` among the `texts` of a list.
 #[inline(always)]
-pub(crate) fn put_segment_byte_range(
-    byte_ranges: &mut Vec<ByteRange>,
-    byte_range: Option<ByteRange>,
-) -> Result<u32, AllocError>
-    ensures grows { Grows byte_ranges.old.items byte_ranges.new.items }
-    ensures there { IfOk result
-        (λ place. HasRange byte_ranges.new.items place
-        × (range_at byte_ranges.new.items place ≡ byte_range)) }
+pub(crate) fn is_segment_text_at(texts: &str, place: Place, text: &str) -> bool
+    ensures { result ≡ true
+        → HasText texts.now place × (segment_text_at texts.now place ≡ text.now) }
 {
-    match byte_range {
-        Some(byte_range) => push_segment_byte_range(byte_ranges, byte_range),
-        None => Ok(0),
+    let found = texts.as_bytes().get(place.from as usize..place.to as usize);
+    match found {
+        Some(bytes) => bytes == text.as_bytes(),
+        None => false,
     }
 }
 
-#[tactic(auto, using(crate::proofs::Rows::range_put))]
-#[inline(never)]
-fn push_segment_byte_range(
-    byte_ranges: &mut Vec<ByteRange>,
-    byte_range: ByteRange,
+/// What few segments have.
+#[derive(Clone, Copy)]
+pub(crate) struct Extra {
+    /// The part of the resource, if it isn't the whole.
+    pub byte_range: Option<ByteRange>,
+    /// When the first sample is, if that is stated.
+    pub program_date_time: Option<Instant>,
+}
+
+/// Puts what few segments have after the `extras` of a list, if the segment of this `byte_range` and this `program_date_time` has
+/// any of it. Answers its place there, from 1; 0 if it has nothing of that. Fails if an allocation fails, or they are 2^32 or more.
+#[inline(always)]
+pub(crate) fn put_segment_extra(
+    extras: &mut Vec<Extra>,
+    byte_range: Option<ByteRange>,
+    program_date_time: Option<Instant>,
 ) -> Result<u32, AllocError>
-    ensures grows { Grows byte_ranges.old.items byte_ranges.new.items }
+    ensures grows { Grows extras.old.items extras.new.items }
     ensures there { IfOk result
-        (λ place. HasRange byte_ranges.new.items place
-        × (range_at byte_ranges.new.items place ≡ Some byte_range)) }
+        (λ place. HasExtra extras.new.items place
+        × (extra_at extras.new.items place
+        ≡ record { byte_range = byte_range; program_date_time = program_date_time })) }
 {
-    byte_ranges.push(byte_range)?;
-    segment_text_place(byte_ranges.len())
+    if byte_range.is_none() && program_date_time.is_none() {
+        return Ok(0);
+    }
+    push_segment_extra(extras, byte_range, program_date_time)
+}
+
+#[tactic(auto, using(crate::proofs::Rows::extra_put))]
+#[inline(never)]
+fn push_segment_extra(
+    extras: &mut Vec<Extra>,
+    byte_range: Option<ByteRange>,
+    program_date_time: Option<Instant>,
+) -> Result<u32, AllocError>
+    ensures grows { Grows extras.old.items extras.new.items }
+    ensures there { IfOk result
+        (λ place. HasExtra extras.new.items place
+        × (extra_at extras.new.items place
+        ≡ record { byte_range = byte_range; program_date_time = program_date_time })) }
+{
+    extras.push(Extra {
+        byte_range,
+        program_date_time,
+    })?;
+    segment_text_place(extras.len())
+}
+
+/// What stands at `place` of the `extras` of a list, from 1; nothing at 0.
+#[inline(always)]
+pub(crate) fn segment_extra_at(extras: &[Extra], place: u32) -> Extra
+    requires { HasExtra extras.now place }
+    ensures { result ≡ extra_at extras.now place }
+{
+    if place == 0 {
+        return Extra {
+            byte_range: None,
+            program_date_time: None,
+        };
+    }
+    extras[(place - 1) as usize]
 }

@@ -4,53 +4,45 @@ ghost use Rattle.std.specs.List.{AllByRecursion};
 ghost use Rattle.std.specs.Str.{is_utf8};
 ghost use Rattle.playlist_model.specs.InCommon.{AreSameAt, HaveInCommon, IsInCommon, init_section_keys};
 ghost use Rattle.playlist_model.specs.Segments.{Segment, segment_under};
-ghost use Rattle.playlist_model.specs.Rows.{AreCompared, Fits, IsComparedWithLast, IsLastOf, row_segment};
-ghost use Rattle.playlist_model.specs.Inner.Rows.{AreInForceOf, Extends, Grows, LastOwnKeys, StandsAt};
+ghost use Rattle.playlist_model.specs.Rows.{AreCompared, Fits, IsComparedWithLast, IsLastOf, row_segment, title_place};
+ghost use Rattle.playlist_model.specs.Inner.Rows.{AreInForceOf, Extends};
 
 use crate::places::{
-    Place, put_segment_byte_range, put_segment_text, put_segment_title, segment_text_at,
-    segment_text_place,
+    Extra, Place, put_segment_extra, put_segment_text, put_segment_title, segment_extra_at,
+    segment_text_at,
 };
+use crate::standings::{
+    SegmentNumbers, Standing, is_next_standing, last_own_keys, put_segment_standing, put_uri_front,
+};
+use crate::uri_ref::UriRef;
 use crate::{ByteRange, InCommon, InitSection, KeyPlaces, Keys, KeysRef, Shared};
 use date_times::Instant;
 use fixed_duration::Nanos;
 use std::alloc::{AllocError, Global};
 use std::marker::Model;
 
-// What stands over segments until a tag changes it.
-#[derive(Drop)]
-struct Standing {
-    discontinuities: u64,
-    // The keys as their tags state them.
-    keys: Keys,
-    init_section: Option<Shared<InitSection>>,
-    // What these have in common with what stood before.
-    in_common: InCommon,
-    // What segments have in common over which these stand.
-    whole: InCommon,
-}
-
 // What the rows of a list point to.
 #[derive(Drop)]
 struct Tables {
-    // The URIs and the titles, one after the other.
+    // The rests of the URIs, each with its title after it, and the fronts of them.
     texts: String,
-    byte_ranges: Vec<ByteRange>,
+    extras: Vec<Extra>,
     standings: Vec<Standing>,
 }
 
-// A segment of a list.
+// A segment of a list, in 32 bytes.
 #[derive(Clone, Copy)]
 struct Row {
-    media_sequence: u64,
-    discontinuity_sequence: u64,
     duration: Nanos,
-    uri: Place,
-    title: Place,
+    // What comes after the front of its URI, which is with its standing.
+    uri_rest: Place,
+    // The place after its title, which lies after that.
+    title_end: u32,
     standing: u32,
-    // The place of its byte range, from 1; 0 if it has none.
-    byte_range: u32,
-    program_date_time: Option<Instant>,
+    // Its Media Sequence Number, counted from that of its standing.
+    number: u32,
+    // The place of what it has that few segments have, from 1; 0 if it has nothing of that.
+    extra: u32,
 }
 
 /// What a segment has of its own: all but the keys and the initialisation section in force (RFC 8216, section 4.3.2).
@@ -62,7 +54,7 @@ pub struct SegmentParts<'a> {
     pub discontinuity_sequence: u64,
     /// How many EXT-X-DISCONTINUITY stand between it and the segment before.
     pub discontinuities: u64,
-    /// The front of its resource, an absolute URI.
+    /// The front of its resource, an absolute URI. It takes no memory if it is that of the segment before.
     pub uri_front: &'a str,
     /// The rest of that URI.
     pub uri_rest: &'a str,
@@ -76,75 +68,16 @@ pub struct SegmentParts<'a> {
     pub program_date_time: Option<Instant>,
 }
 
-// The place of the last of these, if so many discontinuities stand before its segments.
+// The front of a URI that many may share, and the rest. A URI that comes whole shares none, except that of a part of its resource,
+// since the next part is mostly one of it too.
 #[inline(always)]
-fn last_standing_place(standings: &[Standing], discontinuities: u64) -> Option<usize>
-    ensures { MatchOption result (Unit {0})
-        (λ place. (last : Standing) × (slice_get standings.now place ≡ Some last)
-        × (place + 1 ≡ length standings.now)
-        × (last.discontinuities ≡ discontinuities)) }
+fn uri_parts<'a>(parts: &SegmentParts<'a>) -> (&'a str, &'a str)
+    ensures { result.0.now ++ result.1.now ≡ parts.now.uri_front.now ++ parts.now.uri_rest.now }
 {
-    let place = standings.len().checked_sub(1)?;
-    let last = &standings[place];
-    if last.discontinuities != discontinuities {
-        return None;
+    if parts.uri_rest.is_empty() && parts.byte_range.is_none() {
+        return ("", parts.uri_front);
     }
-    Some(place)
-}
-
-// The place of what stands over the next segment. It is put after the others, unless the last of them is it: `is_listed` says
-// that this one has the keys and the initialisation section.
-#[inline(always)]
-fn put_segment_standing(
-    standings: &mut Vec<Standing>,
-    is_listed: bool,
-    discontinuities: u64,
-    keys: &Keys,
-    init_section: &Option<Shared<InitSection>>,
-    in_common: InCommon,
-) -> Result<u32, AllocError>
-    requires listed { is_listed ≡ true → IsLastOf standings.old.items keys.now init_section.now }
-    requires common { AreCompared standings.old.items }
-    requires last { IsComparedWithLast standings.old.items in_common keys.now init_section.now }
-    ensures grows { Grows standings.old.items standings.new.items }
-    ensures there { IfOk result (StandsAt standings.new.items discontinuities keys.now init_section.now) }
-    ensures common { AreCompared standings.new.items }
-    ensures last { OnOk result (IsLastOf standings.new.items keys.now init_section.now) }
-    ensures refused { OnErr result (standings.new.items ≡ standings.old.items) }
-{
-    if is_listed {
-        if let Some(place) = last_standing_place(standings.as_slice(), discontinuities) {
-            return segment_text_place(place);
-        }
-    }
-    push_segment_standing(standings, discontinuities, keys, init_section, in_common)
-}
-
-#[inline(never)]
-fn push_segment_standing(
-    standings: &mut Vec<Standing>,
-    discontinuities: u64,
-    keys: &Keys,
-    init_section: &Option<Shared<InitSection>>,
-    in_common: InCommon,
-) -> Result<u32, AllocError>
-    requires common { AreCompared standings.old.items }
-    requires last { IsComparedWithLast standings.old.items in_common keys.now init_section.now }
-    ensures grows { Grows standings.old.items standings.new.items }
-    ensures there { IfOk result (StandsAt standings.new.items discontinuities keys.now init_section.now) }
-    ensures common { AreCompared standings.new.items }
-    ensures last { OnOk result (IsLastOf standings.new.items keys.now init_section.now) }
-    ensures refused { OnErr result (standings.new.items ≡ standings.old.items) }
-{
-    let place = segment_text_place(standings.len())?;
-    standings.push(Standing {
-        discontinuities,
-        keys: keys.clone()?,
-        init_section: init_section.clone()?,
-        in_common,
-        whole: InCommon::whole(in_common.own_keys, init_section.is_some()),
-    })?;
-    Ok(place)
+    (parts.uri_front, parts.uri_rest)
 }
 
 // Puts the row of the next segment after the others, and into the tables all that it points to. `is_listed` says that the last
@@ -172,52 +105,47 @@ fn push_segment_row(
     ensures still { OnErr result (tables.new.standings.items ≡ tables.old.standings.items) }
 {
     rows.reserve(1)?;
-    let byte_range = put_segment_byte_range(&mut tables.byte_ranges, parts.byte_range)?;
-    let title = put_segment_title(&mut tables.texts, parts.title)?;
-    let uri = put_segment_text(&mut tables.texts, parts.uri_front, parts.uri_rest)?;
+    let extra = put_segment_extra(
+        &mut tables.extras,
+        parts.byte_range,
+        parts.program_date_time,
+    )?;
+    let (front, rest) = uri_parts(parts);
+    let uri_front = put_uri_front(&mut tables.texts, tables.standings.as_slice(), front)?;
+    let uri_rest = put_segment_text(&mut tables.texts, rest)?;
+    let title_end = put_segment_title(&mut tables.texts, uri_rest, parts.title)?;
     // The standing comes last: if an allocation fails, the last one is as it was.
-    let standing = put_segment_standing(
+    let (standing, number) = put_segment_standing(
         &mut tables.standings,
         is_listed,
-        parts.discontinuities,
         keys,
         init_section,
         in_common,
+        SegmentNumbers {
+            media_sequence: parts.media_sequence,
+            discontinuity_sequence: parts.discontinuity_sequence,
+            discontinuities: parts.discontinuities,
+        },
+        uri_front,
     )?;
     rows.push_reserved(Row {
-        media_sequence: parts.media_sequence,
-        discontinuity_sequence: parts.discontinuity_sequence,
         duration: parts.duration,
-        uri,
-        title,
+        uri_rest,
+        title_end,
         standing,
-        byte_range,
-        program_date_time: parts.program_date_time,
+        number,
+        extra,
     });
     Ok(())
 }
 
-// The places at which the last of these has its keys in its initialisation section too; none if it has no such section.
-fn last_own_keys(standings: &[Standing]) -> KeyPlaces
-    requires { AreCompared standings.now }
-    ensures { LastOwnKeys standings.now result }
+// The place of the title of a row.
+fn title_place(row: &Row) -> Place
+    ensures { result ≡ title_place row.now }
 {
-    let Some((last, _)) = standings.split_last() else {
-        return KeyPlaces::none();
-    };
-    if last.init_section.is_none() {
-        return KeyPlaces::none();
-    }
-    last.whole.own_keys
-}
-
-// Whether this place of a standing comes directly after the other, if that one is known.
-fn is_next_standing(last: Option<u32>, place: u32) -> bool
-    ensures { result ≡ true → (before : ℕ) × (last ≡ Some before) × (before + 1 ≡ place) }
-{
-    match last {
-        Some(last) => u64::from(last) + 1 == u64::from(place),
-        None => false,
+    Place {
+        from: row.uri_rest.to,
+        to: row.title_end,
     }
 }
 
@@ -334,7 +262,7 @@ impl GrowingSegments {
         GrowingSegments {
             tables: Tables {
                 texts: String::new(alloc),
-                byte_ranges: Vec::new(alloc),
+                extras: Vec::new(alloc),
                 standings: Vec::new(alloc),
             },
             rows: Vec::new(alloc),
@@ -481,16 +409,17 @@ impl GrowingSegments {
             self.take_standing(standing, is_next_standing(last, row.standing))?;
         }
         let segment = SegmentRef { tables, row };
+        let (uri_front, uri_rest) = segment.uri().parts();
         self.push(&SegmentParts {
-            media_sequence: row.media_sequence,
-            discontinuity_sequence: row.discontinuity_sequence,
-            discontinuities: standing.discontinuities,
-            uri_front: segment.uri(),
-            uri_rest: "",
+            media_sequence: segment.media_sequence(),
+            discontinuity_sequence: standing.numbers.discontinuity_sequence,
+            discontinuities: standing.numbers.discontinuities,
+            uri_front,
+            uri_rest,
             byte_range: segment.byte_range(),
             duration: row.duration,
             title: segment.title(),
-            program_date_time: row.program_date_time,
+            program_date_time: segment.program_date_time(),
         })
     }
 
@@ -678,7 +607,11 @@ impl<'a> SegmentRef<'a> {
     pub fn media_sequence(&self) -> u64
         ensures { result ≡ self.now.media_sequence }
     {
-        self.row.media_sequence
+        let (tables, row) = (self.tables, self.row);
+        tables.standings[row.standing as usize]
+            .numbers
+            .media_sequence
+            + u64::from(row.number)
     }
 
     /// Its Discontinuity Sequence Number (section 4.3.3.3).
@@ -686,7 +619,10 @@ impl<'a> SegmentRef<'a> {
     pub fn discontinuity_sequence(&self) -> u64
         ensures { result ≡ self.now.discontinuity_sequence }
     {
-        self.row.discontinuity_sequence
+        let (tables, row) = (self.tables, self.row);
+        tables.standings[row.standing as usize]
+            .numbers
+            .discontinuity_sequence
     }
 
     /// How many EXT-X-DISCONTINUITY stand between it and the segment before.
@@ -695,17 +631,21 @@ impl<'a> SegmentRef<'a> {
         ensures { result ≡ self.now.discontinuities }
     {
         let (tables, row) = (self.tables, self.row);
-        tables.standings[row.standing as usize].discontinuities
+        tables.standings[row.standing as usize]
+            .numbers
+            .discontinuities
     }
 
     /// Its resource: an absolute URI.
     #[inline(always)]
-    pub fn uri(&self) -> &'a str
-        ensures text { result.now ≡ self.now.uri }
+    pub fn uri(&self) -> UriRef<'a>
+        ensures text { result ≡ self.now.uri }
         ensures utf8 { IsTrue (is_utf8 self.now.uri) }
     {
         let (tables, row) = (self.tables, self.row);
-        segment_text_at(tables.texts.as_str(), row.uri)
+        let texts = tables.texts.as_str();
+        let front = segment_text_at(texts, tables.standings[row.standing as usize].uri_front);
+        UriRef::new(front, segment_text_at(texts, row.uri_rest))
     }
 
     /// The part of the resource, if it isn't the whole.
@@ -714,10 +654,7 @@ impl<'a> SegmentRef<'a> {
         ensures { result ≡ self.now.byte_range }
     {
         let (tables, row) = (self.tables, self.row);
-        if row.byte_range == 0 {
-            return None;
-        }
-        Some(tables.byte_ranges[(row.byte_range - 1) as usize])
+        segment_extra_at(tables.extras.as_slice(), row.extra).byte_range
     }
 
     /// The keys that it is encrypted under, sorted by format; none if it is clear.
@@ -728,7 +665,7 @@ impl<'a> SegmentRef<'a> {
         let (tables, row) = (self.tables, self.row);
         tables.standings[row.standing as usize]
             .keys
-            .lent_under(row.media_sequence)
+            .lent_under(self.media_sequence())
     }
 
     /// What its parser is initialised with, if it needs that.
@@ -754,7 +691,7 @@ impl<'a> SegmentRef<'a> {
         ensures { result.now ≡ self.now.title }
     {
         let (tables, row) = (self.tables, self.row);
-        segment_text_at(tables.texts.as_str(), row.title)
+        segment_text_at(tables.texts.as_str(), title_place(row))
     }
 
     /// When its first sample is, if EXT-X-PROGRAM-DATE-TIME states that.
@@ -762,6 +699,7 @@ impl<'a> SegmentRef<'a> {
     pub fn program_date_time(&self) -> Option<Instant>
         ensures { result ≡ self.now.program_date_time }
     {
-        self.row.program_date_time
+        let (tables, row) = (self.tables, self.row);
+        segment_extra_at(tables.extras.as_slice(), row.extra).program_date_time
     }
 }

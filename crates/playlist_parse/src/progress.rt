@@ -209,7 +209,7 @@ impl<'a> Progress<'a> {
 
     #[tactic(auto, using(crate::proofs::Rows::one_more))]
     #[inline(always)]
-    fn uri(&mut self, reference: &str, is_path_segment: bool) -> Result<(), FaultKind>
+    fn uri(&mut self, reference: &'a str, is_path_segment: bool) -> Result<(), FaultKind>
         requires { is_path_segment ≡ true → list_all is_path_segment_byte reference.now ≡ true }
         ensures { TakesLine
             (λ base before. said_by_uri limited base before reference.now) self.old self.new result }

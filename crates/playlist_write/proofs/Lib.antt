@@ -16,4 +16,6 @@ pub mod GoesOn
 pub mod SameKeys
 pub mod Changes
 pub mod CommonKeys
-pub mod ShortTexts
+pub mod NextKeys
+pub mod PaddedTexts
+pub mod PlainLines

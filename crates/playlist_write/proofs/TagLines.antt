@@ -1,17 +1,15 @@
 -- Lines in the parts in which they are written.
 use Rattle.std.proofs.Common.{◌≡◌, ℕ, List, [], ◌∷◌, ◌++◌, ap, ◌∙◌, sym, append_assoc, append-nil, Some, false, arith}
-use Rattle.std.specs.Prelude.{codes, bytes_eq, ℤ}
+use Rattle.std.specs.Prelude.{codes, bytes_eq}
 use Rattle.attr_list.specs.Attributes.{pair_spelling}
 use Rattle.playlist_model.specs.declared.Key.{Key}
 use Rattle.playlist_model.specs.declared.InitSection.{InitSection}
-use Rattle.playlist_model.specs.Said.{duration, byte_range, time}
-use Rattle.fixed_duration.specs.Duration.{duration_text}
-use Rattle.date_times.specs.Times.{time_text}
+use Rattle.playlist_model.specs.Said.{duration, byte_range}
 use Rattle.playlist_model.specs.Carried.{after_commas}
 use Rattle.playlist_model.proofs.Carried.{attributes_are, commas_append}
 use Rattle.playlist_write.specs.Spelling.{unquoted_pair, in_quotes, iv_pairs, format_pairs, part_pairs, byte_range_text}
 use Rattle.playlist_write.specs.Owed.{line_saying, with_feed}
-use Rattle.playlist_write.specs.Inner.Owed.{key_line, init_section_line}
+use Rattle.playlist_write.specs.Inner.Owed.{duration_head, key_line, init_section_line}
 
 assoc6 : (a b c d e f g : List ℕ) → a ++ (b ++ (c ++ (d ++ (e ++ (f ++ g))))) ≡ (a ++ (b ++ (c ++ (d ++ (e ++ f))))) ++ g
 assoc6 a b c d e f g = simp append_assoc
@@ -44,14 +42,11 @@ format_part format h = grind (arith, append-nil)
 assoc2 : (a b c : List ℕ) → a ++ (b ++ c) ≡ (a ++ b) ++ c
 assoc2 a b c = simp append_assoc
 
-pub duration_parts : (n : ℕ) (title : List ℕ) → codes "#EXTINF:" ++ (duration_text n ++ (44 ∷ [] ++ with_feed title)) ≡ line_saying (duration n title)
+-- the line of a duration is what stands before the title, and that with its line feed
+pub head_and_title : (n : ℕ) (title : List ℕ) → duration_head n ++ with_feed title ≡ line_saying (duration n title)
 unfolding line_saying
-duration_parts n title = assoc3 (codes "#EXTINF:") (duration_text n) (44 ∷ title) (10 ∷ [])
+head_and_title n title = grind (arith, append_assoc)
 
 pub byte_range_parts : (n o : ℕ) → codes "#EXT-X-BYTERANGE:" ++ (byte_range_text n o ++ 10 ∷ []) ≡ line_saying (byte_range n (Some o))
 unfolding line_saying
 byte_range_parts n o = assoc2 (codes "#EXT-X-BYTERANGE:") (byte_range_text n o) (10 ∷ [])
-
-pub time_parts : (t : ℤ) → codes "#EXT-X-PROGRAM-DATE-TIME:" ++ (time_text t ++ 10 ∷ []) ≡ line_saying (time t)
-unfolding line_saying
-time_parts t = assoc2 (codes "#EXT-X-PROGRAM-DATE-TIME:") (time_text t) (10 ∷ [])

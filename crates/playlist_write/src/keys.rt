@@ -5,7 +5,7 @@ ghost use Rattle.attr_list.specs.Attributes.{pair_spelling};
 ghost use Rattle.playlist_write.specs.Spelling.{in_quotes, iv_pairs, format_pairs, part_pairs};
 ghost use Rattle.playlist_model.specs.Carried.{after_commas};
 ghost use Rattle.playlist_model.specs.InCommon.{AreSameAt, key_at, without_iv};
-ghost use Rattle.playlist_write.specs.Inner.KeyParts.{text_after_uri, is_written_key_identity};
+ghost use Rattle.playlist_write.specs.Inner.KeyParts.{text_after_uri};
 ghost use Rattle.playlist_model.specs.Said as Said;
 ghost use Rattle.playlist_write.specs.Owed.{line_saying, said_text, keys_owed};
 ghost use Rattle.playlist_write.specs.Inner.Owed.{set_tags, key_line, init_section_line};
@@ -81,11 +81,16 @@ fn write_key_method(out: &mut String, method: &str) -> Result<(), AllocError>
     Ok(())
 }
 
-// Appends what stands after the URI of a key.
-fn write_rest_of_key_line(out: &mut String, key: &KeyRef<'_>) -> Result<(), AllocError>
+// Appends what stands after the URI of a key, whose initialisation vector this is.
+fn write_rest_of_key_line(
+    out: &mut String,
+    key: &KeyRef<'_>,
+    iv: Option<u128>,
+) -> Result<(), AllocError>
+    requires { iv ≡ key.now.iv }
     ensures { Appends result out.old out.new (text_after_uri key.now) }
 {
-    write_key_iv(out, key.iv())?;
+    write_key_iv(out, iv)?;
     write_key_format(out, key.format())?;
     out.push_str(key.other_attributes().as_str())?;
     write_line_feed(out)?;
@@ -93,22 +98,29 @@ fn write_rest_of_key_line(out: &mut String, key: &KeyRef<'_>) -> Result<(), Allo
 }
 
 // The same. Most keys have no other attributes.
-fn write_short_rest_of_key_line(out: &mut String, key: &KeyRef<'_>) -> Result<(), AllocError>
+fn write_short_rest_of_key_line(
+    out: &mut String,
+    key: &KeyRef<'_>,
+    iv: Option<u128>,
+) -> Result<(), AllocError>
+    requires { iv ≡ key.now.iv }
     ensures { Appends result out.old out.new (text_after_uri key.now) }
 {
     if key.other_attributes().as_str().is_empty() && key.format() == "identity" {
-        write_key_iv_and_line_feed(out, key.iv())?;
+        write_key_iv_and_line_feed(out, iv)?;
         return Ok(());
     }
-    write_rest_of_key_line(out, key)
+    write_rest_of_key_line(out, key, iv)
 }
 
-fn write_key_line(out: &mut String, key: &KeyRef<'_>) -> Result<(), AllocError>
+// Appends the tag of a key, whose initialisation vector this is: it is told once a key.
+fn write_key_line(out: &mut String, key: &KeyRef<'_>, iv: Option<u128>) -> Result<(), AllocError>
+    requires { iv ≡ key.now.iv }
     ensures { Appends result out.old out.new (key_line key.now) }
 {
     write_key_method(out, key.method())?;
     out.push_str(key.uri())?;
-    write_short_rest_of_key_line(out, key)?;
+    write_short_rest_of_key_line(out, key, iv)?;
     Ok(())
 }
 
@@ -116,7 +128,7 @@ fn write_key_lines(out: &mut String, keys: &KeysRef<'_>) -> Result<(), AllocErro
     ensures { Appends result out.old out.new (said_text (set_tags keys.now)) }
 {
     for key in keys.iter() {
-        write_key_line(out, &key)?;
+        write_key_line(out, &key, key.iv())?;
     }
     Ok(())
 }
@@ -151,7 +163,7 @@ fn write_new_key_lines(
         let is_common = places.holds_first();
         // Mostly a key is compared with the one at its place alone, or with none: long ones cost much.
         if !passes_same_written_key(&mut others, &key, is_common) && is_new_key(old, &key) {
-            write_key_line(out, &key)?;
+            write_key_line(out, &key, key.iv())?;
         }
         places = places.later();
     }
@@ -188,25 +200,23 @@ fn write_any_key_tag_lines(
     write_key_lines(out, new)
 }
 
-fn is_written_key_identity(key: &KeyRef<'_>) -> bool
-    ensures { result ≡ is_written_key_identity key.now }
+// Appends the tag that leads from one key to another, which is the same but for its initialisation vector.
+#[tactic(auto, using(crate::proofs::NextKeys::same_iv_owes_nothing, crate::proofs::NextKeys::other_iv_owes_key))]
+fn write_next_key_line(
+    out: &mut String,
+    old: &KeyRef<'_>,
+    new: &KeyRef<'_>,
+) -> Result<(), AllocError>
+    requires { without_iv old.now ≡ without_iv new.now }
+    ensures { Appends result out.old out.new
+        (said_text (keys_owed (old.now ∷ []) (new.now ∷ []))) }
 {
-    key.format() == "identity"
-}
-
-fn has_same_written_iv(one: &KeyRef<'_>, other: &KeyRef<'_>) -> bool
-    ensures { result ≡ same_option same_number one.now.iv other.now.iv }
-{
-    one.iv() == other.iv()
-}
-
-// Whether a key differs from the one before by its initialisation vector, and not by its format.
-fn has_next_written_iv(old: &KeyRef<'_>, new: &KeyRef<'_>) -> bool
-    ensures { result
-        ≡ (is_written_key_identity old.now
-        && (is_written_key_identity new.now && not (same_option same_number new.now.iv old.now.iv))) }
-{
-    is_written_key_identity(old) && is_written_key_identity(new) && !has_same_written_iv(new, old)
+    let iv = new.iv();
+    if iv == old.iv() {
+        return Ok(());
+    }
+    write_key_line(out, new, iv)?;
+    Ok(())
 }
 
 #[inline(always)]
@@ -220,11 +230,10 @@ fn write_key_tag_lines_between(
     ensures { Appends result out.old out.new (said_text (keys_owed old.now new.now)) }
 {
     // Most segments have one key, with an initialisation vector of their own (RFC 8216, 5.2).
-    if let Some(before) = old.only() {
-        if let Some(after) = new.only() {
-            if has_next_written_iv(&before, &after) {
-                write_key_line(out, &after)?;
-                return Ok(());
+    if same.holds_first() {
+        if let Some(before) = old.only() {
+            if let Some(after) = new.only() {
+                return write_next_key_line(out, &before, &after);
             }
         }
     }

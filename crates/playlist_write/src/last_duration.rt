@@ -1,16 +1,21 @@
-//! The line of EXTINF that was written last, since most segments of a playlist state the same one.
-ghost use Rattle.std.specs.Prelude.{◌≡◌, IfOk, string_bytes};
+//! The line of EXTINF that was written last, and the front of the URI after it, since most segments of a playlist state the same.
+ghost use Rattle.std.specs.Prelude.{◌≡◌, ◌==◌, ◌++◌, [], true, false, IfOk, length, string_bytes};
 ghost use Rattle.playlist_model.specs.Said as Said;
 ghost use Rattle.playlist_write.specs.Owed.{line_saying};
+ghost use Rattle.playlist_write.specs.Inner.Owed.{duration_head};
 ghost use Rattle.fixed_duration.specs.Appended.{Appends};
 
-use crate::segments::write_segment_duration_line;
-use crate::short_text::ShortText;
+use crate::lines::write_line;
+use crate::padded_text::PaddedText;
+use crate::segments::{write_duration_head, write_segment_duration_line};
 use fixed_duration::Nanos;
 use std::alloc::{AllocError, Global};
 use std::marker::Model;
 
-/// A duration and a title, and their line once they were written again.
+// A longer front isn't kept with a line: a padded text has no room for most lines then.
+const MAX_FRONT: usize = 56;
+
+/// A duration and a title, and their line once they were written again, with the front of the URI after it too.
 #[derive(Drop)]
 pub struct LastDuration<'a> {
     alloc: Global,
@@ -18,13 +23,19 @@ pub struct LastDuration<'a> {
     title: &'a str,
     line: Option<String>,
     // That line too, if the title is empty, as most are, and the line is short.
-    short: ShortText,
+    short: PaddedText,
+    // The front of a URI, and that line with it, if both are short.
+    uri_front: &'a str,
+    short_with_front: PaddedText,
+    // What stands before the title, once another title came with the duration.
+    head: PaddedText,
 }
 
 impl<'a> Model for LastDuration<'a> {
-    ghost use Rattle.std.specs.Prelude.{◌≡◌, ◌==◌, ℕ, List, [], IfSome, false, length, string_bytes};
+    ghost use Rattle.std.specs.Prelude.{◌≡◌, ◌==◌, ◌++◌, ℕ, List, [], IfSome, false, length, string_bytes};
     ghost use Rattle.playlist_model.specs.Said as Said;
     ghost use Rattle.playlist_write.specs.Owed.{line_saying};
+    ghost use Rattle.playlist_write.specs.Inner.Owed.{duration_head};
 
     ghost Value = { ℕ × List ℕ };
 
@@ -32,7 +43,9 @@ impl<'a> Model for LastDuration<'a> {
 
     ghost invariant = { λ a.
         IfSome a.line (λ line. string_bytes line ≡ line_saying (Said.duration a.duration a.title.now))
-        × ((length a.short == 0) ≡ false → a.short ≡ line_saying (Said.duration a.duration [])) };
+        × ((length a.short == 0) ≡ false → a.short ≡ line_saying (Said.duration a.duration []))
+        × ((length a.short_with_front == 0) ≡ false → a.short_with_front ≡ line_saying (Said.duration a.duration []) ++ a.uri_front.now)
+        × ((length a.head == 0) ≡ false → a.head ≡ duration_head a.duration) };
 }
 
 // The line of a duration and a title.
@@ -45,6 +58,15 @@ fn written_duration_line(alloc: Global, duration: Nanos, title: &str) -> Result<
     Ok(line)
 }
 
+// What stands before the title in the line of a duration, if it is short.
+fn written_duration_head(alloc: Global, duration: Nanos) -> Result<PaddedText, AllocError>
+    ensures { IfOk result (λ head. (length head == 0) ≡ false → head ≡ duration_head duration) }
+{
+    let mut head = String::new(alloc);
+    write_duration_head(&mut head, duration)?;
+    Ok(PaddedText::of(head.as_str(), ""))
+}
+
 impl<'a> LastDuration<'a> {
     /// Nothing was written yet.
     pub fn new(alloc: Global) -> LastDuration<'a> {
@@ -53,7 +75,10 @@ impl<'a> LastDuration<'a> {
             duration: Nanos(0),
             title: "",
             line: None,
-            short: ShortText::new(),
+            short: PaddedText::new(),
+            uri_front: "",
+            short_with_front: PaddedText::new(),
+            head: PaddedText::new(),
         }
     }
 
@@ -78,13 +103,29 @@ impl<'a> LastDuration<'a> {
         let line = written_duration_line(self.alloc, self.duration, self.title)?;
         out.push_str(line.as_str())?;
         if self.title.is_empty() {
-            self.short = ShortText::of(line.as_str());
+            self.short = PaddedText::of(line.as_str(), "");
         }
         self.line = Some(line);
         Ok(())
     }
 
-    // Appends the line of another duration or title.
+    // Appends the line of the last duration and another title.
+    #[inline(never)]
+    fn push_other_title(&mut self, out: &mut String, title: &'a str) -> Result<(), AllocError>
+        ensures { Appends result out.old out.new
+            (line_saying (Said.duration self.old.0 title.now)) }
+    {
+        self.line = None;
+        self.title = title;
+        if self.head.is_empty() {
+            self.head = written_duration_head(self.alloc, self.duration)?;
+            return write_segment_duration_line(out, self.duration, title);
+        }
+        self.head.push_to(out)?;
+        write_line(out, title)
+    }
+
+    // Appends the line of another duration.
     #[inline(never)]
     fn push_other(
         &mut self,
@@ -95,7 +136,9 @@ impl<'a> LastDuration<'a> {
         ensures { Appends result out.old out.new (line_saying (Said.duration duration title.now)) }
     {
         self.line = None;
-        self.short = ShortText::new();
+        self.short = PaddedText::new();
+        self.short_with_front = PaddedText::new();
+        self.head = PaddedText::new();
         self.duration = duration;
         self.title = title;
         write_segment_duration_line(out, duration, title)
@@ -115,9 +158,58 @@ impl<'a> LastDuration<'a> {
         if duration == self.duration && title.is_empty() && !self.short.is_empty() {
             return self.short.push_to(out);
         }
-        if duration == self.duration && title == self.title {
+        if duration != self.duration {
+            return self.push_other(out, duration, title);
+        }
+        if title == self.title {
             return self.push_again(out);
         }
-        self.push_other(out, duration, title)
+        self.push_other_title(out, title)
+    }
+
+    /// Appends to `out` the line of EXTINF with `duration` and no title, and then `uri_front`, if both are kept. Answers whether
+    /// it did. Fails only if an allocation fails.
+    #[inline(always)]
+    pub fn push_with_front(
+        &self,
+        out: &mut String,
+        duration: Nanos,
+        uri_front: &str,
+    ) -> Result<bool, AllocError>
+        ensures kept { IfOk result
+            (λ kept. kept ≡ true → string_bytes out.new
+            ≡ string_bytes out.old ++ (line_saying (Said.duration duration []) ++ uri_front.now)) }
+        ensures unkept { IfOk result
+            (λ kept. kept ≡ false → string_bytes out.new ≡ string_bytes out.old) }
+    {
+        if self.short_with_front.is_empty()
+            || duration != self.duration
+            || uri_front != self.uri_front
+        {
+            return Ok(false);
+        }
+        self.short_with_front.push_to(out)?;
+        Ok(true)
+    }
+
+    /// Keeps `uri_front` with the line of the last duration, if that came again without a title and both are short.
+    #[inline(always)]
+    pub fn keep_front(&mut self, uri_front: &'a str)
+        ensures { self.new ≡ self.old }
+    {
+        if self.title.is_empty() && uri_front.len() < MAX_FRONT {
+            self.keep_short_front(uri_front);
+        }
+    }
+
+    #[inline(never)]
+    fn keep_short_front(&mut self, uri_front: &'a str)
+        requires { self.old.1 ≡ [] }
+        ensures { self.new ≡ self.old }
+    {
+        if let Some(line) = &self.line {
+            self.short_with_front = PaddedText::of(line.as_str(), uri_front);
+            self.uri_front = uri_front;
+        }
     }
 }

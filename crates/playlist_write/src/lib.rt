@@ -29,11 +29,11 @@ mod keys;
 mod last_duration;
 pub mod laws;
 mod lines;
+mod padded_text;
 mod pieces;
 pub mod resumed;
 mod room;
 mod segments;
-mod short_text;
 mod well_formed;
 
 /// A playlist as it is written.

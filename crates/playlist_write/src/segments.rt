@@ -1,7 +1,7 @@
 //! The lines of segments (RFC 8216, section 4.3.2).
-ghost use Rattle.std.specs.Prelude.{◌≡◌, ◌++◌, ◌∷◌, IfOk, List, OnOk, Option, string_bytes, replicate, Some, false, true};
+ghost use Rattle.std.specs.Prelude.{◌≡◌, ◌++◌, ◌∷◌, IfOk, List, OnOk, Option, string_bytes, replicate, None, Some, [], false, true};
 ghost use Rattle.std.specs.Option.{option_copied};
-ghost use Rattle.spec_words.specs.Bytes.{comma};
+ghost use Rattle.playlist_write.specs.Inner.Owed.{duration_head};
 ghost use Rattle.playlist_model.specs.InCommon.{AreSameAt, IsInCommon, init_section_keys};
 ghost use Rattle.playlist_model.specs.Said as Said;
 ghost use Rattle.playlist_model.specs.Same.{same_option, same_init_section};
@@ -14,7 +14,7 @@ ghost use Rattle.fixed_duration.specs.Appended.{Appends};
 use crate::in_force::InForce;
 use crate::keys::{write_init_section_line, write_key_tag_lines};
 use crate::last_duration::LastDuration;
-use crate::lines::{write_byte_range, write_line, write_line_feed};
+use crate::lines::{write_byte_range, write_line, write_line_feed, write_tag_line};
 use date_times::TimeWriter;
 use fixed_duration::Nanos;
 use playlist_model::{
@@ -141,6 +141,7 @@ fn write_changed_init_section_line(
     Ok(())
 }
 
+#[tactic(auto, unfolding(crate::specs::Owed::line_saying, date_times::specs::Times::time_tag))]
 #[inline(never)]
 fn write_instant_line(
     out: &mut String,
@@ -149,9 +150,7 @@ fn write_instant_line(
 ) -> Result<(), AllocError>
     ensures { Appends result out.old out.new (line_saying (Said.time time)) }
 {
-    out.push_str("#EXT-X-PROGRAM-DATE-TIME:")?;
-    times.write(time, out)?;
-    write_line_feed(out)?;
+    times.write_line(time, out)?;
     Ok(())
 }
 
@@ -168,16 +167,15 @@ fn write_optional_instant_line(
     Ok(())
 }
 
-// Ends the line of a duration with the title.
-fn write_segment_title(out: &mut String, title: &str) -> Result<(), AllocError>
-    ensures { Appends result out.old out.new (comma ∷ with_feed title.now) }
+/// Appends to `out` what stands before the title in the line of EXTINF with `duration` (RFC 8216, section 4.3.2.1). Fails only if
+/// an allocation fails.
+pub fn write_duration_head(out: &mut String, duration: Nanos) -> Result<(), AllocError>
+    ensures { Appends result out.old out.new (duration_head duration) }
 {
-    // Most segments have none.
-    if title.is_empty() {
-        return out.push_str(",\n");
-    }
-    out.push_str(",")?;
-    write_line(out, title)
+    out.push_str("#EXTINF:")?;
+    duration.write_to(out)?;
+    out.push(',')?;
+    Ok(())
 }
 
 /// Appends to `out` the line of EXTINF with `duration` and `title` (RFC 8216, section 4.3.2.1). Fails only if an
@@ -189,10 +187,8 @@ pub fn write_segment_duration_line(
 ) -> Result<(), AllocError>
     ensures { Appends result out.old out.new (line_saying (Said.duration duration title.now)) }
 {
-    out.push_str("#EXTINF:")?;
-    duration.write_to(out)?;
-    write_segment_title(out, title)?;
-    Ok(())
+    write_duration_head(out, duration)?;
+    write_line(out, title)
 }
 
 #[inline(never)]
@@ -219,10 +215,18 @@ fn write_optional_byte_range_line(
 }
 
 #[tactic(auto, unfolding(crate::specs::Owed::line_saying))]
-fn write_segment_uri_line(out: &mut String, uri: &str) -> Result<(), AllocError>
-    ensures { Appends result out.old out.new (line_saying (Said.media uri.now)) }
+fn write_segment_uri_line(out: &mut String, front: &str, rest: &str) -> Result<(), AllocError>
+    ensures { Appends result out.old out.new (line_saying (Said.media (front.now ++ rest.now))) }
 {
-    write_line(out, uri)
+    write_tag_line(out, front, rest)
+}
+
+// Whether a segment has neither a title nor a byte range, as most have none.
+#[inline(always)]
+fn is_written_without_title_or_range(segment: &SegmentRef<'_>) -> bool
+    ensures { result ≡ true → (segment.now.title ≡ []) × (segment.now.byte_range ≡ None) }
+{
+    segment.title().is_empty() && segment.byte_range().is_none()
 }
 
 #[inline(always)]
@@ -233,9 +237,17 @@ fn write_segment_media_lines<'a>(
 ) -> Result<(), AllocError>
     ensures { Appends result out.old out.new (said_text (media_owed segment.now)) }
 {
+    let (front, rest) = segment.uri().parts();
+    let is_plain = is_written_without_title_or_range(segment);
+    if is_plain && last.push_with_front(out, segment.duration(), front)? {
+        return write_line(out, rest);
+    }
     last.push(out, segment.duration(), segment.title())?;
     write_optional_byte_range_line(out, segment.byte_range())?;
-    write_segment_uri_line(out, segment.uri())?;
+    write_segment_uri_line(out, front, rest)?;
+    if is_plain {
+        last.keep_front(front);
+    }
     Ok(())
 }
 

@@ -2,13 +2,13 @@
 ghost use Rattle.std.specs.Prelude.{◌≡◌, ◌==◌, ◌+◌, IfOk, true, false};
 ghost use Rattle.std.specs.List.{list_all, list_any};
 ghost use Rattle.date_times.specs.Instant.{in_range};
-ghost use Rattle.writable.specs.Fitting.{if_some, init_section_fits};
+ghost use Rattle.writable.specs.Fitting.{if_some, init_section_fits, uri_fits};
 ghost use Rattle.playlist_model.specs.Numbering.{follows, all_follow};
 ghost use Rattle.playlist_write.specs.WellFormed.{well_formed, well_formed_without_date_ranges, well_formed_numbers_are_words, well_formed_resource_fits, well_formed_segment_fits, out_numbers, out_numbers_rise, written_segment_has_init_section, written_init_sections_agree, written_version_fits, is_well_formed_number};
 
 use crate::OutPlaylist;
 use crate::date_ranges::written_date_ranges_fit;
-use playlist_model::{InitSection, Instant, SegmentRef, Shared};
+use playlist_model::{InitSection, Instant, SegmentRef, Shared, UriRef};
 use std::alloc::{AllocError, Global};
 use stitcher::{OutSegment, StitchedItems, StitchedList};
 use writable::{
@@ -28,10 +28,20 @@ fn well_formed_numbers_are_words(out: &OutSegment<'_>) -> bool
     is_well_formed_number(out.media_sequence) && is_well_formed_number(out.discontinuity_sequence)
 }
 
-fn well_formed_resource_fits(segment: &SegmentRef<'_>) -> bool
-    ensures { result ≡ well_formed_resource_fits segment.now }
+fn well_formed_uri_fits(alloc: Global, uri: &UriRef<'_>) -> Result<bool, AllocError>
+    ensures { IfOk result (λ b. b ≡ uri_fits uri.now) }
 {
-    uri_fits(segment.uri()) && byte_range_fits(segment.byte_range())
+    let (front, rest) = uri.parts();
+    let mut whole = String::from_str(alloc, front)?;
+    whole.push_str(rest)?;
+    Ok(uri_fits(whole.as_str()))
+}
+
+fn well_formed_resource_fits(alloc: Global, segment: &SegmentRef<'_>) -> Result<bool, AllocError>
+    ensures { IfOk result (λ b. b ≡ well_formed_resource_fits segment.now) }
+{
+    let fits = well_formed_uri_fits(alloc, &segment.uri())?;
+    Ok(fits && byte_range_fits(segment.byte_range()))
 }
 
 fn well_formed_init_section_fits(init_section: &Option<Shared<InitSection>>) -> bool
@@ -53,29 +63,32 @@ fn well_formed_time_fits(time: Option<Instant>) -> bool
 }
 
 // Whether a segment can be written, apart from how its numbers follow.
-fn well_formed_segment_fits(out: &OutSegment<'_>) -> bool
-    ensures { result ≡ well_formed_segment_fits out.now }
+fn well_formed_segment_fits(alloc: Global, out: &OutSegment<'_>) -> Result<bool, AllocError>
+    ensures { IfOk result (λ b. b ≡ well_formed_segment_fits out.now) }
 {
     let segment = &out.segment;
-    well_formed_numbers_are_words(out)
-        && well_formed_resource_fits(segment)
-        && effective_keys_fit(&segment.keys())
-        && well_formed_init_section_fits(segment.init_section())
-        && duration_fits(segment.duration())
-        && is_clean(segment.title())
-        && well_formed_time_fits(out.program_date_time)
+    let resource_fits = well_formed_resource_fits(alloc, segment)?;
+    Ok(
+        well_formed_numbers_are_words(out)
+            && resource_fits
+            && effective_keys_fit(&segment.keys())
+            && well_formed_init_section_fits(segment.init_section())
+            && duration_fits(segment.duration())
+            && is_clean(segment.title())
+            && well_formed_time_fits(out.program_date_time),
+    )
 }
 
-fn well_formed_segments_fit(segments: StitchedItems<'_>) -> bool
-    ensures { result ≡ list_all well_formed_segment_fits segments.entry }
+fn well_formed_segments_fit(alloc: Global, segments: StitchedItems<'_>) -> Result<bool, AllocError>
+    ensures { IfOk result (λ b. b ≡ list_all well_formed_segment_fits segments.entry) }
 {
     let mut segments = segments;
     while let Some(out) = segments.next() {
-        if !well_formed_segment_fits(&out) {
-            return false;
+        if !well_formed_segment_fits(alloc, &out)? {
+            return Ok(false);
         }
     }
-    true
+    Ok(true)
 }
 
 fn is_well_formed_sum(sum: u64, one: u64, other: u64) -> bool
@@ -168,15 +181,21 @@ fn written_version_fits(version: u64) -> bool
 }
 
 // Whether a playlist can be written, apart from its date ranges.
-fn well_formed_without_date_ranges(playlist: &OutPlaylist<'_>) -> bool
-    ensures { result ≡ well_formed_without_date_ranges playlist.now }
+fn well_formed_without_date_ranges(
+    alloc: Global,
+    playlist: &OutPlaylist<'_>,
+) -> Result<bool, AllocError>
+    ensures { IfOk result (λ b. b ≡ well_formed_without_date_ranges playlist.now) }
 {
     let segments = &playlist.segments;
-    written_version_fits(playlist.version)
-        && is_well_formed_number(playlist.target_duration)
-        && well_formed_numbers_fit(segments.items())
-        && well_formed_segments_fit(segments.items())
-        && written_init_sections_agree(segments)
+    let segments_fit = well_formed_segments_fit(alloc, segments.items())?;
+    Ok(
+        written_version_fits(playlist.version)
+            && is_well_formed_number(playlist.target_duration)
+            && well_formed_numbers_fit(segments.items())
+            && segments_fit
+            && written_init_sections_agree(segments),
+    )
 }
 
 impl<'a> OutPlaylist<'a> {
@@ -189,11 +208,12 @@ impl<'a> OutPlaylist<'a> {
     /// quote. Keys are sorted by format, one for each, with no other attribute twice; a segment's
     /// `identity` key and a section's AES-128 key state their IV. Durations are below 1,000,000 s,
     /// ranges end below 2^64, times lie in the years 1900 to 2199. Date ranges are read, with at most
-    /// 64 attributes. Memory is refused only if a date range is read.
+    /// 64 attributes. Fails only if an allocation fails, while date ranges are read or the parts of a URI
+    /// are joined.
     pub fn well_formed(&self, alloc: Global) -> Result<bool, AllocError>
         ensures { IfOk result (λ b. b ≡ well_formed self.now) }
     {
-        if !well_formed_without_date_ranges(self) {
+        if !well_formed_without_date_ranges(alloc, self)? {
             return Ok(false);
         }
         written_date_ranges_fit(alloc, self.date_ranges.as_slice())

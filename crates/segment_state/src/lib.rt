@@ -16,6 +16,7 @@ ghost use Rattle.segment_state.specs.Views.{extent_after};
 ghost use Rattle.segment_state.specs.Repeated.{IsLineOf, IsRepeated};
 
 use crate::durations::Durations;
+use crate::key_texts::KeyTexts;
 use crate::keys::keys_in_reader_state_with;
 use crate::references::References;
 use crate::tags::{byte_range_tag_numbers, said_by_init_section_tag, said_by_key_tag};
@@ -23,7 +24,7 @@ use date_times::TimeReader;
 use fixed_duration::Nanos;
 use playlist_model::{
     ByteRange, FaultKind, GrowingSegments, InitSection, Instant, KeyPlaces, KeyTag, Keys,
-    MAX_SEGMENTS, SegmentParts, SegmentSlice, Segments, Shared, ShortText, is_iv_needed,
+    MAX_SEGMENTS, SegmentParts, SegmentSlice, Segments, Shared, Text, is_iv_needed,
 };
 use std::alloc::{AllocError, Global};
 use std::marker::Model;
@@ -32,6 +33,7 @@ use uri_resolver::Base;
 
 pub mod attributes;
 mod durations;
+mod key_texts;
 mod keys;
 mod references;
 mod stops;
@@ -40,7 +42,7 @@ mod tags;
 /// A part of a resource, which a segment is.
 #[derive(Drop)]
 struct Part {
-    uri: ShortText,
+    uri: Shared<Text>,
     byte_range: ByteRange,
 }
 
@@ -58,6 +60,7 @@ pub struct ReaderState<'a> {
     byte_range: Option<(u64, Option<u64>)>,
     program_date_time: Option<Instant>,
     times: TimeReader,
+    key_texts: KeyTexts,
     last: Option<Part>,
     // The segments that were read, with the keys and the initialisation section in force.
     segments: GrowingSegments,
@@ -93,6 +96,7 @@ impl<'a> ReaderState<'a> {
             byte_range: None,
             program_date_time: None,
             times: TimeReader::new(),
+            key_texts: KeyTexts::new(),
             last: None,
             segments: GrowingSegments::new(alloc),
         }
@@ -184,7 +188,8 @@ impl<'a> ReaderState<'a> {
         ensures takes { TakesTag said.key_tag rest.now self.old self.new result }
         ensures segments { self.new.segments ≡ self.old.segments }
     {
-        match said_by_key_tag(self.alloc, self.references.base(), rest)? {
+        let base = self.references.base();
+        match said_by_key_tag(self.alloc, base, &mut self.key_texts, rest)? {
             KeyTag::End => self.segments.set_keys(Keys::none(), KeyPlaces::none()),
             KeyTag::Set(key) => {
                 let after = keys_in_reader_state_with(self.alloc, self.segments.keys(), key)?;
@@ -346,7 +351,11 @@ impl<'a> ReaderState<'a> {
     /// state.take_segment("s1.ts", false)    Err(FaultKind::NoDuration)
     /// ```
     #[inline(always)]
-    pub fn take_segment(&mut self, reference: &str, is_path_segment: bool) -> Result<(), FaultKind>
+    pub fn take_segment(
+        &mut self,
+        reference: &'a str,
+        is_path_segment: bool,
+    ) -> Result<(), FaultKind>
         requires { is_path_segment ≡ true → list_all is_path_segment_byte reference.now ≡ true }
         ensures takes { TakesSegment
             (λ base before. said_by_uri limited base before reference.now) self.old self.new result }
@@ -433,7 +442,7 @@ impl<'a> ReaderState<'a> {
     fn take_part(
         &mut self,
         number: u64,
-        reference: &str,
+        reference: &'a str,
         duration: Nanos,
         title: &str,
     ) -> Result<(), FaultKind>
@@ -476,7 +485,7 @@ impl<'a> ReaderState<'a> {
 }
 
 // What is kept of a segment of this resource for the next one's byte range, if it is a part of it (4.3.2.2).
-fn last_byte_range_part(uri: ShortText, byte_range: Option<ByteRange>) -> Option<Part>
+fn last_byte_range_part(uri: Shared<Text>, byte_range: Option<ByteRange>) -> Option<Part>
     ensures { extent_after result ≡ extent_with uri byte_range }
 {
     match byte_range {

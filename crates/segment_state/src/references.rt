@@ -6,17 +6,17 @@ ghost use Rattle.playlist_model.specs.Said.{uri_of};
 ghost use Rattle.playlist_model.specs.Refusals.{GivesOrPlaylistFault};
 ghost use Rattle.uri_resolver.specs.Plain.{is_path_segment_byte};
 
-use crate::tags::short_tag_uri_of;
-use playlist_model::{FaultKind, ShortText, Text};
+use crate::tags::{shared_tag_uri_of, tag_uri_of};
+use playlist_model::{FaultKind, Shared, Text};
 use std::alloc::Global;
 use std::marker::Model;
 use uri_resolver::Base;
 
 /// A reference, and the resource that it names.
 #[derive(Drop)]
-struct Resolved {
-    reference: Text,
-    uri: ShortText,
+struct Resolved<'a> {
+    reference: &'a str,
+    uri: Shared<Text>,
 }
 
 /// The base of a playlist's references, and the last one of a segment that is a part of its resource:
@@ -25,7 +25,7 @@ struct Resolved {
 pub struct References<'a> {
     alloc: Global,
     base: &'a Base,
-    last: Option<Resolved>,
+    last: Option<Resolved<'a>>,
 }
 
 impl<'a> Model for References<'a> {
@@ -75,26 +75,25 @@ impl<'a> References<'a> {
 
     /// The resource that `reference` names (RFC 8216, section 4.1). `BadUri` if it can't be resolved; `OutOfMemory`
     /// only if an allocation fails.
-    pub fn resolve(&self, reference: &str) -> Result<ShortText, FaultKind>
+    pub fn resolve(&self, reference: &str) -> Result<Text, FaultKind>
         ensures { GivesOrPlaylistFault (λ uri. uri) result (uri_of self.now reference.now) }
     {
-        short_tag_uri_of(self.base, reference)
+        tag_uri_of(self.base, reference)
     }
 
     /// The resource that `reference` names, of which a segment is a part (RFC 8216, section 4.1). It is kept for the
-    /// next part. The faults are those of `resolve`.
+    /// next part: of a resource that is kept there is an owner more. The faults are those of `resolve`.
     #[inline(never)]
-    pub fn resolve_part(&mut self, reference: &str) -> Result<ShortText, FaultKind>
+    pub fn resolve_part(&mut self, reference: &'a str) -> Result<Shared<Text>, FaultKind>
         ensures value { GivesOrPlaylistFault (λ uri. uri) result (uri_of self.old reference.now) }
         ensures kept { self.new ≡ self.old }
     {
         if let Some(last) = &self.last {
-            if reference == last.reference.as_str() {
+            if reference == last.reference {
                 return Ok(last.uri.clone()?);
             }
         }
-        let uri = short_tag_uri_of(self.base, reference)?;
-        let reference = Text::copy_of(self.alloc, reference)?;
+        let uri = shared_tag_uri_of(self.alloc, self.base, reference)?;
         self.last = Some(Resolved {
             reference,
             uri: uri.clone()?,

@@ -12,8 +12,9 @@ ghost use Rattle.segment_state.specs.Attributes.{pairs_of};
 ghost use Rattle.segment_state.specs.Inner.Tags.{init_section_tag_said};
 
 use crate::attributes::{optional_tag_value, required_tag_value, tag_attributes_of};
+use crate::key_texts::KeyTexts;
 use attr_list::{AttrList, read_decimal, read_hex_u128};
-use playlist_model::{ByteRange, FaultKind, Key, KeyTag, OtherAttributes, Shared, ShortText, Text};
+use playlist_model::{ByteRange, FaultKind, Key, KeyTag, OtherAttributes, Shared, Text};
 use std::alloc::Global;
 use uri_resolver::{Base, BaseFault};
 
@@ -29,8 +30,9 @@ pub struct InitSectionTag {
     pub byte_range: Option<ByteRange>,
 }
 
-/// The resource that a reference names.
-fn tag_uri_of(base: &Base, reference: &str) -> Result<Text, FaultKind>
+/// The resource that `reference` names under `base` (RFC 8216, section 4.1). `BadUri` if it can't be resolved;
+/// `OutOfMemory` only if an allocation fails.
+pub fn tag_uri_of(base: &Base, reference: &str) -> Result<Text, FaultKind>
     ensures { GivesOrPlaylistFault (λ uri. uri) result (uri_of base.now reference.now) }
 {
     match base.resolve(reference) {
@@ -40,22 +42,13 @@ fn tag_uri_of(base: &Base, reference: &str) -> Result<Text, FaultKind>
     }
 }
 
-/// The URI of a segment that `reference` is under `base` (RFC 8216, section 4.1), as a text that takes no memory of
-/// its own if it is short, as most are. `BadUri` if it can't be resolved; `OutOfMemory` only if an allocation fails.
-#[inline(always)]
-pub fn short_tag_uri_of(base: &Base, reference: &str) -> Result<ShortText, FaultKind>
-    ensures { GivesOrPlaylistFault (λ uri. uri) result (uri_of base.now reference.now) }
-{
-    let fault = match base.resolve_short(reference) {
-        Ok(uri) => return Ok(uri),
-        Err(BaseFault::OutOfMemory) => FaultKind::OutOfMemory,
-        Err(_) => FaultKind::BadUri,
-    };
-    Err(fault)
-}
-
-// The same, to be shared.
-fn shared_tag_uri(alloc: Global, base: &Base, reference: &str) -> Result<Shared<Text>, FaultKind>
+/// The resource that `reference` names under `base`, to be shared, in memory of `alloc`: as `tag_uri_of` gives it, and
+/// with the same faults.
+pub fn shared_tag_uri_of(
+    alloc: Global,
+    base: &Base,
+    reference: &str,
+) -> Result<Shared<Text>, FaultKind>
     ensures { GivesOrPlaylistFault (λ uri. uri) result (uri_of base.now reference.now) }
 {
     Ok(Shared::new(alloc, tag_uri_of(base, reference)?)?)
@@ -77,6 +70,7 @@ fn key_tag_iv_of(list: &AttrList<'_>) -> Result<Option<u128>, FaultKind>
 fn key_of_tag(
     alloc: Global,
     base: &Base,
+    texts: &mut KeyTexts,
     list: &AttrList<'_>,
     method: &str,
 ) -> Result<Key, FaultKind>
@@ -86,21 +80,27 @@ fn key_of_tag(
     let reference = required_tag_value(list, "URI", true)?;
     let iv = key_tag_iv_of(list)?;
     let format = optional_tag_value(list, "KEYFORMAT", true)?;
-    let uri = shared_tag_uri(alloc, base, reference)?;
+    let uri = shared_tag_uri_of(alloc, base, reference)?;
     let other = OtherAttributes::of(alloc, list)?;
     Ok(Key {
-        format: Shared::copy_of(alloc, format.unwrap_or(IDENTITY))?,
-        method: Shared::copy_of(alloc, method)?,
+        format: texts.formats.share(alloc, format.unwrap_or(IDENTITY))?,
+        method: texts.methods.share(alloc, method)?,
         uri,
         iv,
-        other_attributes: Shared::new(alloc, other)?,
+        other_attributes: texts.share_others(alloc, other)?,
     })
 }
 
-/// What an EXT-X-KEY with the attributes `rest` says under `base` (RFC 8216, section 4.3.2.4). The faults, in this
-/// order: `BadAttributes` for the list, `MissingAttribute` or `BadAttributes` for METHOD, URI, IV and KEYFORMAT,
-/// `BadUri`; `OutOfMemory` only if an allocation fails.
-pub fn said_by_key_tag(alloc: Global, base: &Base, rest: &str) -> Result<KeyTag, FaultKind>
+/// What an EXT-X-KEY with the attributes `rest` says under `base` (RFC 8216, section 4.3.2.4). Its key shares those of
+/// `texts`, what the last tag stated, that are the same. The faults, in this order: `BadAttributes` for the list,
+/// `MissingAttribute` or `BadAttributes` for METHOD, URI, IV and KEYFORMAT, `BadUri`; `OutOfMemory` only if an
+/// allocation fails.
+pub fn said_by_key_tag(
+    alloc: Global,
+    base: &Base,
+    texts: &mut KeyTexts,
+    rest: &str,
+) -> Result<KeyTag, FaultKind>
     ensures { GivesOrPlaylistFault key_tag_said result (key_said limited base.now rest.now) }
 {
     let list = tag_attributes_of(alloc, rest)?;
@@ -108,7 +108,7 @@ pub fn said_by_key_tag(alloc: Global, base: &Base, rest: &str) -> Result<KeyTag,
     if method == "NONE" {
         return Ok(KeyTag::End);
     }
-    Ok(KeyTag::Set(key_of_tag(alloc, base, &list, method)?))
+    Ok(KeyTag::Set(key_of_tag(alloc, base, texts, &list, method)?))
 }
 
 fn tag_decimal(text: &str) -> Result<u64, FaultKind>
@@ -169,6 +169,6 @@ pub fn said_by_init_section_tag(
     let list = tag_attributes_of(alloc, rest)?;
     let reference = required_tag_value(&list, "URI", true)?;
     let byte_range = init_section_tag_byte_range(&list)?;
-    let uri = shared_tag_uri(alloc, base, reference)?;
+    let uri = shared_tag_uri_of(alloc, base, reference)?;
     Ok(InitSectionTag { uri, byte_range })
 }

@@ -1,7 +1,7 @@
 //! The instants at which a playlist's segments begin (RFC 8216, sections 4.3.2.6 and 6.2.1).
 #![tactic(auto)]
 
-ghost use Rattle.std.specs.Prelude.{◌≡◌, ℤ, List, [], ◌∷◌, IfOk, IfErr, IfSome, None, MatchOption, option_map, pos, ◌-ℤ◌, ◌||◌, replicate};
+ghost use Rattle.std.specs.Prelude.{◌≡◌, ℤ, List, [], ◌∷◌, IfOk, IfErr, IfSome, None, Some, MatchOption, option_map, pos, ◌-ℤ◌, ◌+ℤ◌, ◌||◌, replicate};
 ghost use Rattle.std.specs.List.{list_all};
 ghost use Rattle.std.specs.Option.{is_some};
 ghost use Rattle.playlist_model.specs.Instants.{bounded, instants_after};
@@ -11,6 +11,7 @@ ghost use Rattle.timeline.specs.Reckoned.{clamped, reckoned, stack_of, IsKeptSta
 ghost use Rattle.timeline.specs.Inner.Reckoned.{is_beginning_unstated};
 
 use date_times::FIRST_INSTANT;
+use fixed_duration::Nanos;
 use playlist_model::{Instant, SegmentRef, SegmentSlice};
 use std::alloc::{AllocError, Global};
 use std::marker::Model;
@@ -20,12 +21,28 @@ mod optional_instant;
 
 pub use optional_instant::OptionalInstant;
 
-fn nanos_of_beginning(instant: Option<Instant>) -> Option<i128>
-    ensures { result ≡ instant }
+#[tactic(auto, using(crate::proofs::Ends::outside_alike))]
+// The same number, if it has 64 bits; else one that is outside the range of instants too.
+fn end_in_64_bits(end: i128) -> i64
+    ensures { (segments : List Segment) → instants_after (Some result) segments ≡ instants_after (Some end) segments }
 {
-    match instant {
-        Some(instant) => Some(i128::from(instant.0)),
-        None => None,
+    match i64::try_from(end) {
+        Ok(end) => end,
+        Err(_) => i64::MAX,
+    }
+}
+
+#[tactic(auto, using(crate::proofs::Ends::outside_alike))]
+// When a segment ends that begins at an instant and lasts so long. Any number serves that is outside the range of instants, if the
+// end is.
+#[inline(always)]
+fn end_after_beginning(begun: Instant, duration: Nanos) -> i64
+    ensures { (segments : List Segment)
+        → instants_after (Some result) segments ≡ instants_after (Some (begun +ℤ pos duration)) segments }
+{
+    match i64::try_from(duration.0) {
+        Ok(duration) => begun.0.saturating_add(duration),
+        Err(_) => end_in_64_bits(i128::from(begun.0) + i128::from(duration.0)),
     }
 }
 
@@ -57,24 +74,27 @@ fn beginning_reckoned_here(segment: &SegmentRef<'_>, after: Option<i128>) -> Opt
 
 // When a segment begins (RFC 8216, section 4.3.2.6): at its stated time, else when the one before it ended, else
 // back from the first time that is stated later.
+#[inline(always)]
 fn segment_begins_at(
-    ended: Option<i128>,
+    ended: Option<i64>,
     segment: &SegmentRef<'_>,
     reckoned: Option<i128>,
 ) -> OptionalInstant
     ensures { result
         ≡ bounded (or_earlier segment.now.program_date_time (or_earlier ended reckoned)) }
 {
-    OptionalInstant::from_nanos(
-        nanos_of_beginning(segment.program_date_time())
-            .or(ended)
-            .or(reckoned),
-    )
+    if let Some(time) = segment.program_date_time() {
+        return OptionalInstant::from_number(time.0);
+    }
+    match ended {
+        Some(ended) => OptionalInstant::from_number(ended),
+        None => OptionalInstant::from_nanos(reckoned),
+    }
 }
 
 // Whether a segment states its time or follows one that begins somewhere, so that nothing is reckoned back for it.
 #[inline(always)]
-fn is_beginning_told(segment: &SegmentRef<'_>, ended: &Option<i128>) -> bool
+fn is_beginning_told(segment: &SegmentRef<'_>, ended: &Option<i64>) -> bool
     ensures { result ≡ (is_some segment.now.program_date_time || is_some ended.now) }
 {
     segment.program_date_time().is_some() || ended.is_some()
@@ -151,7 +171,8 @@ fn pop_reckoned_beginning(kept: &mut Vec<Option<i128>>) -> Option<i128>
 #[derive(Drop)]
 pub struct Beginnings<'a> {
     alloc: Global,
-    ended: Option<i128>,
+    // When the segment before ended, or any number outside the range of instants if that was outside it.
+    ended: Option<i64>,
     segments: SegmentSlice<'a>,
     // What is kept of the segments that are left, once one of them needed what is reckoned back.
     kept: Option<Vec<Option<i128>>>,
@@ -182,6 +203,10 @@ impl<'a> Beginnings<'a> {
     pub fn new(alloc: Global, ended: Option<i128>, segments: SegmentSlice<'a>) -> Beginnings<'a>
         ensures { result ≡ instants_after ended segments.entry }
     {
+        let ended = match ended {
+            Some(ended) => Some(end_in_64_bits(ended)),
+            None => None,
+        };
         Beginnings {
             alloc,
             ended,
@@ -222,7 +247,10 @@ impl<'a> Beginnings<'a> {
             None => None,
         };
         let begun = segment_begins_at(ended, &segment, reckoned);
-        self.ended = begun.end(segment.duration());
+        self.ended = match begun.get() {
+            Some(begun) => Some(end_after_beginning(begun, segment.duration())),
+            None => None,
+        };
         self.segments = later;
         Ok(Some(begun))
     }

@@ -1,5 +1,5 @@
 //! An instant, or none, in the room of one number.
-ghost use Rattle.std.specs.Prelude.{◌≡◌};
+ghost use Rattle.std.specs.Prelude.{◌≡◌, Some};
 ghost use Rattle.playlist_model.specs.Instants.{bounded, ends_at};
 
 use date_times::Instant;
@@ -44,6 +44,18 @@ impl OptionalInstant {
             Some(instant) => OptionalInstant { nanos: instant.0 },
             None => OptionalInstant { nanos: NO_INSTANT },
         }
+    }
+
+    /// The instant `nanos` nanoseconds after 1970 began; none if it is outside the years 1900 to 2199.
+    #[inline(always)]
+    pub fn from_number(nanos: i64) -> OptionalInstant
+        ensures { result ≡ bounded (Some nanos) }
+    {
+        let instant = Instant(nanos);
+        if instant.is_in_range() {
+            return OptionalInstant { nanos };
+        }
+        OptionalInstant { nanos: NO_INSTANT }
     }
 
     /// The instant, if there is one.

@@ -11,7 +11,7 @@ ghost use Rattle.uri_resolver.specs.Plain.{is_path_segment_byte, is_relative_ref
 
 use crate::plain::{is_relative_path_segment, is_relative_reference, is_rooted_reference};
 pub use plain::after_path_segment;
-use playlist_model::{ShortText, has_control, has_quote, has_scheme};
+use playlist_model::{has_control, has_quote, has_scheme};
 use std::alloc::{AllocError, Global};
 use std::marker::Model;
 use url::{ParseError, Position, Url};
@@ -213,18 +213,5 @@ impl Base {
             return Ok(join_reference(self.alloc, front, reference)?);
         }
         self.resolve_other(reference)
-    }
-
-    /// The URI that `reference` is under this base, as `resolve` gives it and with the same faults, as a text that
-    /// takes no memory of its own if it is short.
-    #[inline(always)]
-    pub fn resolve_short(&self, reference: &str) -> Result<ShortText, BaseFault>
-        ensures { MatchResult result (λ text. resolved self.now reference.now ≡ Some text)
-            (λ e. RefusesUri e (resolved self.now reference.now)) }
-    {
-        if let Some(front) = self.front_of(reference) {
-            return Ok(ShortText::join(self.alloc, front, reference)?);
-        }
-        Ok(ShortText::from_string(self.resolve_other(reference)?))
     }
 }

@@ -1,10 +1,12 @@
 -- Tables of a list that grow, and what stands at their places.
-use Rattle.std.specs.Prelude.{◌≡◌, ◌++◌, ◌-◌, ◌<◌, ℕ, List, Option, Some, None, length, string_bytes}
+use Rattle.std.specs.Prelude.{◌≡◌, ◌++◌, ◌+◌, ◌-◌, ◌<◌, ◌^◌, ℕ, List, Option, Some, None, length, string_bytes}
 use Rattle.std.specs.List.{slice_get}
 use Rattle.playlist_model.specs.declared.Key.{Key}
 use Rattle.playlist_model.specs.declared.InitSection.{InitSection}
 use Rattle.playlist_model.specs.declared.in_common.KeyPlaces.{KeyPlaces}
-use Rattle.playlist_model.specs.declared.segments.Standing.{Standing}
+use Rattle.playlist_model.specs.declared.places.Place.{Place}
+use Rattle.playlist_model.specs.declared.standings.SegmentNumbers.{SegmentNumbers}
+use Rattle.playlist_model.specs.declared.standings.Standing.{Standing}
 use Rattle.playlist_model.specs.declared.segments.Tables.{Tables}
 use Rattle.playlist_model.specs.InCommon.{AreSameAt, init_section_keys}
 use Rattle.playlist_model.specs.Rows.{row_standing}
@@ -17,13 +19,21 @@ pub record Grows {A : Type 0} (xs ys : List A) : Type 0 where
 -- each table of the second is that of the first, and maybe more
 pub record Extends (t u : Tables) : Type 0 where
   pub texts : Grows (string_bytes t.texts) (string_bytes u.texts)
-  pub byte_ranges : Grows t.byte_ranges.items u.byte_ranges.items
+  pub extras : Grows t.extras.items u.extras.items
   pub standings : Grows t.standings.items u.standings.items
 
--- at a place stands this over segments
-abbrev pub StandsAt : List Standing → ℕ → List Key → Option InitSection → ℕ → Type 0
-StandsAt standings discontinuities keys init_section place =
-    (found : Standing) × (slice_get standings place ≡ Some found) × (found.discontinuities ≡ discontinuities) × (found.keys ≡ keys) × (found.init_section ≡ init_section)
+-- this stands over the segment of these numbers and a URI whose front lies there, which comes so many after the first one
+pub record StandsOver (standing : Standing) (after : ℕ) (numbers : SegmentNumbers) (uri_front : Place) : Type 0 where
+  pub media_sequence_is : standing.numbers.media_sequence + after ≡ numbers.media_sequence
+  pub discontinuity_sequence_is : standing.numbers.discontinuity_sequence ≡ numbers.discontinuity_sequence
+  pub discontinuities_are : standing.numbers.discontinuities ≡ numbers.discontinuities
+  pub uri_front_is : standing.uri_front ≡ uri_front
+  pub word : numbers.media_sequence < 2 ^ 64
+
+-- at a place stands this over that segment, which comes so many after the first one
+abbrev pub StandsAt : List Standing → SegmentNumbers → Place → List Key → Option InitSection → ℕ → ℕ → Type 0
+StandsAt standings numbers uri_front keys init_section place after =
+    (found : Standing) × (slice_get standings place ≡ Some found) × StandsOver found after numbers uri_front × (found.keys ≡ keys) × (found.init_section ≡ init_section)
 
 -- the keys and the initialisation section in force are those of this place, if it is one
 abbrev pub AreInForceOf : List Standing → Option ℕ → List Key → Option InitSection → Type 0

@@ -6,4 +6,5 @@ use Rattle.playlist_model.proofs.places.put_segment_text.Goals as goal
 
 pub returns-clause-there : goal.returns-clause-there
 returns-clause-there c =
-    text_put (string_bytes c.args.texts.now) (string_bytes c.push_str-2.new.self) c.args.front.now c.args.rest.now _ (grind (arith, common_steps)) (grind (arith, common_steps)) (grind (arith, common_steps)) c.utf8.front c.utf8.rest
+    let put = text_put (string_bytes c.args.texts.now) (string_bytes c.append_segment_text.new.texts) c.args.text.now _ (grind (arith, common_steps)) (grind (arith, common_steps)) (grind (arith, common_steps)) c.utf8.text in
+    (put.0, put.1, grind (arith, common_steps), grind (arith, common_steps))
