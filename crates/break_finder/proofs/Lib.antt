@@ -12,3 +12,4 @@ pub mod Again
 pub mod NothingNew
 pub mod Candidates
 pub mod Placed
+pub mod OrderedSpans

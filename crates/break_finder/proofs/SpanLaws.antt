@@ -24,7 +24,7 @@ one_step e true false last = refl
 one_step e false early last = refl
 
 -- if it can be entered, it is, if it isn't the last one entered
-one_taken : (tolerance : ℕ) (last : Option (List ℕ)) (instant : ℤ) (e : Entrance) → first_entrance tolerance last instant (e ∷ []) ≡ cond (is_enterable tolerance instant e) (break_entered_but_last (Some e.id) None last) None
+pub one_taken : (tolerance : ℕ) (last : Option (List ℕ)) (instant : ℤ) (e : Entrance) → first_entrance tolerance last instant (e ∷ []) ≡ cond (is_enterable tolerance instant e) (break_entered_but_last (Some e.id) None last) None
 one_taken tolerance last instant e = grind arith
 
 pub open_tells : (tolerance : ℕ) (e : Entrance) (span : BreakSpan) → span.first ≡ Some e.id → span.second ≡ None
@@ -41,7 +41,7 @@ taken_step : (x y : Option Entrance) → option_map entrance_id (option_or x y) 
 taken_step None y = refl
 taken_step (Some e) y = refl
 
-taken_append : (tolerance : ℕ) (last : Option (List ℕ)) (instant : ℤ) (before after : List Entrance)
+pub taken_append : (tolerance : ℕ) (last : Option (List ℕ)) (instant : ℤ) (before after : List Entrance)
     → first_entrance tolerance last instant (before ++ after) ≡ option_or (first_entrance tolerance last instant before) (first_entrance tolerance last instant after)
 taken_append tolerance last instant before after = grind (arith, find-append, taken_step)
 

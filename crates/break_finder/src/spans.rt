@@ -374,6 +374,39 @@ fn break_spans_halved<'a>(
     join_break_spans(alloc, ours.as_slice(), theirs.as_slice())
 }
 
+// The spans of breaks each of which can be entered only when none before it can be any more, as mostly all of them are. `None` if
+// one can be entered earlier.
+fn break_spans_in_order<'a>(
+    alloc: Global,
+    tolerance: Nanos,
+    list: &[Entrance<'a>],
+) -> Result<Option<Vec<BreakSpan<'a>>>, AllocError>
+    ensures tells { IfOk result (λ some. IfSome some (λ v. All (TellsEntrances tolerance list.now) v.items)) }
+    ensures places { IfOk result (λ some. IfSome some (λ v. All (HasPlaces list.now) v.items)) }
+    ensures few { IfOk result (λ some. IfSome some (λ v. length v.items ≡ 2 * length list.now + 1)) }
+{
+    let most = list.len().saturating_mul(2).saturating_add(1);
+    let mut spans = Vec::with_capacity(alloc, most)?;
+    let mut over = i128::MIN;
+    let mut place = 0;
+    for entrance in list {
+        let within = open_break_span(tolerance, entrance, place);
+        let (from, to) = (within.from, within.to);
+        if from < over {
+            return Ok(None);
+        }
+        if to < from {
+            return Ok(None);
+        }
+        spans.push(closed_break_span(over, from))?;
+        spans.push(within)?;
+        over = to;
+        place += 1;
+    }
+    spans.push(closed_break_span(over, i128::MAX))?;
+    Ok(Some(spans))
+}
+
 /// The spans of time in which the breaks of `list` are entered, by `tolerance`: at most three for each break. Fails
 /// only if an allocation fails.
 pub fn break_spans_of<'a>(
@@ -386,7 +419,13 @@ pub fn break_spans_of<'a>(
     ensures places { IfOk result (λ v. All (HasPlaces list.now) v.items) }
     ensures few { IfOk result (λ v. length v.items ≤ 3 * length list.now) }
 {
-    break_spans_halved(alloc, tolerance, list, 0, HALVINGS)
+    if list.is_empty() {
+        return Ok(Vec::new(alloc));
+    }
+    match break_spans_in_order(alloc, tolerance, list)? {
+        Some(spans) => Ok(spans),
+        None => break_spans_halved(alloc, tolerance, list, 0, HALVINGS),
+    }
 }
 
 /// The place, from 0, of that one of `spans` in which `instant` is, which often is `place`.

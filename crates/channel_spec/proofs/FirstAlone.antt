@@ -1,16 +1,16 @@
 -- A first refresh without decisions is owed as it was read.
-use Rattle.std.proofs.Common.{◌≡◌, ℕ, ◌+◌, ◌-◌, Bool, true, false, cond, not, ◌&&◌, ◌||◌, List, [], ◌∷◌, ◌++◌, map, filter, reverse, refl, ap, sym, ◌∙◌, subst, append_assoc, arith}
-use Rattle.std.proofs.lemmas.Bool.{and_parts, eqb-true}
+use Rattle.std.proofs.Common.{◌≡◌, ℕ, ◌+◌, ◌-◌, ◌^◌, Bool, true, false, cond, not, ◌&&◌, ◌||◌, List, [], ◌∷◌, ◌++◌, map, filter, reverse, refl, ap, sym, ◌∙◌, subst, append_assoc, arith}
+use Rattle.std.proofs.lemmas.Bool.{and_parts, and_from, eqb-true}
 use Rattle.std.proofs.lemmas.List.{append-nil, take_all}
-use Rattle.std.specs.Prelude.{ℤ, Option, Some, None, find}
-use Rattle.std.specs.List.{AllByRecursion, list_any}
+use Rattle.std.specs.Prelude.{ℤ, Option, Some, None, find, nat_lt}
+use Rattle.std.specs.List.{AllByRecursion, list_all, list_any}
 use Rattle.playlist_model.specs.Segments.{Segment}
 use Rattle.playlist_model.specs.declared.DateRange.{DateRange}
 use Rattle.playlist_model.specs.declared.Playlist.{Playlist}
-use Rattle.playlist_model.specs.Instants.{instants_after}
+use Rattle.playlist_model.specs.Instants.{begins_at, ends_at, instants_after}
 use Rattle.playlist_model.specs.Numbering.{Numbers, segment_numbers, follows, all_follow, numbers_rise}
 use Rattle.pod_store.specs.Marks.{Mark, Marked, newest_mark, continues, are_one}
-use Rattle.stitcher.specs.Stitched.{Item, kept_piece, stitched, numbered, numbers_at, next_stitched_numbers, steps_between, numbers_from, first_numbers, newest_place, up_to, from_place}
+use Rattle.stitcher.specs.Stitched.{Item, can_be_numbered, kept_piece, stitched, numbered, numbers_at, next_stitched_numbers, steps_between, numbers_from, first_numbers, newest_place, up_to, from_place}
 use Rattle.stitcher.specs.Paced.{due_stitched, due_list}
 use Rattle.pod_store.specs.Store.{nothing_decided}
 use Rattle.break_finder.specs.Breaks.{Break}
@@ -19,11 +19,12 @@ use Rattle.break_finder.specs.Entering as entering
 use Rattle.break_finder.specs.Known.{is_this_break}
 use Rattle.channel_spec.specs.Marking.{Moment, entered, last_entered, newest_end, next_shown, show_all}
 use Rattle.channel_spec.specs.Successor.{first_number, end_number}
-use Rattle.channel_spec.specs.Live.{refreshed, Told, told, nothing_told, last_playlist, item_place, after_refresh, moment, item_segment, window_after}
+use Rattle.channel_spec.specs.Live.{refreshed, Told, told, nothing_told, last_playlist, item_place, after_refresh, moment, item_segment, whole_stitched_list, window_after}
 use Rattle.channel_spec.specs.LiveLaws.{Linked}
 use Rattle.channel_spec.specs.Sound.{IsSoundPlaylist}
 use Rattle.channel_spec.specs.BreakLaws.{is_of_pod}
 use Rattle.channel_spec.specs.OwedLaws.{states_time, is_played, with_times, NothingDecidedNothingChanged}
+use Rattle.channel_spec.proofs.Reversed.{list_all-reverse}
 use Rattle.channel_spec.proofs.Windows.{reverse-cons}
 use Rattle.channel_spec.proofs.Growth.{history_grows, first_numbers_stay}
 use Rattle.channel_spec.proofs.Risen.{FallFrom}
@@ -83,30 +84,37 @@ same_numbers : (media discontinuity number own steps : ℕ) → number ≡ media
     → ◌≡◌ {A = Numbers} (record { media_sequence = media + 1; discontinuity_sequence = discontinuity + (own - discontinuity); discontinuities = own - discontinuity }) (record { media_sequence = number; discontinuity_sequence = own; discontinuities = steps })
 same_numbers media discontinuity number own steps e f = grind arith
 
-as_segment : (s : Segment) (instant : Option ℤ) (mark : Option Mark) (n : Numbers) → n ≡ segment_numbers s
-    → item_segment (record { piece = kept_piece (record { segment = s; instant = instant; mark = mark }); numbers = n }) ≡ record s { program_date_time = instant }
-as_segment s instant mark n e = grind arith
+-- a segment that was read, as an item with its own numbers
+abbrev pub read_item : Segment → Option ℤ → Item
+read_item s instant = record { piece = kept_piece (record { segment = s; instant = instant; mark = None }); numbers = segment_numbers s }
 
-abbrev written : Numbers → List Marked → List Segment
-written first history = map item_segment (reverse (numbered first (map kept_piece history)))
+-- segments that begin at these instants
+abbrev pub read_items : List Segment → List (Option ℤ) → List Item
+read_items [] instants = []
+read_items (s ∷ later) [] = []
+read_items (s ∷ later) (instant ∷ instants) = read_item s instant ∷ read_items later instants
 
-written-cons : (first : Numbers) (s : Marked) (before : List Marked) → numbers_at first (kept_piece s) (map kept_piece before) ≡ segment_numbers s.segment
-    → written first (s ∷ before) ≡ written first before ++ (record s.segment { program_date_time = s.instant } ∷ [])
-written-cons first s before e =
+abbrev item_with : Marked → Numbers → Item
+item_with s n = record { piece = kept_piece s; numbers = n }
+
+as_read : (s : Marked) (n : Numbers) → n ≡ segment_numbers s.segment → item_with s n ≡ read_item s.segment s.instant
+as_read s n e = ap (item_with s) e
+
+abbrev in_order : Numbers → List Marked → List Item
+in_order first history = reverse (numbered first (map kept_piece history))
+
+in_order-cons : (first : Numbers) (s : Marked) (before : List Marked) → numbers_at first (kept_piece s) (map kept_piece before) ≡ segment_numbers s.segment
+    → in_order first (s ∷ before) ≡ in_order first before ++ (read_item s.segment s.instant ∷ [])
+in_order-cons first s before e =
     let item : Item = record { piece = kept_piece s; numbers = numbers_at first (kept_piece s) (map kept_piece before) } in
-    ap (map item_segment) (reverse-cons item (numbered first (map kept_piece before)))
-    ∙ (map-append (reverse (numbered first (map kept_piece before))) item ∙ ap (λ x. written first before ++ (x ∷ [])) (as_segment s.segment s.instant s.mark (numbers_at first (kept_piece s) (map kept_piece before)) e))
-  where
-    map-append : (xs : List Item) (x : Item) → map item_segment (xs ++ (x ∷ [])) ≡ map item_segment xs ++ (item_segment x ∷ [])
-    map-append [] x = refl
-    map-append (y ∷ xs) x = ap (λ ys. item_segment y ∷ ys) (map-append xs x)
+    reverse-cons item (numbered first (map kept_piece before)) ∙ ap (λ x. in_order first before ++ (x ∷ [])) (as_read s (numbers_at first (kept_piece s) (map kept_piece before)) e)
 
 -- the segments that come after these
-written_on : (m : Moment) (first : Numbers) (x : Marked) (rest : List Marked) (segments : List Segment) → numbers_at first (kept_piece x) (map kept_piece rest) ≡ segment_numbers x.segment
+in_order_on : (m : Moment) (first : Numbers) (x : Marked) (rest : List Marked) (segments : List Segment) → numbers_at first (kept_piece x) (map kept_piece rest) ≡ segment_numbers x.segment
     → all_follow segment_numbers x.segment segments ≡ true
-    → written first (show_all m (x ∷ rest) segments) ≡ written first (x ∷ rest) ++ with_times segments (instants_after (newest_end (x ∷ rest)) segments)
-written_on m first x rest [] e f = sym (append-nil (written first (x ∷ rest)))
-written_on m first x rest (s ∷ later) e f =
+    → in_order first (show_all m (x ∷ rest) segments) ≡ in_order first (x ∷ rest) ++ read_items segments (instants_after (newest_end (x ∷ rest)) segments)
+in_order_on m first x rest [] e f = sym (append-nil (in_order first (x ∷ rest)))
+in_order_on m first x rest (s ∷ later) e f =
     let before = x ∷ rest in
     let here = next_shown m before s later in
     let a = and_parts (follows (segment_numbers x.segment) (segment_numbers s)) (all_follow segment_numbers s later) f in
@@ -115,23 +123,40 @@ written_on m first x rest (s ∷ later) e f =
     let own : s.discontinuity_sequence ≡ x.segment.discontinuity_sequence + s.discontinuities = eqb-true s.discontinuity_sequence (x.segment.discontinuity_sequence + s.discontinuities) b.1 in
     let numbers : numbers_at first (kept_piece here) (map kept_piece before) ≡ segment_numbers s =
     ap (λ n. next_stitched_numbers n (steps_between (kept_piece x) (kept_piece here))) e ∙ same_numbers x.segment.media_sequence x.segment.discontinuity_sequence s.media_sequence s.discontinuity_sequence s.discontinuities number own in
-    written_on m first here before later numbers a.1
-    ∙ (ap (λ ss. ss ++ with_times later (instants_after (newest_end (here ∷ before)) later)) (written-cons first here before numbers)
-    ∙ append_assoc (written first before) (record s { program_date_time = here.instant } ∷ []) (with_times later (instants_after (newest_end (here ∷ before)) later)))
+    in_order_on m first here before later numbers a.1
+    ∙ (ap (λ items. items ++ read_items later (instants_after (newest_end (here ∷ before)) later)) (in_order-cons first here before numbers)
+    ∙ append_assoc (in_order first before) (read_item s here.instant ∷ []) (read_items later (instants_after (newest_end (here ∷ before)) later)))
+
+-- as segments they state their instants
+times_of : (segments : List Segment) (ended : Option ℤ) → map item_segment (read_items segments (instants_after ended segments)) ≡ with_times segments (instants_after ended segments)
+times_of [] ended = refl
+times_of (s ∷ later) ended =
+    let begun = begins_at ended s later in
+    ap (λ ss. item_segment (read_item s begun) ∷ ss) (times_of later (ends_at begun s.duration))
+
+-- ---- each number fits
+
+abbrev pub has_numbers_that_fit : Segment → Bool
+has_numbers_that_fit s = nat_lt s.media_sequence (2 ^ 64) && nat_lt s.discontinuity_sequence (2 ^ 64)
+
+reads_fit : (segments : List Segment) (instants : List (Option ℤ)) → list_all has_numbers_that_fit segments ≡ true → list_all can_be_numbered (read_items segments instants) ≡ true
+reads_fit [] instants h = refl
+reads_fit (s ∷ later) [] h = refl
+reads_fit (s ∷ later) (i ∷ instants) h = let a = and_parts _ _ h in and_from _ _ a.0 (reads_fit later instants a.1)
 
 -- ---- a first refresh
 
 abbrev here_of : Moment → Segment → List Segment → Marked
 here_of m s later = next_shown m [] s later
 
-first_written : (m : Moment) (s : Segment) (later : List Segment) → m.store ≡ nothing_decided → numbers_rise segment_numbers (s ∷ later) ≡ true
-    → written (first_numbers (show_all m (here_of m s later ∷ []) later)) (show_all m (here_of m s later ∷ []) later) ≡ with_times (s ∷ later) (instants_after None (s ∷ later))
-first_written m s later e r =
+first_in_order : (m : Moment) (s : Segment) (later : List Segment) → m.store ≡ nothing_decided → numbers_rise segment_numbers (s ∷ later) ≡ true
+    → in_order (first_numbers (show_all m (here_of m s later ∷ []) later)) (show_all m (here_of m s later ∷ []) later) ≡ read_items (s ∷ later) (instants_after None (s ∷ later))
+first_in_order m s later e r =
     let here = here_of m s later in
     let g = history_grows m (here ∷ []) later in
     let n = first_numbers (show_all m (here ∷ []) later) in
     let first : n ≡ segment_numbers s = ap first_numbers g.1 ∙ (first_numbers_stay g.0 here [] ∙ ap (numbers_from s) (unmarked_next m [] s later e refl)) in
-    written_on m n here [] later first (and_parts _ _ r).1 ∙ ap (λ ss. ss ++ with_times later (instants_after (newest_end (here ∷ [])) later)) (written-cons n here [] first)
+    in_order_on m n here [] later first (and_parts _ _ r).1 ∙ ap (λ items. items ++ read_items later (instants_after (newest_end (here ∷ [])) later)) (in_order-cons n here [] first)
 
 place_first : (m : Moment) (s : Segment) (later : List Segment) (end : ℕ) → FallFrom end (show_all m (here_of m s later ∷ []) later) → item_place s.media_sequence (show_all m (here_of m s later ∷ []) later) ≡ 0
 place_first m s later end f =
@@ -150,7 +175,7 @@ module _ (tolerance : ℕ) (p : Playlist) (s : Segment) (later : List Segment) (
   abbrev hist : List Marked
   hist = show_all m (here_of m s later ∷ []) later
 
-  abbrev then : Told
+  abbrev pub then : Told
   then = after_refresh tolerance nothing_told p
 
   history_is : then.history ≡ hist
@@ -171,10 +196,22 @@ module _ (tolerance : ℕ) (p : Playlist) (s : Segment) (later : List Segment) (
       ∙ whole_list (first_numbers hist) p.end_list hist (item_place (first_number p.segments) hist)
       (ap (λ ss. item_place (first_number ss) hist) segments ∙ place_first m s later (end_number p.segments) falls) linked unmarked
 
+  pub items_are : numbers_rise segment_numbers p.segments ≡ true → window_after then p ≡ read_items p.segments (instants_after None p.segments)
+  items_are r =
+      window_is
+      ∙ (first_in_order m s later refl (sym (ap (numbers_rise segment_numbers) segments) ∙ r) ∙ sym (ap (λ ss. read_items ss (instants_after None ss)) segments))
+
   segments_are : numbers_rise segment_numbers p.segments ≡ true → map item_segment (window_after then p) ≡ with_times p.segments (instants_after None p.segments)
-  segments_are r =
-      ap (map item_segment) window_is
-      ∙ (first_written m s later refl (sym (ap (numbers_rise segment_numbers) segments) ∙ r) ∙ sym (ap (λ ss. with_times ss (instants_after None ss)) segments))
+  segments_are r = ap (map item_segment) (items_are r) ∙ times_of p.segments None
+
+  -- no number of the stitched list passes its range
+  pub whole_fits : numbers_rise segment_numbers p.segments ≡ true → list_all has_numbers_that_fit p.segments ≡ true → list_all can_be_numbered (whole_stitched_list then) ≡ true
+  whole_fits r h =
+      let whole : whole_stitched_list then ≡ numbered (first_numbers hist) (map kept_piece hist) =
+      ap (λ (x : List Marked). due_list p.end_list x) history_is ∙ ap (numbered (first_numbers hist)) (due_plain p.end_list hist linked unmarked) in
+      ap (list_all can_be_numbered) whole
+      ∙ (sym (list_all-reverse can_be_numbered (numbered (first_numbers hist) (map kept_piece hist)))
+      ∙ (ap (list_all can_be_numbered) (sym window_is ∙ items_are r) ∙ reads_fit p.segments (instants_after None p.segments) h))
 
   none_of_pod : (id : List ℕ) (first : Numbers) (history : List Marked) → list_any (is_of_pod id) (numbered first (map kept_piece history)) ≡ false
   none_of_pod id first [] = refl

@@ -1,3 +1,4 @@
 pub mod Lists
 pub mod Bounds
 pub mod Keeping
+pub mod SaidIds

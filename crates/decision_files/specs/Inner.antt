@@ -1,1 +1,3 @@
 pub mod Views
+pub mod Ids
+pub mod Members

@@ -88,7 +88,7 @@ fn ads_of_decision_file(alloc: Global, pod: Place, list: &[Value]) -> Result<Vec
     ensures said { GivesOrDecisionFault (λ v. v.items) result (each_after (next_ad pod) [] (map view list.now)) }
     ensures most { IfOk result (λ v. sum (map segment_count v.items) ≤ MAX_POD_SEGMENTS) }
 {
-    let mut done: Vec<Ad> = Vec::new(alloc);
+    let mut done: Vec<Ad> = Vec::with_capacity(alloc, list.len().min(MAX_POD_SEGMENTS))?;
     let mut before: usize = 0;
     let mut rest = list;
     while let Some((value, later)) = rest.split_first() {

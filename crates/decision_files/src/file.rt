@@ -4,15 +4,18 @@ ghost use Rattle.serde_json.specs.View.{view};
 ghost use Rattle.std.specs.Str.{is_utf8};
 ghost use Rattle.spec_words.specs.Outcomes.{each_after, GivesExactly, Tells};
 ghost use Rattle.pod_store.specs.Outcome.{GivesOrDecisionFault, nowhere, fault_at};
+ghost use Rattle.decision_files.specs.Inner.Members.{says_breaks_alone};
 ghost use Rattle.decision_files.specs.Decided.{id_said_by_decision_file, pod_said_by_decision_file, decision_said, next_break, breaks_said_by_decision_file, withdrawal_said_by_decision_file, fallback_pod_of_decision_file, fallback_said_by_decision_file, decisions_said_by_json, json_of_decision_file, decisions_of};
 
 use crate::ads::pod_said_by_decision_file;
+use crate::ids::BreakIdsSaid;
 use crate::members::{
-    json_list_in_decision_file, json_text_in_decision_file, json_values_in_decision_file,
+    json_list_in_decision_file, json_text_in_decision_file, owned_json_member_of_decision_file,
+    owned_json_values_of_decision_file,
 };
 use crate::texts::is_decision_file_id;
 use playlist_model::{Items, Text, playlist_text_of};
-use pod_store::{Decision, DecisionFault, DecisionKind, Decisions, IdSet, Place};
+use pod_store::{Decision, DecisionFault, DecisionKind, Decisions, MAX_BREAKS, Place};
 use serde_json::Value;
 use std::alloc::Global;
 use std::hash::RandomState;
@@ -29,11 +32,11 @@ fn id_said_by_decision_file(pod: usize, value: &Value) -> Result<&str, DecisionF
 }
 
 // The break of this value, which stands after those whose IDs came before.
-fn break_said_by_decision_file<'a>(
+fn break_said_by_decision_file(
     alloc: Global,
     pod: usize,
-    before: &mut IdSet<'a>,
-    value: &'a Value,
+    before: &mut BreakIdsSaid,
+    value: &Value,
 ) -> Result<Decision, DecisionFault>
     ensures said { GivesOrDecisionFault (λ d. d) result
         (decision_said pod before.old (view value.now)) }
@@ -42,7 +45,7 @@ fn break_said_by_decision_file<'a>(
     let place = Place::in_break(pod);
     let id = id_said_by_decision_file(pod, value)?;
     let ads = json_list_in_decision_file(value, "ads").ok_or(place.fault(DecisionKind::Shape))?;
-    if !before.insert(id)? {
+    if !before.insert(alloc, id)? {
         return Err(place.fault(DecisionKind::Shape));
     }
     let said = pod_said_by_decision_file(alloc, place, ads)?;
@@ -50,21 +53,21 @@ fn break_said_by_decision_file<'a>(
     Ok((id, said))
 }
 
+// Each value is dropped once its break is read: a value takes several times the memory of what it says, and what later
+// breaks say goes into its place.
 fn breaks_of_decision_file(
     alloc: Global,
     hashing: RandomState,
-    list: &[Value],
+    list: Vec<Value>,
 ) -> Result<Vec<Decision>, DecisionFault>
     ensures { GivesOrDecisionFault (λ v. v.items) result
-        (each_after next_break [] (map view list.now)) }
+        (each_after next_break [] (map view list.items)) }
 {
-    let mut done: Vec<Decision> = Vec::new(alloc);
-    let mut ids = IdSet::new(alloc, hashing);
-    let mut rest = list;
-    while let Some((value, later)) = rest.split_first() {
-        let decision = break_said_by_decision_file(alloc, done.len(), &mut ids, value)?;
+    let mut done: Vec<Decision> = Vec::with_capacity(alloc, list.len().min(MAX_BREAKS))?;
+    let mut ids = BreakIdsSaid::new(alloc, hashing);
+    for value in list {
+        let decision = break_said_by_decision_file(alloc, done.len(), &mut ids, &value)?;
         done.push(decision)?;
-        rest = later;
     }
     Ok(done)
 }
@@ -72,11 +75,11 @@ fn breaks_of_decision_file(
 fn breaks_said_by_decision_file(
     alloc: Global,
     hashing: RandomState,
-    value: &Value,
+    value: Value,
 ) -> Result<Decisions, DecisionFault>
-    ensures { GivesOrDecisionFault (λ d. d) result (breaks_said_by_decision_file (view value.now)) }
+    ensures { GivesOrDecisionFault (λ d. d) result (breaks_said_by_decision_file (view value)) }
 {
-    let list = json_values_in_decision_file(value).ok_or(Place::nowhere().fault(
+    let list = owned_json_values_of_decision_file(value).ok_or(Place::nowhere().fault(
         DecisionKind::Shape,
     ))?;
     let breaks = breaks_of_decision_file(alloc, hashing, list)?;
@@ -117,21 +120,42 @@ fn fallback_said_by_decision_file(alloc: Global, value: &Value) -> Result<Decisi
     fallback_pod_of_decision_file(alloc, value)
 }
 
-fn decisions_said_by_json(
-    alloc: Global,
-    hashing: RandomState,
-    value: &Value,
-) -> Result<Decisions, DecisionFault>
+// What an object says that has a member beside its breaks, or no breaks.
+fn other_decisions_said_by_json(alloc: Global, value: &Value) -> Result<Decisions, DecisionFault>
+    requires { says_breaks_alone (view value.now) ≡ false }
     ensures { GivesOrDecisionFault (λ d. d) result (decisions_said_by_json (view value.now)) }
 {
     let breaks = value.get("breaks");
     let withdraw = value.get("withdraw");
     let fallback = value.get("fallback");
     match (breaks, withdraw, fallback) {
-        (Some(breaks), None, None) => breaks_said_by_decision_file(alloc, hashing, breaks),
         (None, Some(id), None) => withdrawal_said_by_decision_file(alloc, id),
         (None, None, Some(pod)) => fallback_said_by_decision_file(alloc, pod),
         _ => Err(Place::nowhere().fault(DecisionKind::Shape)),
+    }
+}
+
+fn says_breaks_alone(value: &Value) -> bool
+    ensures { result ≡ says_breaks_alone (view value.now) }
+{
+    value.get("breaks").is_some()
+        && value.get("withdraw").is_none()
+        && value.get("fallback").is_none()
+}
+
+fn decisions_said_by_json(
+    alloc: Global,
+    hashing: RandomState,
+    value: Value,
+) -> Result<Decisions, DecisionFault>
+    ensures { GivesOrDecisionFault (λ d. d) result (decisions_said_by_json (view value)) }
+{
+    if !says_breaks_alone(&value) {
+        return other_decisions_said_by_json(alloc, &value);
+    }
+    match owned_json_member_of_decision_file(value, "breaks") {
+        Some(breaks) => breaks_said_by_decision_file(alloc, hashing, breaks),
+        None => Err(Place::nowhere().fault(DecisionKind::Shape)),
     }
 }
 
@@ -176,5 +200,5 @@ pub fn read_decisions(
         → result ≡ Err (fault_at nowhere DecisionKind.NotJson) }
 {
     let value = json_of_decision_file(alloc, bytes)?;
-    decisions_said_by_json(alloc, hashing, &value)
+    decisions_said_by_json(alloc, hashing, value)
 }

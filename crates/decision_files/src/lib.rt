@@ -3,6 +3,7 @@
 
 mod ads;
 mod file;
+mod ids;
 mod keys;
 mod members;
 mod segments;

@@ -1,6 +1,7 @@
 //! The members of the objects of a decision file.
 ghost use Rattle.std.specs.Prelude.{◌≡◌, map, option_map, length};
 ghost use Rattle.serde_json.specs.View.{view};
+ghost use Rattle.serde_json.specs.Find.{get};
 ghost use Rattle.decision_files.specs.Json.{json_text_in_decision_file, json_values_in_decision_file, json_list_in_decision_file, json_number_in_decision_file};
 ghost use Rattle.decision_files.specs.Decided.{byte_range_in_decision_file, byte_range_said_by_decision_file};
 
@@ -25,6 +26,27 @@ pub fn json_values_in_decision_file(value: &Value) -> Option<&[Value]>
 {
     match value.as_array() {
         Some(list) => Some(list.as_slice()),
+        None => None,
+    }
+}
+
+/// The same values, owned, so that each can be dropped when it is read.
+pub fn owned_json_values_of_decision_file(value: Value) -> Option<Vec<Value>>
+    ensures { option_map (λ list. map view list.items) result ≡ json_values_in_decision_file (view value) }
+{
+    match value {
+        Value::Array(list) => Some(list),
+        _ => None,
+    }
+}
+
+/// The value under `name` in the object `value`, if there is one. The rest of the object is dropped.
+pub fn owned_json_member_of_decision_file(value: Value, name: &str) -> Option<Value>
+    ensures { option_map view result ≡ get name.now (view value) }
+{
+    let mut value = value;
+    match value.get_mut(name) {
+        Some(found) => Some(found.take()),
         None => None,
     }
 }

@@ -85,7 +85,7 @@ fn segments_of_decision_file(
         (each_after (next_segment_of_decision_file ad before) [] (map view list.now)) }
     ensures most { IfOk result (λ v. before + length v.items ≤ MAX_POD_SEGMENTS) }
 {
-    let mut done = Vec::new(alloc);
+    let mut done = Vec::with_capacity(alloc, list.len().min(MAX_POD_SEGMENTS))?;
     let mut rest = list;
     while let Some((value, later)) = rest.split_first() {
         let segment = next_segment_of_decision_file(alloc, ad, before, &done, value)?;

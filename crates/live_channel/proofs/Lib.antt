@@ -12,3 +12,4 @@ pub mod LastText
 pub mod Listing
 pub mod Taking
 pub mod Windows
+pub mod Undecided

@@ -2,7 +2,7 @@
 ghost use Rattle.std.specs.Prelude.{◌≡◌, ◌<◌, ◌≤◌, [], Some, None, IfOk, IsErrOf, IsSome, length, option_map, slice_get};
 ghost use Rattle.std.specs.Option.{option_copied};
 ghost use Rattle.playlist_model.specs.Uri.{base_of};
-ghost use Rattle.live_channel.specs.Channel.{decided, withdrawn, ChangesStore, ChangesStoreExactly, after_bytes, StandsOn, AlwaysStandsOn, Represents, Decides, Withdraws, WritesWhatIsOwed, Refreshes, Knows, Explains, explained};
+ghost use Rattle.live_channel.specs.Channel.{decided, withdrawn, ChangesStore, ChangesStoreExactly, after_bytes, StandsOn, AlwaysStandsOn, Represents, Decides, Withdraws, WritesWhatIsOwed, Refreshes, WouldWrite, Knows, Explains, explained};
 ghost use Rattle.channel_window.specs.Listed.{window_segments_in};
 ghost use Rattle.pod_store.specs.Store.{withdrawn as without_break};
 ghost use Rattle.pod_store.specs.Store.{is_used};
@@ -18,6 +18,7 @@ use decision_files::read_decisions;
 use fixed_duration::Nanos;
 use playlist_kept::LastPlaylist;
 use playlist_model::{Shared, Text};
+use playlist_write::as_read::text_as_read;
 use playlist_write::resumed::WrittenText;
 use pod_store::{DecisionFault, PodStore};
 use std::alloc::{AllocError, Global};
@@ -201,6 +202,21 @@ impl Channel {
         let refreshed = accept_live_refresh(alloc, self.tolerance, state, written, &read)?;
         self.source = None;
         Ok(refreshed)
+    }
+
+    #[tactic(auto, using(crate::proofs::Undecided::would_write, crate::proofs::Undecided::would_refuse))]
+    /// The text that the channel would write after a refresh by `input`, the origin's playlist, if nothing was given to it. It is
+    /// written from what was read, without a list of shown segments, and the channel is as it was. So a run that ends then takes
+    /// less memory than by `refresh_owned`. The faults are those of reading `input` (P1 to P24); `OutOfMemory` only if an
+    /// allocation fails.
+    pub fn first_text(&self, alloc: Global, input: Vec<u8>) -> Result<Shared<Text>, RefreshFault>
+        requires nothing_given { Represents self.now [] }
+        ensures { WouldWrite self.now input.items result }
+    {
+        let first = live_playlist_of(alloc, input.as_slice(), &self.base)?;
+        drop(input);
+        let text = text_as_read(alloc, &first.playlist)?;
+        Ok(Shared::new(alloc, text)?)
     }
 
     /// Takes `bytes`, a decision file. The faults, in this order: those of reading it (J1 to J7), then those of

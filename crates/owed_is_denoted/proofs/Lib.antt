@@ -5,3 +5,4 @@ pub mod Given
 pub mod Told
 pub mod Whole
 pub mod Always
+pub mod AsRead

@@ -6,6 +6,7 @@ use Rattle.std.proofs.lemmas.Option.{slice_get_within, get_or_from_slice_get}
 use Rattle.playlist_model.specs.declared.Key.{Key}
 use Rattle.playlist_model.specs.declared.InitSection.{InitSection}
 use Rattle.playlist_model.specs.declared.in_common.InCommon.{InCommon}
+use Rattle.playlist_model.specs.declared.places.Place.{Place}
 use Rattle.playlist_model.specs.declared.standings.Standing.{Standing}
 use Rattle.playlist_model.specs.EffectiveKeys.{effective_key}
 use Rattle.playlist_model.specs.InCommon.{IsInCommon}
@@ -47,18 +48,18 @@ put_compared old new z common keys init_section e f g h c l w = subst AreCompare
     (subst (λ k. IsComparedWithLast old z.in_common k z.init_section) (sym g) (subst (λ s. IsComparedWithLast old z.in_common keys s) (sym h) (subst (λ i. IsComparedWithLast old i keys init_section) (sym f) l)))
     (subst (λ k. IsInCommon z.whole k z.init_section k z.init_section) (sym g) (subst (λ s. IsInCommon z.whole keys s keys s) (sym h) w)))
 
-pub put_last : (old new : List Standing) (z : Standing) (keys : List Key) (init_section : Option InitSection) → new ≡ old ++ z ∷ [] → z.keys ≡ keys → z.init_section ≡ init_section → IsLastOf new keys init_section
-put_last old new z keys init_section e g h =
-    record { last = z; found = ap (λ l. slice_get l (length l - 1)) e ∙ last_of_pushed old z; keys_are = g; init_section_is = h }
+pub put_last : (old new : List Standing) (z : Standing) (keys : List Key) (init_section : Option InitSection) (uri_front : Place) → new ≡ old ++ z ∷ [] → z.keys ≡ keys → z.init_section ≡ init_section → z.uri_front ≡ uri_front → IsLastOf new keys init_section uri_front
+put_last old new z keys init_section uri_front e g h f =
+    record { last = z; found = ap (λ l. slice_get l (length l - 1)) e ∙ last_of_pushed old z; keys_are = g; init_section_is = h; uri_front_is = f }
 
 -- the one that was put is the last
-pub last_is : (old : List Standing) (z : Standing) → IsLastOf (old ++ z ∷ []) z.keys z.init_section
-last_is old z = record { last = z; found = last_of_pushed old z; keys_are = refl; init_section_is = refl }
+pub last_is : (old : List Standing) (z : Standing) → IsLastOf (old ++ z ∷ []) z.keys z.init_section z.uri_front
+last_is old z = record { last = z; found = last_of_pushed old z; keys_are = refl; init_section_is = refl; uri_front_is = refl }
 
 -- what is in force is compared with the last one, if that one has it
-pub compared_with_itself : (standings : List Standing) (common : InCommon) (keys : List Key) (init_section : Option InitSection) → IsLastOf standings keys init_section
+pub compared_with_itself : (standings : List Standing) (common : InCommon) (keys : List Key) (init_section : Option InitSection) (uri_front : Place) → IsLastOf standings keys init_section uri_front
     → IsInCommon common keys init_section keys init_section → IsComparedWithLast standings common keys init_section
-compared_with_itself standings common keys init_section l whole = record {
+compared_with_itself standings common keys init_section uri_front l whole = record {
   with_last = λ last found.
       let it : last ≡ l.last = some_is (sym found ∙ l.found) in
       let keys_are : keys ≡ last.keys = sym (ap {A = Standing} (λ s. s.keys) it ∙ l.keys_are) in
@@ -68,9 +69,9 @@ compared_with_itself standings common keys init_section l whole = record {
 }
 
 -- what was compared with a last one is compared with another that is equal
-pub compared_with_equal : (old new : List Standing) (common : InCommon) (keys : List Key) (init_section : Option InitSection) → IsLastOf old keys init_section → IsLastOf new keys init_section
+pub compared_with_equal : (old new : List Standing) (common : InCommon) (keys : List Key) (init_section : Option InitSection) (uri_front : Place) → IsLastOf old keys init_section uri_front → IsLastOf new keys init_section uri_front
     → IsComparedWithLast old common keys init_section → IsComparedWithLast new common keys init_section
-compared_with_equal old new common keys init_section l m c = record {
+compared_with_equal old new common keys init_section uri_front l m c = record {
   with_last = λ last found.
       let it : last ≡ m.last = some_is (sym found ∙ m.found) in
       let keys_are : l.last.keys ≡ last.keys = l.keys_are ∙ sym (ap {A = Standing} (λ s. s.keys) it ∙ m.keys_are) in

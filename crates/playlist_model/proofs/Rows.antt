@@ -14,7 +14,7 @@ use Rattle.playlist_model.specs.declared.segments.Row.{Row}
 use Rattle.playlist_model.specs.declared.Key.{Key}
 use Rattle.playlist_model.specs.declared.InitSection.{InitSection}
 use Rattle.playlist_model.specs.declared.segments.SegmentParts.{SegmentParts}
-use Rattle.playlist_model.specs.Segments.{Segment, segment_under}
+use Rattle.playlist_model.specs.Segments.{Growing, Segment, segment_under}
 use Rattle.playlist_model.specs.Rows.{HasExtra, extra_at, no_extra, Fits, HasText, no_standing, row_number, row_segment, row_segment_over, row_segments, row_standing, segment_text_at, title_place}
 use Rattle.playlist_model.specs.Inner.Rows.{Extends, Grows, StandsOver}
 
@@ -121,6 +121,10 @@ grows_on xs ys zs g h = record { more = g.more ++ h.more; is = h.is ∙ ap (λ l
 pub grows_by_none : {A : Type 0} (xs : List A) → Grows xs xs
 grows_by_none xs = record { more = []; is = sym (append-nil xs) }
 
+-- a text that lies among those of a list lies there still when its tables grow
+pub text_stays : (t u : Tables) (place : Place) → Extends t u → HasText (string_bytes t.texts) place → HasText (string_bytes u.texts) place × (segment_text_at (string_bytes u.texts) place ≡ segment_text_at (string_bytes t.texts) place)
+text_stays t u place e h = (has_text_grown _ _ place e.texts h, range_grown _ _ place.from place.to e.texts h.ordered h.within)
+
 -- ---- a row that is added
 
 pub row_added : (t : Tables) (rows : List Row) (row : Row) → row_segments t (rows ++ row ∷ []) ≡ row_segments t rows ++ row_segment t row ∷ []
@@ -131,28 +135,28 @@ pub row_fits : (t : Tables) (rows : List Row) (row : Row) → AllByRecursion (Fi
 row_fits t [] row h f = (f, tt)
 row_fits t (r ∷ rows) row h f = (h.0, row_fits t rows row h.1 f)
 
--- the row of a segment whose texts were put after others, the front of the URI first
-pub row_listed : (t u v : List ℕ) (extras : List Extra) (new : List Standing) (tables : Tables) (row : Row) (parts : SegmentParts) (uri_front : Place) (front rest : List ℕ) (keys : List Key) (init_section : Option InitSection) (s : Standing)
+-- the row of a segment whose texts were put after others, under a front of its URI that lay among these
+pub row_listed : (t u v : List ℕ) (extras : List Extra) (new : List Standing) (tables : Tables) (row : Row) (parts : SegmentParts) (uri_front : Place) (keys : List Key) (init_section : Option InitSection) (s : Standing)
     → string_bytes tables.texts ≡ v → tables.extras.items ≡ extras → tables.standings.items ≡ new
-    → Grows t u → Grows u v → HasText t uri_front → segment_text_at t uri_front ≡ front → HasText u row.uri_rest → segment_text_at u row.uri_rest ≡ rest → front ++ rest ≡ parts.uri_front.now ++ parts.uri_rest.now
+    → Grows t u → Grows u v → HasText t uri_front → HasText u row.uri_rest → segment_text_at u row.uri_rest ≡ parts.uri_rest.now
     → HasText v (title_place row) → segment_text_at v (title_place row) ≡ parts.title.now
     → HasExtra extras row.extra → extra_at extras row.extra ≡ record { byte_range = parts.byte_range; program_date_time = parts.program_date_time }
-    → slice_get new row.standing ≡ Some s → StandsOver s row.number (record { media_sequence = parts.media_sequence; discontinuity_sequence = parts.discontinuity_sequence; discontinuities = parts.discontinuities }) uri_front
-    → s.keys ≡ keys → s.init_section ≡ init_section → row.duration ≡ parts.duration
-    → Fits tables row × (row_segment tables row ≡ segment_under keys init_section parts)
-row_listed t u v extras new tables row parts uri_front front rest keys init_section s e r f g h front_there front_is rest_there rest_is uri_is title there has extra_is found over keys_are section_is duration_is =
+    → slice_get new row.standing ≡ Some s → StandsOver s row.number (record { media_sequence = parts.media_sequence; discontinuity_sequence = parts.discontinuity_sequence; discontinuities = parts.discontinuities })
+    → s.keys ≡ keys → s.init_section ≡ init_section → s.uri_front ≡ uri_front → row.duration ≡ parts.duration
+    → Fits tables row × (row_segment tables row ≡ segment_under keys init_section (segment_text_at t uri_front) parts)
+row_listed t u v extras new tables row parts uri_front keys init_section s e r f g h front_there rest_there rest_is title there has extra_is found over keys_are section_is front_is duration_is =
     let front_later = has_text_grown u v uri_front h (has_text_grown t u uri_front g front_there) in
-    let front_same = range_grown t v uri_front.from uri_front.to (grows_on t u v g h) front_there.ordered front_there.within ∙ front_is in
+    let front_same = range_grown t v uri_front.from uri_front.to (grows_on t u v g h) front_there.ordered front_there.within in
     let rest_later = has_text_grown u v row.uri_rest h rest_there in
     let rest_same = range_grown u v row.uri_rest.from row.uri_rest.to h rest_there.ordered rest_there.within ∙ rest_is in
-    let uri_same : segment_text_at v s.uri_front ++ segment_text_at v row.uri_rest ≡ parts.uri_front.now ++ parts.uri_rest.now =
-    ap (λ p. segment_text_at v p ++ segment_text_at v row.uri_rest) over.uri_front_is ∙ ap (λ x. x ++ segment_text_at v row.uri_rest) front_same ∙ ap (λ x. front ++ x) rest_same ∙ uri_is in
+    let uri_same : segment_text_at v s.uri_front ++ segment_text_at v row.uri_rest ≡ segment_text_at t uri_front ++ parts.uri_rest.now =
+    ap (λ p. segment_text_at v p ++ segment_text_at v row.uri_rest) front_is ∙ ap (λ x. x ++ segment_text_at v row.uri_rest) front_same ∙ ap (λ x. segment_text_at t uri_front ++ x) rest_same in
     let here = get_or_from_slice_get new row.standing s no_standing found in
     let place = slice_get_within new row.standing s found in
     let word : row_number s row < 2 ^ 64 = subst (λ n. n < 2 ^ 64) (sym over.media_sequence_is) over.word in
     let standing_is : row_standing tables.standings.items row.standing ≡ s = ap (λ x. row_standing x row.standing) f ∙ here in
     let fits : Fits tables row = record {
-      uri_front = subst (λ x. HasText x (row_standing tables.standings.items row.standing).uri_front) (sym e) (subst (λ x. HasText v x.uri_front) (sym standing_is) (subst (HasText v) (sym over.uri_front_is) front_later));
+      uri_front = subst (λ x. HasText x (row_standing tables.standings.items row.standing).uri_front) (sym e) (subst (λ x. HasText v x.uri_front) (sym standing_is) (subst (HasText v) (sym front_is) front_later));
       uri_rest = subst (λ x. HasText x row.uri_rest) (sym e) rest_later;
       title = subst (λ x. HasText x (title_place row)) (sym e) title;
       extra = subst (λ x. HasExtra x row.extra) (sym r) has;
@@ -184,6 +188,12 @@ listed_on t u rows later row s e h f g is = (
   subst (AllByRecursion (Fits u)) (sym f) (row_fits u rows row (all_fit t u rows e h) g),
   ap (row_segments u) f ∙ row_added u rows row ∙ ap (λ l. l ++ row_segment u row ∷ []) (rows_grown t u rows e h) ∙ ap (λ x. row_segments t rows ++ x ∷ []) is,
 )
+
+-- what grows is equal if its parts are
+pub grown_is : (keys : List Key) (init_section : Option InitSection) {s z : List Segment} {f g : List ℕ} → s ≡ z → f ≡ g
+    → ◌≡◌ {A = Growing} (record { segments = s; keys = keys; init_section = init_section; uri_front = f }) (record { segments = z; keys = keys; init_section = init_section; uri_front = g })
+grown_is keys init_section {s} {z} {f} {g} e h =
+    ap {A = List Segment} {B = Growing} (λ s. record { segments = s; keys = keys; init_section = init_section; uri_front = f }) e ∙ ap {A = List ℕ} {B = Growing} (λ f. record { segments = z; keys = keys; init_section = init_section; uri_front = f }) h
 
 pub always : {A E : Type 0} (r : Result A E) (P : Type 0) → P → OnErr r P
 always (Ok x) P p = tt

@@ -83,12 +83,13 @@ pub record Fits (tables : Tables) (row : Row) : Type 0 where
   pub standing : row.standing < length tables.standings.items
   pub number : row_number (row_standing tables.standings.items row.standing) row < 2 ^ 64
 
--- the last of these has these keys and this initialisation section
-pub record IsLastOf (standings : List Standing) (keys : List Key) (init_section : Option InitSection) : Type 0 where
+-- the last of these has these keys and this initialisation section, and the front of the URIs under it lies there
+pub record IsLastOf (standings : List Standing) (keys : List Key) (init_section : Option InitSection) (uri_front : Place) : Type 0 where
   pub last : Standing
   pub found : slice_get standings (length standings - 1) ≡ Some last
   pub keys_are : last.keys ≡ keys
   pub init_section_is : last.init_section ≡ init_section
+  pub uri_front_is : last.uri_front ≡ uri_front
 
 -- each of these knows what it has in common with the one before it, and with itself
 pub record AreCompared (standings : List Standing) : Type 0 where

@@ -29,19 +29,21 @@ pub record Segment : Type 0 where
   -- when its first sample is, if EXT-X-PROGRAM-DATE-TIME states that
   pub program_date_time : Option ℤ
 
--- segments, and the keys and the initialisation section in force after them
+-- segments, and what is in force after them: the keys, the initialisation section, and the front of the URIs
 pub record Growing : Type 0 where
   pub segments : List Segment
   pub keys : List Key
   pub init_section : Option InitSection
+  pub uri_front : List ℕ
 
--- the segment of these parts where these keys and this initialisation section are in force (4.3.2.4, 4.3.2.5, 5.2)
-abbrev pub segment_under : List Key → Option InitSection → SegmentParts → Segment
-segment_under keys init_section parts = record {
+-- the segment of these parts where these keys, this initialisation section and this front of the URIs are in force (4.3.2.4,
+-- 4.3.2.5, 5.2)
+abbrev pub segment_under : List Key → Option InitSection → List ℕ → SegmentParts → Segment
+segment_under keys init_section uri_front parts = record {
   media_sequence = parts.media_sequence;
   discontinuity_sequence = parts.discontinuity_sequence;
   discontinuities = parts.discontinuities;
-  uri = parts.uri_front.now ++ parts.uri_rest.now;
+  uri = uri_front ++ parts.uri_rest.now;
   byte_range = parts.byte_range;
   keys = map (effective_key parts.media_sequence) keys;
   init_section = init_section;

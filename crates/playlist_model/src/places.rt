@@ -16,16 +16,6 @@ pub(crate) struct Place {
     pub to: u32,
 }
 
-impl Place {
-    /// Whether it is `other`.
-    #[inline(always)]
-    pub fn is(self, other: Place) -> bool
-        ensures { result ≡ true → self ≡ other }
-    {
-        self.from == other.from && self.to == other.to
-    }
-}
-
 /// The `number` as a place. Fails if it has more than 32 bits.
 pub(crate) fn segment_text_place(number: usize) -> Result<u32, AllocError>
     ensures { IfOk result (λ place. place ≡ number) }

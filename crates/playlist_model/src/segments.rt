@@ -1,18 +1,18 @@
 //! Segments. A list of them holds their texts together: each is a row of places among these.
-ghost use Rattle.std.specs.Prelude.{◌≡◌, ℕ, List, ◌∷◌, ◌++◌, ◌+◌, ◌<◌, [], true, None, Some, IfOk, OnOk, OnErr, MatchOption, length, take, drop, slice_get, IsTrue};
+ghost use Rattle.std.specs.Prelude.{◌≡◌, ℕ, List, ◌∷◌, ◌++◌, ◌<◌, [], true, None, Some, OnOk, OnErr, MatchOption, length, take, drop, slice_get, IsTrue, string_bytes};
 ghost use Rattle.std.specs.List.{AllByRecursion};
 ghost use Rattle.std.specs.Str.{is_utf8};
 ghost use Rattle.playlist_model.specs.InCommon.{AreSameAt, HaveInCommon, IsInCommon, init_section_keys};
 ghost use Rattle.playlist_model.specs.Segments.{Segment, segment_under};
-ghost use Rattle.playlist_model.specs.Rows.{AreCompared, Fits, IsComparedWithLast, IsLastOf, row_segment, title_place};
+ghost use Rattle.playlist_model.specs.Rows.{AreCompared, Fits, HasText, IsComparedWithLast, IsLastOf, row_segment, segment_text_at, title_place};
 ghost use Rattle.playlist_model.specs.Inner.Rows.{AreInForceOf, Extends};
 
 use crate::places::{
-    Extra, Place, put_segment_extra, put_segment_text, put_segment_title, segment_extra_at,
-    segment_text_at,
+    Extra, Place, is_segment_text_at, put_segment_extra, put_segment_text, put_segment_title,
+    segment_extra_at, segment_text_at,
 };
 use crate::standings::{
-    SegmentNumbers, Standing, is_next_standing, last_own_keys, put_segment_standing, put_uri_front,
+    SegmentNumbers, Standing, is_next_standing, last_own_keys, put_segment_standing,
 };
 use crate::uri_ref::UriRef;
 use crate::{ByteRange, InCommon, InitSection, KeyPlaces, Keys, KeysRef, Shared};
@@ -45,7 +45,8 @@ struct Row {
     extra: u32,
 }
 
-/// What a segment has of its own: all but the keys and the initialisation section in force (RFC 8216, section 4.3.2).
+/// What a segment has of its own: all but the keys, the initialisation section and the front of its URI, which are in force (RFC
+/// 8216, section 4.3.2).
 #[derive(Clone, Copy)]
 pub struct SegmentParts<'a> {
     /// Its Media Sequence Number (section 4.3.3.2).
@@ -54,9 +55,7 @@ pub struct SegmentParts<'a> {
     pub discontinuity_sequence: u64,
     /// How many EXT-X-DISCONTINUITY stand between it and the segment before.
     pub discontinuities: u64,
-    /// The front of its resource, an absolute URI. It takes no memory if it is that of the segment before.
-    pub uri_front: &'a str,
-    /// The rest of that URI.
+    /// What its resource, an absolute URI, has after the front in force.
     pub uri_rest: &'a str,
     /// The part of the resource, if it isn't the whole.
     pub byte_range: Option<ByteRange>,
@@ -68,20 +67,9 @@ pub struct SegmentParts<'a> {
     pub program_date_time: Option<Instant>,
 }
 
-// The front of a URI that many may share, and the rest. A URI that comes whole shares none, except that of a part of its resource,
-// since the next part is mostly one of it too.
-#[inline(always)]
-fn uri_parts<'a>(parts: &SegmentParts<'a>) -> (&'a str, &'a str)
-    ensures { result.0.now ++ result.1.now ≡ parts.now.uri_front.now ++ parts.now.uri_rest.now }
-{
-    if parts.uri_rest.is_empty() && parts.byte_range.is_none() {
-        return ("", parts.uri_front);
-    }
-    (parts.uri_front, parts.uri_rest)
-}
-
-// Puts the row of the next segment after the others, and into the tables all that it points to. `is_listed` says that the last
-// standing has the keys and the initialisation section, and `in_common` what they have in common with it.
+// Puts the row of the next segment after the others, and into the tables all that it points to. The front of its URI lies there
+// already. `is_listed` says that the last standing has the keys, the initialisation section and the front, and `in_common` what
+// these have in common with it.
 #[inline(always)]
 fn push_segment_row(
     tables: &mut Tables,
@@ -90,17 +78,22 @@ fn push_segment_row(
     keys: &Keys,
     init_section: &Option<Shared<InitSection>>,
     in_common: InCommon,
+    uri_front: Place,
     parts: &SegmentParts<'_>,
 ) -> Result<(), AllocError>
-    requires listed { is_listed ≡ true → IsLastOf tables.old.standings.items keys.now init_section.now }
+    requires listed { is_listed ≡ true
+        → IsLastOf tables.old.standings.items keys.now init_section.now uri_front }
     requires common { AreCompared tables.old.standings.items }
     requires last { IsComparedWithLast tables.old.standings.items in_common keys.now init_section.now }
+    requires front { HasText (string_bytes tables.old.texts) uri_front }
     ensures extends { Extends tables.old tables.new }
     ensures row { OnOk result
         ((row : Row) × (rows.new.items ≡ rows.old.items ++ row ∷ []) × Fits tables.new row
-        × (row_segment tables.new row ≡ segment_under keys.now init_section.now parts.now)) }
+        × (row_segment tables.new row
+        ≡ segment_under keys.now init_section.now (segment_text_at (string_bytes tables.old.texts) uri_front) parts.now)) }
     ensures common { AreCompared tables.new.standings.items }
-    ensures last { OnOk result (IsLastOf tables.new.standings.items keys.now init_section.now) }
+    ensures last { OnOk result
+        (IsLastOf tables.new.standings.items keys.now init_section.now uri_front) }
     ensures refused { OnErr result (rows.new.items ≡ rows.old.items) }
     ensures still { OnErr result (tables.new.standings.items ≡ tables.old.standings.items) }
 {
@@ -110,9 +103,7 @@ fn push_segment_row(
         parts.byte_range,
         parts.program_date_time,
     )?;
-    let (front, rest) = uri_parts(parts);
-    let uri_front = put_uri_front(&mut tables.texts, tables.standings.as_slice(), front)?;
-    let uri_rest = put_segment_text(&mut tables.texts, rest)?;
+    let uri_rest = put_segment_text(&mut tables.texts, parts.uri_rest)?;
     let title_end = put_segment_title(&mut tables.texts, uri_rest, parts.title)?;
     // The standing comes last: if an allocation fails, the last one is as it was.
     let (standing, number) = put_segment_standing(
@@ -228,36 +219,43 @@ impl Segments {
     }
 }
 
-/// Segments that are listed one after the other, and the keys and the initialisation section in force after them.
+/// Segments that are listed one after the other, and what is in force after them: the keys, the initialisation section, and the
+/// front of the URIs, which many of them share.
 #[derive(Drop)]
 pub struct GrowingSegments {
     tables: Tables,
     rows: Vec<Row>,
     keys: Keys,
     init_section: Option<Shared<InitSection>>,
-    // Whether these two are those of the last standing.
+    uri_front: Place,
+    // Whether these three are those of the last standing.
     is_listed: bool,
-    // What they have in common with it.
+    // What the keys and the initialisation section have in common with it.
     in_common: InCommon,
 }
 
 impl Model for GrowingSegments {
-    ghost use Rattle.std.specs.Prelude.{◌≡◌, true};
+    ghost use Rattle.std.specs.Prelude.{◌≡◌, true, string_bytes};
     ghost use Rattle.std.specs.List.{AllByRecursion};
     ghost use Rattle.playlist_model.specs.Segments.{Growing};
-    ghost use Rattle.playlist_model.specs.Rows.{AreCompared, Fits, IsComparedWithLast, IsLastOf, row_segments};
+    ghost use Rattle.playlist_model.specs.Rows.{AreCompared, Fits, HasText, IsComparedWithLast, IsLastOf, row_segments, segment_text_at};
 
     ghost Value = { Growing };
 
-    ghost view = { λ a. record { segments = row_segments a.tables a.rows.items; keys = a.keys; init_section = a.init_section } };
+    ghost view = { λ a. record { segments = row_segments a.tables a.rows.items; keys = a.keys; init_section = a.init_section; uri_front = segment_text_at (string_bytes a.tables.texts) a.uri_front } };
 
-    ghost invariant = { λ a. AllByRecursion (Fits a.tables) a.rows.items × (a.is_listed ≡ true → IsLastOf a.tables.standings.items a.keys a.init_section) × AreCompared a.tables.standings.items × IsComparedWithLast a.tables.standings.items a.in_common a.keys a.init_section };
+    ghost invariant = { λ a.
+        AllByRecursion (Fits a.tables) a.rows.items
+        × (a.is_listed ≡ true → IsLastOf a.tables.standings.items a.keys a.init_section a.uri_front)
+        × AreCompared a.tables.standings.items
+        × IsComparedWithLast a.tables.standings.items a.in_common a.keys a.init_section
+        × HasText (string_bytes a.tables.texts) a.uri_front };
 }
 
 impl GrowingSegments {
-    /// No segment, no key and no initialisation section. Takes no memory.
+    /// No segment, no key, no initialisation section and an empty front. Takes no memory.
     pub fn new(alloc: Global) -> GrowingSegments
-        ensures { result ≡ record { segments = []; keys = []; init_section = None } }
+        ensures { result ≡ record { segments = []; keys = []; init_section = None; uri_front = [] } }
     {
         GrowingSegments {
             tables: Tables {
@@ -268,6 +266,7 @@ impl GrowingSegments {
             rows: Vec::new(alloc),
             keys: Keys::none(),
             init_section: None,
+            uri_front: Place { from: 0, to: 0 },
             is_listed: false,
             in_common: InCommon::nothing(),
         }
@@ -330,14 +329,29 @@ impl GrowingSegments {
         self.is_listed = false;
     }
 
-    /// Lists the segment of these `parts` under the keys and the initialisation section in force. Fails only if an allocation
-    /// fails, or the texts have 2^32 bytes or more; all is then as it was.
+    /// From here on the URI of a segment begins with `front`, and goes on with the rest that it states itself. `front` takes no
+    /// memory if it was in force before. Fails only if an allocation fails, or the texts have 2^32 bytes or more; all is then as
+    /// it was.
+    pub fn set_uri_front(&mut self, front: &str) -> Result<(), AllocError>
+        ensures set { OnOk result (self.new ≡ record self.old { uri_front = front.now }) }
+        ensures refused { OnErr result (self.new ≡ self.old) }
+    {
+        if is_segment_text_at(self.tables.texts.as_str(), self.uri_front, front) {
+            return Ok(());
+        }
+        self.uri_front = put_segment_text(&mut self.tables.texts, front)?;
+        self.is_listed = false;
+        Ok(())
+    }
+
+    /// Lists the segment of these `parts` under the keys, the initialisation section and the front in force. Fails only if an
+    /// allocation fails, or the texts have 2^32 bytes or more; all is then as it was.
     #[inline(always)]
     pub fn push(&mut self, parts: &SegmentParts<'_>) -> Result<(), AllocError>
         ensures pushed { OnOk result
             (self.new ≡ record self.old {
               segments = self.old.segments
-                  ++ segment_under self.old.keys self.old.init_section parts.now ∷ [];
+                  ++ segment_under self.old.keys self.old.init_section self.old.uri_front parts.now ∷ [];
             }) }
         ensures refused { OnErr result (self.new ≡ self.old) }
     {
@@ -348,6 +362,7 @@ impl GrowingSegments {
             &self.keys,
             &self.init_section,
             self.in_common,
+            self.uri_front,
             parts,
         )?;
         if !self.is_listed {
@@ -367,14 +382,25 @@ impl GrowingSegments {
     }
 
     // From here on is in force what stands there. `is_next` says that what is in force stands at the place before.
-    fn take_standing(&mut self, standing: &Standing, is_next: bool) -> Result<(), AllocError>
+    fn take_standing(
+        &mut self,
+        tables: &Tables,
+        standing: &Standing,
+        is_next: bool,
+    ) -> Result<(), AllocError>
+        requires front { HasText (string_bytes tables.now.texts) standing.now.uri_front }
         requires next { is_next ≡ true
             → IsInCommon standing.now.in_common self.old.keys self.old.init_section standing.now.keys standing.now.init_section }
         requires own { AreSameAt standing.now.whole.own_keys standing.now.keys (init_section_keys standing.now.init_section) }
         ensures taken { OnOk result
-            (self.new ≡ record self.old { keys = standing.now.keys; init_section = standing.now.init_section }) }
+            (self.new ≡ record self.old {
+              keys = standing.now.keys;
+              init_section = standing.now.init_section;
+              uri_front = segment_text_at (string_bytes tables.now.texts) standing.now.uri_front;
+            }) }
         ensures refused { OnErr result (self.new.segments ≡ self.old.segments) }
     {
+        self.set_uri_front(segment_text_at(tables.texts.as_str(), standing.uri_front))?;
         let in_common = if is_next {
             standing.in_common
         } else {
@@ -398,24 +424,22 @@ impl GrowingSegments {
     ) -> Result<(), AllocError>
         requires fits { Fits tables.now row.now }
         requires common { AreCompared tables.now.standings.items }
-        requires last { AreInForceOf tables.now.standings.items last self.old.keys self.old.init_section }
+        requires last { AreInForceOf tables.now last self.old }
         ensures pushed { OnOk result (self.new.segments ≡ self.old.segments ++ row_segment tables.now row.now ∷ []) }
         ensures last { OnOk result
-            (AreInForceOf tables.now.standings.items (Some row.now.standing) self.new.keys self.new.init_section) }
+            (AreInForceOf tables.now (Some row.now.standing) self.new) }
         ensures refused { OnErr result (self.new.segments ≡ self.old.segments) }
     {
         let standing = &tables.standings[row.standing as usize];
         if last != Some(row.standing) {
-            self.take_standing(standing, is_next_standing(last, row.standing))?;
+            self.take_standing(tables, standing, is_next_standing(last, row.standing))?;
         }
         let segment = SegmentRef { tables, row };
-        let (uri_front, uri_rest) = segment.uri().parts();
         self.push(&SegmentParts {
             media_sequence: segment.media_sequence(),
             discontinuity_sequence: standing.numbers.discontinuity_sequence,
             discontinuities: standing.numbers.discontinuities,
-            uri_front,
-            uri_rest,
+            uri_rest: segment_text_at(tables.texts.as_str(), row.uri_rest),
             byte_range: segment.byte_range(),
             duration: row.duration,
             title: segment.title(),

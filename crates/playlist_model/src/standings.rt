@@ -1,9 +1,9 @@
 //! What stands over the segments of a list until a tag changes it, and from which numbers they are counted.
-ghost use Rattle.std.specs.Prelude.{◌≡◌, ℕ, ◌+◌, ◌<◌, true, None, Some, IfOk, OnOk, OnErr, MatchOption, length, slice_get, string_bytes};
-ghost use Rattle.playlist_model.specs.Rows.{AreCompared, HasText, IsComparedWithLast, IsLastOf, segment_text_at};
+ghost use Rattle.std.specs.Prelude.{◌≡◌, ℕ, ◌+◌, true, None, Some, IfOk, OnOk, OnErr, MatchOption, length, slice_get};
+ghost use Rattle.playlist_model.specs.Rows.{AreCompared, IsComparedWithLast, IsLastOf};
 ghost use Rattle.playlist_model.specs.Inner.Rows.{Grows, LastOwnKeys, StandsAt, StandsOver};
 
-use crate::places::{Place, is_segment_text_at, put_segment_text, segment_text_place};
+use crate::places::{Place, segment_text_place};
 use crate::{InCommon, InitSection, KeyPlaces, Keys, Shared};
 use std::alloc::AllocError;
 
@@ -44,24 +44,17 @@ fn numbers_after(first: u64, number: u64) -> Option<u32>
     u32::try_from(count).ok()
 }
 
-// The place of the last of these, if it stands over the segment of these `numbers` and of the front at `uri_front`, but for the keys
-// and the initialisation section. With it, how many numbers that segment comes after its first one.
+// The place of the last of these, if it has the numbers of the segment of these `numbers`. With it, how many numbers that segment
+// comes after its first one.
 #[inline(always)]
-fn last_standing_over(
-    standings: &[Standing],
-    numbers: SegmentNumbers,
-    uri_front: Place,
-) -> Option<(usize, u32)>
+fn last_standing_over(standings: &[Standing], numbers: SegmentNumbers) -> Option<(usize, u32)>
     ensures { MatchOption result (Unit {0})
         (λ found. (last : Standing) × (slice_get standings.now found.0 ≡ Some last)
         × (found.0 + 1 ≡ length standings.now)
-        × StandsOver last found.1 numbers uri_front) }
+        × StandsOver last found.1 numbers) }
 {
     let place = standings.len().checked_sub(1)?;
     let first = standings[place].numbers;
-    if !standings[place].uri_front.is(uri_front) {
-        return None;
-    }
     if first.discontinuities != numbers.discontinuities {
         return None;
     }
@@ -72,32 +65,11 @@ fn last_standing_over(
     Some((place, number))
 }
 
-/// The place of `front`, with which the URI of the next segment begins. It is put after the `texts`, unless that of the last of
-/// these `standings` is the same. Fails as `put_segment_text` does.
-#[inline(always)]
-pub(crate) fn put_uri_front(
-    texts: &mut String,
-    standings: &[Standing],
-    front: &str,
-) -> Result<Place, AllocError>
-    ensures grows { Grows (string_bytes texts.old) (string_bytes texts.new) }
-    ensures there { IfOk result
-        (λ place. HasText (string_bytes texts.new) place
-        × (segment_text_at (string_bytes texts.new) place ≡ front.now)) }
-{
-    if let Some((last, _)) = standings.split_last() {
-        if is_segment_text_at(texts.as_str(), last.uri_front, front) {
-            return Ok(last.uri_front);
-        }
-    }
-    put_segment_text(texts, front)
-}
-
 /// The place of what stands over the next segment, and how many numbers that one comes after its first. The segment has these
 /// `numbers` and a URI whose front lies at `uri_front`, under these `keys` and this `init_section`. What stands over it is put
-/// after the other `standings`, unless the last of them is it. `is_listed` says that this one has the same keys and the same
-/// initialisation section, and `in_common` what they have in common with it. Fails if an allocation fails, or the standings are
-/// 2^32 or more.
+/// after the other `standings`, unless the last of them is it. `is_listed` says that this one has the same keys, the same
+/// initialisation section and the same front, and `in_common` what they have in common with it. Fails if an allocation fails, or
+/// the standings are 2^32 or more.
 #[inline(always)]
 pub(crate) fn put_segment_standing(
     standings: &mut Vec<Standing>,
@@ -108,22 +80,18 @@ pub(crate) fn put_segment_standing(
     numbers: SegmentNumbers,
     uri_front: Place,
 ) -> Result<(u32, u32), AllocError>
-    requires listed { is_listed ≡ true → IsLastOf standings.old.items keys.now init_section.now }
+    requires listed { is_listed ≡ true → IsLastOf standings.old.items keys.now init_section.now uri_front }
     requires common { AreCompared standings.old.items }
     requires last { IsComparedWithLast standings.old.items in_common keys.now init_section.now }
     ensures grows { Grows standings.old.items standings.new.items }
     ensures there { IfOk result
         (λ at. StandsAt standings.new.items numbers uri_front keys.now init_section.now at.0 at.1) }
     ensures common { AreCompared standings.new.items }
-    ensures last { OnOk result (IsLastOf standings.new.items keys.now init_section.now) }
+    ensures last { OnOk result (IsLastOf standings.new.items keys.now init_section.now uri_front) }
     ensures refused { OnErr result (standings.new.items ≡ standings.old.items) }
 {
     if is_listed {
-        if let Some((place, number)) = last_standing_over(
-            standings.as_slice(),
-            numbers,
-            uri_front,
-        ) {
+        if let Some((place, number)) = last_standing_over(standings.as_slice(), numbers) {
             let standing = segment_text_place(place)?;
             return Ok((standing, number));
         }
@@ -154,7 +122,7 @@ fn push_segment_standing(
     ensures there { IfOk result
         (λ place. StandsAt standings.new.items numbers uri_front keys.now init_section.now place 0) }
     ensures common { AreCompared standings.new.items }
-    ensures last { OnOk result (IsLastOf standings.new.items keys.now init_section.now) }
+    ensures last { OnOk result (IsLastOf standings.new.items keys.now init_section.now uri_front) }
     ensures refused { OnErr result (standings.new.items ≡ standings.old.items) }
 {
     let place = segment_text_place(standings.len())?;

@@ -3,13 +3,15 @@ use fixed_duration::Nanos;
 use playlist_model::{GrowingSegments, InCommon, Instant, SegmentParts, same_segment};
 use std::alloc::{AllocError, Global};
 
+/// What the URIs of segments begin with here.
+pub(crate) const FRONT: &str = "http://origin.example/";
+
 /// What a segment of `duration` and `title` has of its own: it is a whole resource, and states no time.
 pub(crate) fn parts(duration: Nanos, title: &str) -> SegmentParts<'_> {
     SegmentParts {
         media_sequence: 7,
         discontinuity_sequence: 0,
         discontinuities: 0,
-        uri_front: "http://origin.example/",
         uri_rest: "s.ts",
         byte_range: None,
         duration,
@@ -24,6 +26,7 @@ fn is_listed_again(alloc: Global, duration: Nanos) -> Result<bool, AllocError> {
     again.discontinuities = 1;
     again.program_date_time = Some(Instant(100));
     let mut both = GrowingSegments::new(alloc);
+    both.set_uri_front(FRONT)?;
     both.push(&parts(Nanos(10), ""))?;
     both.push(&again)?;
     let Some((first, later)) = both.as_slice().split_first() else {

@@ -1,6 +1,6 @@
 //! Playlists that are well formed or not, and sinks that take few bytes or fail. Each kind of line that is written is tried on
 //! the built program (`tests/run_playlists`).
-use crate::beginnings::parts;
+use crate::beginnings::{FRONT, parts};
 use crate::made::{key, listed, unmarked};
 use byte_streams::TestSink;
 use fixed_duration::Nanos;
@@ -67,6 +67,7 @@ fn segments(alloc: Global, count: usize) -> Result<Shared<Segments>, AllocError>
         KeyPlaces::none(),
     );
     segments.set_init_section(Some(init_section(alloc)?), KeyPlaces::none());
+    segments.set_uri_front(FRONT)?;
     for _ in 0..count {
         segments.push(&parts)?;
     }

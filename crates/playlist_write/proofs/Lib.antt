@@ -16,6 +16,8 @@ pub mod GoesOn
 pub mod SameKeys
 pub mod Changes
 pub mod CommonKeys
-pub mod NextKeys
+pub mod OnlyKey
 pub mod PaddedTexts
 pub mod PlainLines
+pub mod ReadItems
+pub mod SameFronts

@@ -1,4 +1,6 @@
 pub mod Owed
+pub mod Header
+pub mod AsRead
 pub mod DateRangeParts
 pub mod KeyParts
 pub mod Taken

@@ -48,6 +48,17 @@ impl<'a> InForce<'a> {
         segments.second_in_common()
     }
 
+    /// What is in force once `keys` are, in place of others.
+    #[inline(always)]
+    pub fn under(&self, keys: KeysRef<'a>) -> InForce<'a>
+        ensures { result ≡ record self.now { keys = keys.entry } }
+    {
+        InForce {
+            keys,
+            init_section: self.init_section,
+        }
+    }
+
     /// What is in force after `segment`: its keys, and its initialisation section if it has one.
     #[inline(always)]
     pub fn after(&self, segment: &SegmentRef<'a>) -> InForce<'a>

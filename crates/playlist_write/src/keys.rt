@@ -1,11 +1,11 @@
 //! Key tags and map tags (RFC 8216, sections 4.3.2.4 and 4.3.2.5).
-ghost use Rattle.std.specs.Prelude.{◌≡◌, ◌∷◌, ◌++◌, [], Bool, Some, codes, drop, filter, ◌&&◌, not, true};
+ghost use Rattle.std.specs.Prelude.{◌≡◌, ◌==◌, ◌∷◌, ◌++◌, [], Bool, Some, bytes_eq, codes, drop, filter, length, ◌&&◌, not, true};
 ghost use Rattle.spec_words.specs.Bytes.{line_feed, quote};
 ghost use Rattle.attr_list.specs.Attributes.{pair_spelling};
 ghost use Rattle.playlist_write.specs.Spelling.{in_quotes, iv_pairs, format_pairs, part_pairs};
 ghost use Rattle.playlist_model.specs.Carried.{after_commas};
 ghost use Rattle.playlist_model.specs.InCommon.{AreSameAt, key_at, without_iv};
-ghost use Rattle.playlist_write.specs.Inner.KeyParts.{text_after_uri};
+ghost use Rattle.playlist_write.specs.Inner.KeyParts.{text_after_uri, text_before_quote};
 ghost use Rattle.playlist_model.specs.Said as Said;
 ghost use Rattle.playlist_write.specs.Owed.{line_saying, said_text, keys_owed};
 ghost use Rattle.playlist_write.specs.Inner.Owed.{set_tags, key_line, init_section_line};
@@ -97,6 +97,14 @@ fn write_rest_of_key_line(
     Ok(())
 }
 
+/// Whether nothing stands after the initialisation vector in the tag of `key`, as in most: it has no other attributes, and its
+/// format goes without saying.
+pub fn is_key_line_ended_by_iv(key: &KeyRef<'_>) -> bool
+    ensures { result ≡ ((length key.now.other_attributes == 0) && bytes_eq key.now.format (codes "identity")) }
+{
+    key.other_attributes().as_str().is_empty() && key.format() == "identity"
+}
+
 // The same. Most keys have no other attributes.
 fn write_short_rest_of_key_line(
     out: &mut String,
@@ -106,20 +114,33 @@ fn write_short_rest_of_key_line(
     requires { iv ≡ key.now.iv }
     ensures { Appends result out.old out.new (text_after_uri key.now) }
 {
-    if key.other_attributes().as_str().is_empty() && key.format() == "identity" {
+    if is_key_line_ended_by_iv(key) {
         write_key_iv_and_line_feed(out, iv)?;
         return Ok(());
     }
     write_rest_of_key_line(out, key, iv)
 }
 
-// Appends the tag of a key, whose initialisation vector this is: it is told once a key.
-fn write_key_line(out: &mut String, key: &KeyRef<'_>, iv: Option<u128>) -> Result<(), AllocError>
+/// Appends to `out` what stands before the closing quote of the URI in the tag of `key` (RFC 8216, section 4.3.2.4). Fails only if
+/// an allocation fails.
+pub fn write_key_line_front(out: &mut String, key: &KeyRef<'_>) -> Result<(), AllocError>
+    ensures { Appends result out.old out.new (text_before_quote key.now) }
+{
+    write_key_method(out, key.method())?;
+    out.push_str(key.uri())
+}
+
+/// Appends to `out` the tag of `key`, whose initialisation vector is `iv`: it is told once a key (RFC 8216, section 4.3.2.4).
+/// Fails only if an allocation fails.
+pub fn write_key_line(
+    out: &mut String,
+    key: &KeyRef<'_>,
+    iv: Option<u128>,
+) -> Result<(), AllocError>
     requires { iv ≡ key.now.iv }
     ensures { Appends result out.old out.new (key_line key.now) }
 {
-    write_key_method(out, key.method())?;
-    out.push_str(key.uri())?;
+    write_key_line_front(out, key)?;
     write_short_rest_of_key_line(out, key, iv)?;
     Ok(())
 }
@@ -200,46 +221,6 @@ fn write_any_key_tag_lines(
     write_key_lines(out, new)
 }
 
-// Appends the tag that leads from one key to another, which is the same but for its initialisation vector.
-#[tactic(auto, using(crate::proofs::NextKeys::same_iv_owes_nothing, crate::proofs::NextKeys::other_iv_owes_key))]
-fn write_next_key_line(
-    out: &mut String,
-    old: &KeyRef<'_>,
-    new: &KeyRef<'_>,
-) -> Result<(), AllocError>
-    requires { without_iv old.now ≡ without_iv new.now }
-    ensures { Appends result out.old out.new
-        (said_text (keys_owed (old.now ∷ []) (new.now ∷ []))) }
-{
-    let iv = new.iv();
-    if iv == old.iv() {
-        return Ok(());
-    }
-    write_key_line(out, new, iv)?;
-    Ok(())
-}
-
-#[inline(always)]
-fn write_key_tag_lines_between(
-    out: &mut String,
-    old: &KeysRef<'_>,
-    new: &KeysRef<'_>,
-    same: KeyPlaces,
-) -> Result<(), AllocError>
-    requires { AreSameAt same old.now new.now }
-    ensures { Appends result out.old out.new (said_text (keys_owed old.now new.now)) }
-{
-    // Most segments have one key, with an initialisation vector of their own (RFC 8216, 5.2).
-    if same.holds_first() {
-        if let Some(before) = old.only() {
-            if let Some(after) = new.only() {
-                return write_next_key_line(out, &before, &after);
-            }
-        }
-    }
-    write_any_key_tag_lines(out, old, new, same)
-}
-
 /// Appends to `out` the key tags that lead from the keys `old` to the keys `new` (RFC 8216, section 4.3.2.4). At the
 /// places `same` both have the same key, but for its initialisation vector. Fails only if an allocation fails.
 #[inline(always)]
@@ -256,7 +237,7 @@ pub fn write_key_tag_lines(
     if old.is_empty() && new.is_empty() {
         return Ok(());
     }
-    write_key_tag_lines_between(out, old, new, same)
+    write_any_key_tag_lines(out, old, new, same)
 }
 
 fn write_init_section_part(out: &mut String, part: Option<ByteRange>) -> Result<(), AllocError>

@@ -1,5 +1,5 @@
 //! The line of EXTINF that was written last, and the front of the URI after it, since most segments of a playlist state the same.
-ghost use Rattle.std.specs.Prelude.{◌≡◌, ◌==◌, ◌++◌, [], true, false, IfOk, length, string_bytes};
+ghost use Rattle.std.specs.Prelude.{◌≡◌, ◌==◌, ◌++◌, ◌-◌, ◌≤◌, [], true, false, IfOk, MatchOption, drop, length, string_bytes, take};
 ghost use Rattle.playlist_model.specs.Said as Said;
 ghost use Rattle.playlist_write.specs.Owed.{line_saying};
 ghost use Rattle.playlist_write.specs.Inner.Owed.{duration_head};
@@ -46,6 +46,46 @@ impl<'a> Model for LastDuration<'a> {
         × ((length a.short == 0) ≡ false → a.short ≡ line_saying (Said.duration a.duration []))
         × ((length a.short_with_front == 0) ≡ false → a.short_with_front ≡ line_saying (Said.duration a.duration []) ++ a.uri_front.now)
         × ((length a.head == 0) ≡ false → a.head ≡ duration_head a.duration) };
+}
+
+// The first 16 bytes of a front, and its last 16, if it has so many and at most twice as many: then these are all of it.
+#[inline(always)]
+fn ends_of_written_front(front: &[u8]) -> Option<(&[u8; 16], &[u8; 16])>
+    ensures { MatchOption result (Unit {0})
+        (λ ends. (length front.now ≤ 32) × (ends.0.now ≡ take 16 front.now)
+        × (ends.1.now ≡ drop (length front.now - 16) front.now)) }
+{
+    if front.len() > 32 {
+        return None;
+    }
+    let (first, _) = front.split_first_chunk::<16>()?;
+    let (_, last) = front.split_last_chunk::<16>()?;
+    Some((first, last))
+}
+
+// Whether two fronts are the same text, if they are shorter or longer. Out of line, so that the loop over segments stays small.
+#[inline(never)]
+fn is_same_other_front(one: &[u8], other: &[u8]) -> bool
+    ensures { result ≡ true → one.now ≡ other.now }
+{
+    one == other
+}
+
+// Whether two fronts are seen to be the same text. Most have 16 to 32 bytes: then two comparisons of 16 bytes tell it.
+#[inline(always)]
+fn is_same_written_front(one: &[u8], other: &[u8]) -> bool
+    ensures { result ≡ true → one.now ≡ other.now }
+{
+    if one.len() != other.len() {
+        return false;
+    }
+    let Some((first, last)) = ends_of_written_front(one) else {
+        return is_same_other_front(one, other);
+    };
+    let Some((other_first, other_last)) = ends_of_written_front(other) else {
+        return false;
+    };
+    *first == *other_first && *last == *other_last
 }
 
 // The line of a duration and a title.
@@ -184,7 +224,7 @@ impl<'a> LastDuration<'a> {
     {
         if self.short_with_front.is_empty()
             || duration != self.duration
-            || uri_front != self.uri_front
+            || !is_same_written_front(uri_front.as_bytes(), self.uri_front.as_bytes())
         {
             return Ok(false);
         }

@@ -9,6 +9,7 @@ ghost use Rattle.playlist_write.specs.Inner.Laid.{front_text};
 use crate::header::{write_date_range_lines, write_end_line};
 use crate::in_force::InForce;
 use crate::last_duration::LastDuration;
+use crate::last_key::LastKey;
 use crate::room::written_text_room_for;
 use crate::segments::write_next_segment_lines;
 use crate::{OutPlaylist, written_lines_before_date_ranges};
@@ -51,6 +52,7 @@ fn write_first_segment_lines<'a>(
     let mut segments = segments;
     let mut times = TimeWriter::new();
     let mut last = LastDuration::new(alloc);
+    let mut key = LastKey::new(alloc);
     let mut force = before;
     let mut common = InCommon::nothing();
     let mut left = most;
@@ -59,7 +61,9 @@ fn write_first_segment_lines<'a>(
         let Some(next) = segments.next() else {
             return Ok(force);
         };
-        force = write_next_segment_lines(out, &mut times, &mut last, force, &next, common)?;
+        force = write_next_segment_lines(
+            out, &mut times, &mut last, &mut key, force, &next, common,
+        )?;
         common = later;
         left -= 1;
     }
@@ -81,10 +85,13 @@ fn write_all_segment_lines<'a>(
     let mut segments = segments;
     let mut times = TimeWriter::new();
     let mut last = LastDuration::new(alloc);
+    let mut key = LastKey::new(alloc);
     let (mut force, mut common) = (before, InCommon::nothing());
     let mut later = force.in_common_after_next(&segments);
     while let Some(next) = segments.next() {
-        force = write_next_segment_lines(out, &mut times, &mut last, force, &next, common)?;
+        force = write_next_segment_lines(
+            out, &mut times, &mut last, &mut key, force, &next, common,
+        )?;
         common = later;
         later = force.in_common_after_next(&segments);
     }

@@ -2,18 +2,20 @@
 ghost use Rattle.std.specs.Prelude.{◌≡◌, ◌++◌, ◌∷◌, IfOk, List, OnOk, Option, string_bytes, replicate, None, Some, [], false, true};
 ghost use Rattle.std.specs.Option.{option_copied};
 ghost use Rattle.playlist_write.specs.Inner.Owed.{duration_head};
-ghost use Rattle.playlist_model.specs.InCommon.{AreSameAt, IsInCommon, init_section_keys};
+ghost use Rattle.playlist_model.specs.InCommon.{AreSameAt, IsInCommon, init_section_keys, is_place_of};
 ghost use Rattle.playlist_model.specs.Said as Said;
 ghost use Rattle.playlist_model.specs.Same.{same_option, same_init_section};
 ghost use Rattle.playlist_model.specs.declared.InitSection.{InitSection};
 ghost use Rattle.playlist_model.specs.declared.Key.{Key};
 ghost use Rattle.playlist_write.specs.Inner.Changes.{HasInCommon, written_segment_changes_nothing, changes_owed, segment_changes_owed};
+ghost use Rattle.playlist_write.specs.Inner.KeyParts.{IsOnlyKey};
 ghost use Rattle.playlist_write.specs.Owed.{line_saying, with_feed, said_text, changed_written_init_section, init_section_owed, written_keys_then, time_owed, byte_range_owed, media_owed, segment_owed, after_segment};
 ghost use Rattle.fixed_duration.specs.Appended.{Appends};
 
 use crate::in_force::InForce;
 use crate::keys::{write_init_section_line, write_key_tag_lines};
 use crate::last_duration::LastDuration;
+use crate::last_key::LastKey;
 use crate::lines::{write_byte_range, write_line, write_line_feed, write_tag_line};
 use date_times::TimeWriter;
 use fixed_duration::Nanos;
@@ -277,38 +279,6 @@ fn write_each_change_before_segment(
     Ok(())
 }
 
-// The same, and answers whether the segment changes anything. Most change nothing.
-#[inline(always)]
-fn write_changes_before_segment(
-    out: &mut String,
-    keys: &KeysRef<'_>,
-    init_section: Option<&InitSection>,
-    next: &OutSegment<'_>,
-    common: InCommon,
-) -> Result<bool, AllocError>
-    requires { HasInCommon common
-        (record { keys = keys.now; init_section = option_copied init_section }) next.now }
-    ensures text { OnOk result
-        (string_bytes out.new ≡ string_bytes out.old
-        ++ said_text (changes_owed
-        (record { keys = keys.now; init_section = option_copied init_section.entry }) next.now)) }
-    ensures nothing { IfOk result
-        (λ changes. changes ≡ false → written_segment_changes_nothing keys.now next.now ≡ true) }
-{
-    if written_segment_changes_nothing(keys, next) {
-        return Ok(false);
-    }
-    write_each_change_before_segment(
-        out,
-        keys.again(),
-        init_section,
-        next.discontinuities,
-        next.segment.again(),
-        common,
-    )?;
-    Ok(true)
-}
-
 // What a segment's initialisation section holds, if it has one.
 fn written_init_section_in(init_section: &Option<Shared<InitSection>>) -> Option<&InitSection>
     ensures { option_copied result ≡ init_section.now }
@@ -319,32 +289,76 @@ fn written_init_section_in(init_section: &Option<Shared<InitSection>>) -> Option
     }
 }
 
+// Whether the segment `next` changes its key at the most, as most do that change anything: it has no discontinuity, its first key
+// is that of before but for its initialisation vector, and so is its initialisation section, if it has one.
+#[inline(always)]
+fn may_change_written_key_alone(next: &OutSegment<'_>, common: InCommon) -> bool
+    ensures { result ≡ true → (next.now.discontinuities ≡ 0)
+        × (common.init_section ≡ true) × (is_place_of common.keys 0 ≡ true) }
+{
+    next.discontinuities == 0 && common.init_section && common.keys.holds_first()
+}
+
+#[tactic(auto, using(crate::proofs::Changes::nothing_after, crate::proofs::OnlyKey::only_key_comes_first, crate::proofs::OnlyKey::only_key_stays, crate::proofs::OnlyKey::section_stays, crate::proofs::OnlyKey::next_is_only))]
+// The same of any segment. Answers what is in force after these lines, whose only key is kept as the last one. Most change nothing.
+#[inline(always)]
+fn write_changes_before_segment<'a>(
+    out: &mut String,
+    key: &mut LastKey<'a>,
+    before: InForce<'a>,
+    next: &OutSegment<'a>,
+    common: InCommon,
+) -> Result<InForce<'a>, AllocError>
+    requires common { HasInCommon common before next.now }
+    requires key { IsOnlyKey key.old before.keys }
+    ensures text { OnOk result
+        (string_bytes out.new ≡ string_bytes out.old ++ said_text (changes_owed before.entry next.now)) }
+    ensures force { IfOk result (λ f. f ≡ after_segment before.entry next.now) }
+    ensures key { OnOk result (IsOnlyKey key.new next.now.segment.keys) }
+{
+    if written_segment_changes_nothing(&before.keys, next) {
+        return Ok(before);
+    }
+    let keys = next.segment.keys();
+    if may_change_written_key_alone(next, common) && key.push_next(out, keys.again())? {
+        return Ok(before.under(keys));
+    }
+    write_each_change_before_segment(
+        out,
+        before.keys.again(),
+        written_init_section_in(before.init_section),
+        next.discontinuities,
+        next.segment.again(),
+        common,
+    )?;
+    key.keep(&keys);
+    Ok(before.after(&next.segment))
+}
+
 /// Appends to `out` the lines of the segment `next`, after lines with `before` in force (RFC 8216, section 4.3.2), and
-/// answers what is in force then. `times` and `last` keep the time and the duration that were written last, so that
-/// equal ones are copied. `common` is what `next` is known to have in common with `before`. Fails only if an allocation
-/// fails.
-#[tactic(auto, using(crate::proofs::Changes::nothing_after))]
+/// answers what is in force then. `times`, `last` and `key` keep the time, the duration and the only key that were written
+/// last, so that equal ones are copied. `common` is what `next` is known to have in common with `before`. Fails only if an
+/// allocation fails.
 #[inline(always)]
 pub fn write_next_segment_lines<'a>(
     out: &mut String,
     times: &mut TimeWriter,
     last: &mut LastDuration<'a>,
+    key: &mut LastKey<'a>,
     before: InForce<'a>,
     next: &OutSegment<'a>,
     common: InCommon,
 ) -> Result<InForce<'a>, AllocError>
-    requires { HasInCommon common before next.now }
+    requires common { HasInCommon common before next.now }
+    requires key { IsOnlyKey key.old before.keys }
     ensures text { OnOk result
         (string_bytes out.new ≡ string_bytes out.old
         ++ said_text (segment_owed before.entry next.now)) }
     ensures force { IfOk result (λ f. f ≡ after_segment before.entry next.now) }
+    ensures key { OnOk result (IsOnlyKey key.new next.now.segment.keys) }
 {
-    let init_section = written_init_section_in(before.init_section);
-    let changes = write_changes_before_segment(out, &before.keys, init_section, next, common)?;
+    let after = write_changes_before_segment(out, key, before, next, common)?;
     write_optional_instant_line(out, times, next.program_date_time)?;
     write_segment_media_lines(out, last, &next.segment)?;
-    if changes {
-        return Ok(before.after(&next.segment));
-    }
-    Ok(before)
+    Ok(after)
 }

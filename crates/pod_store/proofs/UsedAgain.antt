@@ -38,7 +38,7 @@ either_true : (a : Bool) → (a || true) ≡ true
 either_true true = refl
 either_true false = refl
 
-copies_none : (store : Store) (ids : List (List ℕ)) → ((id : List ℕ) → is_one_of ids id ≡ true → has_own store id ≡ true) → with_copies store ids ≡ store
+pub copies_none : (store : Store) (ids : List (List ℕ)) → ((id : List ℕ) → is_one_of ids id ≡ true → has_own store id ≡ true) → with_copies store ids ≡ store
 copies_none store [] own = refl
 copies_none store (x ∷ ids) own =
     grind (arith, copies_none store ids (λ id h. own id (ap (λ b. bytes_eq id x || b) h ∙ either_true (bytes_eq id x))), itself)

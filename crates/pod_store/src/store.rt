@@ -10,8 +10,9 @@ ghost use Rattle.spec_words.specs.Outcomes.{Tells};
 
 use crate::fault::{DecisionFault, DecisionKind, Place};
 use crate::kept::{
-    Pods, SharedDecision, are_used_pods, count_named_pods, keep_in_use, mark_stored_pod_used,
-    put_all_stored_pods, put_pod_copy, remove_stored_pod, stored_pod_for,
+    Pods, SharedDecision, are_all_pods, are_used_pods, count_named_pods, keep_in_use,
+    mark_all_pods_used, mark_stored_pod_used, put_all_stored_pods, put_pod_copy, remove_stored_pod,
+    stored_pod_for,
 };
 use crate::limits::MAX_BREAKS;
 use crate::{Ad, Decision, Decisions, IdSet, Pod, PodSegment};
@@ -304,7 +305,7 @@ impl PodStore {
         ensures ok { OnOk result (self.new ≡ with_copy self.old id.now) }
         ensures err { OnErr result (self.new ≡ self.old) }
     {
-        if self.has_own(id) {
+        if self.fallback.is_none() || self.has_own(id) {
             return Ok(());
         }
         match &self.fallback {
@@ -367,6 +368,10 @@ impl PodStore {
         ensures err { OnErr result (self.new ≡ self.old) }
     {
         if are_used_pods(&self.kept, ids) {
+            return Ok(());
+        }
+        if are_all_pods(&self.kept, ids) {
+            mark_all_pods_used(&mut self.kept);
             return Ok(());
         }
         let set = IdSet::of(self.alloc, *self.kept.hasher(), ids)?;

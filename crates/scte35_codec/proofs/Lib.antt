@@ -13,3 +13,4 @@ pub mod Hexadecimals
 pub mod Faults
 pub mod Registers
 pub mod Checked
+pub mod DecodedOnce

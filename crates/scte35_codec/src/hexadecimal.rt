@@ -1,6 +1,6 @@
 //! Reading sections from hexadecimal text.
 
-ghost use Rattle.std.specs.Prelude.{◌≡◌, ◌≢◌, ◌↔◌, ◌*◌, ◌≤◌, ℕ, List, IsTrue, false, Ok, Err, IfOk, IfErr, MatchResult, length};
+ghost use Rattle.std.specs.Prelude.{◌≡◌, ◌≢◌, ◌↔◌, ◌*◌, ◌≤◌, ℕ, List, IsTrue, false, true, Ok, Err, IfOk, IfErr, MatchResult, length, drop};
 ghost use Rattle.std.specs.List.{list_all};
 ghost use Rattle.std.specs.Char.{is_ascii_hexdigit};
 ghost use Rattle.hex.specs.Hex.{decode_of};
@@ -8,7 +8,7 @@ ghost use Rattle.scte35_codec.specs.Section.{Section, section_of, IsSection};
 ghost use Rattle.scte35_codec.specs.Reading.{GivesOrSpliceFault};
 ghost use Rattle.scte35_codec.specs.declared.fault.SpliceFault.{SpliceFault};
 ghost use Rattle.scte35_codec.specs.declared.fault.SpliceFault.TheVariants.{NotHex, CommandLength, TooLarge};
-ghost use Rattle.scte35_codec.specs.Hexadecimal.{are_pairs, is_hex_text, section_digits_of, hex_bytes, reading_hex};
+ghost use Rattle.scte35_codec.specs.Hexadecimal.{are_pairs, begins_with_0x, is_hex_text, hex_bytes, reading_hex};
 ghost use Rattle.scte35_codec.specs.Inner.Hexadecimal.{reading_digits};
 
 use crate::fault::SpliceFault;
@@ -25,17 +25,15 @@ fn are_section_digits(text: &[u8]) -> bool
     text.iter().all(|c| c.is_ascii_hexdigit())
 }
 
-// The digits after `0x` or `0X`, if they are pairs.
-fn section_digits_of(text: &[u8]) -> Result<&[u8], SpliceFault>
-    ensures { MatchResult result (λ digits. section_digits_of text.now ≡ Ok digits.now)
-        (λ e. section_digits_of text.now ≡ Err e) }
+// What stands after `0x` or `0X`.
+fn section_text_after_0x(text: &[u8]) -> Result<&[u8], SpliceFault>
+    ensures { MatchResult result
+        (λ digits. (begins_with_0x text.now ≡ true) × (digits.now ≡ drop 2 text.now))
+        (λ e. (e ≡ NotHex) × (begins_with_0x text.now ≡ false)) }
 {
     let [b'0', b'x' | b'X', digits @ ..] = text else {
         return Err(SpliceFault::NotHex);
     };
-    if digits.len() % 2 != 0 || !are_section_digits(digits) {
-        return Err(SpliceFault::NotHex);
-    }
     Ok(digits)
 }
 
@@ -51,18 +49,21 @@ fn decode_section_digits(digits: &[u8], out: &mut [u8])
 // Most sections have at most so many bytes.
 const FEW: usize = 256;
 
-// The section of pairs of digits, as most are: they are decoded into a small buffer, since it is cleared each time.
+#[tactic(auto, using(crate::proofs::DecodedOnce::short_says))]
+// The section of pairs of digits, as most are: they are decoded into a small buffer, since it is cleared each time. Whether each is a
+// digit is seen while they are decoded.
 fn read_short_section_digits(alloc: Global, digits: &[u8]) -> Result<SpliceInfo, SpliceFault>
-    requires pairs { IsTrue (are_pairs digits.now) }
-    requires few { length digits.now ≤ 512 }
+    requires { length digits.now ≤ 512 }
     ensures exact { GivesOrSpliceFault section_of result (reading_digits digits.now) }
     ensures told { (e : SpliceFault) → reading_digits digits.now ≡ Err e → e ≢ CommandLength
         → result ≡ Err e }
 {
     let mut buffer = [0u8; FEW];
     let few = &mut buffer[..digits.len() / 2];
-    decode_section_digits(digits, few);
-    read(alloc, few)
+    match hex::decode_to_slice(digits, few) {
+        Ok(()) => read(alloc, few),
+        Err(_) => Err(SpliceFault::NotHex),
+    }
 }
 
 // The same of any number of digits. No more bytes are decoded than show that there are too many.
@@ -79,9 +80,9 @@ fn read_long_section_digits(alloc: Global, digits: &[u8]) -> Result<SpliceInfo, 
     read(alloc, bytes)
 }
 
-// The section of pairs of digits.
+#[tactic(auto, using(crate::proofs::DecodedOnce::not_pairs))]
+// The section of pairs of digits, if they are some.
 fn read_section_digits(alloc: Global, digits: &[u8]) -> Result<SpliceInfo, SpliceFault>
-    requires { IsTrue (are_pairs digits.now) }
     ensures exact { GivesOrSpliceFault section_of result (reading_digits digits.now) }
     ensures told { (e : SpliceFault) → reading_digits digits.now ≡ Err e → e ≢ CommandLength
         → result ≡ Err e }
@@ -89,16 +90,19 @@ fn read_section_digits(alloc: Global, digits: &[u8]) -> Result<SpliceInfo, Splic
     if digits.len() <= 2 * FEW {
         return read_short_section_digits(alloc, digits);
     }
+    if digits.len() % 2 != 0 || !are_section_digits(digits) {
+        return Err(SpliceFault::NotHex);
+    }
     read_long_section_digits(alloc, digits)
 }
 
-#[tactic(auto, unfolding(crate::specs::Hexadecimal::reading_hex, crate::specs::Hexadecimal::hex_bytes))]
+#[tactic(auto, using(crate::proofs::DecodedOnce::digits_say, crate::proofs::DecodedOnce::no_digits))]
 fn splice_section_of_text(alloc: Global, text: &str) -> Result<SpliceInfo, SpliceFault>
     ensures exact { GivesOrSpliceFault section_of result (reading_hex text.now) }
     ensures told { (e : SpliceFault) → reading_hex text.now ≡ Err e → e ≢ CommandLength
         → result ≡ Err e }
 {
-    let digits = section_digits_of(text.as_bytes())?;
+    let digits = section_text_after_0x(text.as_bytes())?;
     read_section_digits(alloc, digits)
 }
 

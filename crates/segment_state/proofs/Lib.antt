@@ -4,3 +4,4 @@ pub mod Ranges
 pub mod Timed
 pub mod EqualParts
 pub mod Repeating
+pub mod Joined

@@ -2,14 +2,15 @@
 //! to what RFC 8216 says by looking back over the lines before.
 #![tactic(auto)]
 
-ghost use Rattle.std.specs.Prelude.{◌≡◌, ◌+◌, ◌++◌, ◌^◌, ◌<◌, ◌≤◌, [], ◌∷◌, true, Some, None, Ok, Err, MatchOption, OnErr, OnOk, nat_lt, length};
+ghost use Rattle.std.specs.Prelude.{◌≡◌, ◌+◌, ◌++◌, ◌^◌, ◌<◌, ◌≤◌, [], ◌∷◌, List, ℕ, true, Some, None, Err, IfSome, MatchOption, OnErr, OnOk, nat_lt, length};
 ghost use Rattle.std.specs.List.{list_all};
 ghost use Rattle.std.specs.Option.{SomeIff};
 ghost use Rattle.playlist_model.specs.LookBack.{byte_range_from, byte_range_after, extent_with};
 ghost use Rattle.playlist_model.specs.Reading.{limited, said_by_uri};
 ghost use Rattle.playlist_model.specs.Said as said;
-ghost use Rattle.playlist_model.specs.Said.{uri_of};
-ghost use Rattle.uri_resolver.specs.Plain.{is_path_segment_byte};
+ghost use Rattle.playlist_model.specs.Segments.{segment_under};
+ghost use Rattle.uri_resolver.specs.Fronts.{is_plain_after};
+ghost use Rattle.uri_resolver.specs.Plain.{is_path_segment_byte, StandsBefore};
 ghost use Rattle.segment_state.specs.Running.{unread, ReadsOne, SayingLeadsTo, TakesTag, TakesTagExactly, TakesSegment};
 ghost use Rattle.segment_state.specs.Inner.Running.{after_uri_line, segment_from};
 ghost use Rattle.segment_state.specs.Views.{extent_after};
@@ -18,7 +19,7 @@ ghost use Rattle.segment_state.specs.Repeated.{IsLineOf, IsRepeated};
 use crate::durations::Durations;
 use crate::key_texts::KeyTexts;
 use crate::keys::keys_in_reader_state_with;
-use crate::references::References;
+use crate::references::{References, base_front_of_segment};
 use crate::tags::{byte_range_tag_numbers, said_by_init_section_tag, said_by_key_tag};
 use date_times::TimeReader;
 use fixed_duration::Nanos;
@@ -29,7 +30,7 @@ use playlist_model::{
 use std::alloc::{AllocError, Global};
 use std::marker::Model;
 pub use stops::Stop;
-use uri_resolver::Base;
+use uri_resolver::{Base, BaseFront};
 
 pub mod attributes;
 mod durations;
@@ -62,21 +63,29 @@ pub struct ReaderState<'a> {
     times: TimeReader,
     key_texts: KeyTexts,
     last: Option<Part>,
-    // The segments that were read, with the keys and the initialisation section in force.
+    // The segments that were read, with the keys, the initialisation section and the front of URIs in force.
     segments: GrowingSegments,
+    // Which front of the base that one is, if it is known to be one.
+    uri_front: Option<BaseFront>,
 }
 
 impl<'a> Model for ReaderState<'a> {
-    ghost use Rattle.std.specs.Prelude.{◌+◌, ◌^◌, ◌<◌, ◌≤◌};
+    ghost use Rattle.std.specs.Prelude.{◌+◌, ◌^◌, ◌<◌, ◌≤◌, IfSome};
     ghost use Rattle.playlist_model.specs.declared.limits.TheConstants.{MAX_SEGMENTS};
     ghost use Rattle.segment_state.specs.Running.{Running};
     ghost use Rattle.segment_state.specs.Views.{running_of};
+    ghost use Rattle.uri_resolver.specs.Fronts.{is_plain_after};
+    ghost use Rattle.uri_resolver.specs.Plain.{StandsBefore};
 
     ghost Value = { Running };
 
     ghost view = { running_of };
 
-    ghost invariant = { λ a. (a.discontinuity_sequence + a.discontinuity_count < 2 ^ 64) × (a.discontinuities ≤ a.discontinuity_count) × (a.media_count ≤ MAX_SEGMENTS) };
+    ghost invariant = { λ a.
+        (a.discontinuity_sequence + a.discontinuity_count < 2 ^ 64)
+        × (a.discontinuities ≤ a.discontinuity_count)
+        × (a.media_count ≤ MAX_SEGMENTS)
+        × IfSome a.uri_front (λ front. StandsBefore a.references (is_plain_after front) a.segments.uri_front) };
 }
 
 impl<'a> ReaderState<'a> {
@@ -99,6 +108,7 @@ impl<'a> ReaderState<'a> {
             key_texts: KeyTexts::new(),
             last: None,
             segments: GrowingSegments::new(alloc),
+            uri_front: None,
         }
     }
 
@@ -281,19 +291,50 @@ impl<'a> ReaderState<'a> {
         self.discontinuity_sequence + self.discontinuity_count
     }
 
+    // What the next segment has of its own, with this after the front of its URI, of this byte range, and of this duration with this
+    // title.
+    #[inline(always)]
+    fn next_parts<'b>(
+        &self,
+        number: u64,
+        uri_rest: &'b str,
+        byte_range: Option<ByteRange>,
+        duration: Nanos,
+        title: &'b str,
+    ) -> SegmentParts<'b>
+        requires { number ≡ self.now.standing.media_sequence + self.now.standing.media_count }
+        ensures { (front : List ℕ) → segment_under self.now.standing.keys self.now.standing.init_section front result
+            ≡ segment_from self.now.standing (front ++ uri_rest.now) byte_range (duration, title.now) }
+    {
+        SegmentParts {
+            media_sequence: number,
+            discontinuity_sequence: self.discontinuity_number(),
+            discontinuities: self.discontinuities,
+            uri_rest,
+            byte_range,
+            duration,
+            title,
+            program_date_time: self.program_date_time,
+        }
+    }
+
     // Lists the next segment, of the resource whose URI is these two texts, of this byte range, and of this duration with this
-    // title. Fails only if an allocation fails.
+    // title. `front` says which front of the base the first text is, if it is known to be one. Fails only if an allocation fails.
     #[inline(always)]
     fn list(
         &mut self,
         number: u64,
+        front: Option<BaseFront>,
         uri_front: &str,
         uri_rest: &str,
         byte_range: Option<ByteRange>,
         duration: Nanos,
         title: &str,
     ) -> Result<(), AllocError>
-        requires { number ≡ self.old.standing.media_sequence + self.old.standing.media_count }
+        requires number { number
+            ≡ self.old.standing.media_sequence + self.old.standing.media_count }
+        requires front { IfSome front
+            (λ front. StandsBefore self.old.base (is_plain_after front) uri_front.now) }
         ensures listed { OnOk result
             (self.new ≡ record self.old {
               segments = self.old.segments
@@ -301,22 +342,10 @@ impl<'a> ReaderState<'a> {
             }) }
         ensures refused { OnErr result (self.new ≡ self.old) }
     {
-        let (discontinuity_sequence, discontinuities) = (
-            self.discontinuity_number(),
-            self.discontinuities,
-        );
-        let program_date_time = self.program_date_time;
-        self.segments.push(&SegmentParts {
-            media_sequence: number,
-            discontinuity_sequence,
-            discontinuities,
-            uri_front,
-            uri_rest,
-            byte_range,
-            duration,
-            title,
-            program_date_time,
-        })
+        let parts = self.next_parts(number, uri_rest, byte_range, duration, title);
+        self.segments.set_uri_front(uri_front)?;
+        self.uri_front = front;
+        self.segments.push(&parts)
     }
 
     // What holds after a URI line, of whose segment this part is kept: a segment's own tags end with it (RFC 8216,
@@ -380,18 +409,18 @@ impl<'a> ReaderState<'a> {
         if self.byte_range.is_some() {
             return self.take_part(number, reference, duration, title);
         }
-        let Some(front) = self.references.front_of(reference, is_path_segment) else {
+        let Some(front) = base_front_of_segment(reference, is_path_segment) else {
             return self.take_other(number, reference, duration, title);
         };
-        self.take_joined(number, front, reference, duration, title)
+        self.take_joined(front, number, reference, duration, title)
     }
 
-    // The same of a segment whose resource is a text before its reference.
+    // The same of a segment whose resource is this front of the base before its reference. Most have the front in force.
     #[inline(always)]
     fn take_joined(
         &mut self,
+        front: BaseFront,
         number: u64,
-        front: &str,
         reference: &str,
         duration: Nanos,
         title: &str,
@@ -401,13 +430,46 @@ impl<'a> ReaderState<'a> {
             ≡ self.old.standing.media_sequence + self.old.standing.media_count }
         requires own { self.old.standing.duration ≡ Some (duration, title.now) }
         requires whole { self.old.standing.byte_range ≡ None }
-        requires joined { uri_of self.old.base reference.now ≡ Ok (front.now ++ reference.now) }
+        requires plain { is_plain_after front reference.now ≡ true }
         ensures takes { TakesSegment
             (λ base before. said_by_uri limited base before reference.now) self.old self.new result }
         ensures one { OnOk result (ReadsOne self.old.segments self.new.segments) }
         ensures refused { OnErr result (self.new.segments ≡ self.old.segments) }
     {
-        self.list(number, front, reference, None, duration, title)?;
+        if self.uri_front != Some(front) {
+            return self.take_after_front(front, number, reference, duration, title);
+        }
+        let parts = self.next_parts(number, reference, None, duration, title);
+        self.segments.push(&parts)?;
+        self.segment_stands(None);
+        Ok(())
+    }
+
+    // The same where that front isn't known to be in force. Out of line, since few segments change it.
+    #[inline(never)]
+    fn take_after_front(
+        &mut self,
+        front: BaseFront,
+        number: u64,
+        reference: &str,
+        duration: Nanos,
+        title: &str,
+    ) -> Result<(), FaultKind>
+        requires fits { self.old.standing.media_count < MAX_SEGMENTS }
+        requires number { number
+            ≡ self.old.standing.media_sequence + self.old.standing.media_count }
+        requires own { self.old.standing.duration ≡ Some (duration, title.now) }
+        requires whole { self.old.standing.byte_range ≡ None }
+        requires plain { is_plain_after front reference.now ≡ true }
+        ensures takes { TakesSegment
+            (λ base before. said_by_uri limited base before reference.now) self.old self.new result }
+        ensures one { OnOk result (ReadsOne self.old.segments self.new.segments) }
+        ensures refused { OnErr result (self.new.segments ≡ self.old.segments) }
+    {
+        let Some(text) = self.references.text_of_front(front) else {
+            return self.take_other(number, reference, duration, title);
+        };
+        self.list(number, Some(front), text, reference, None, duration, title)?;
         self.segment_stands(None);
         Ok(())
     }
@@ -432,7 +494,7 @@ impl<'a> ReaderState<'a> {
         ensures refused { OnErr result (self.new.segments ≡ self.old.segments) }
     {
         let uri = self.references.resolve(reference)?;
-        self.list(number, uri.as_str(), "", None, duration, title)?;
+        self.list(number, None, "", uri.as_str(), None, duration, title)?;
         self.segment_stands(None);
         Ok(())
     }
@@ -457,7 +519,7 @@ impl<'a> ReaderState<'a> {
     {
         let uri = self.references.resolve_part(reference)?;
         let byte_range = self.next_byte_range(uri.as_str())?;
-        self.list(number, uri.as_str(), "", byte_range, duration, title)?;
+        self.list(number, None, uri.as_str(), "", byte_range, duration, title)?;
         self.segment_stands(last_byte_range_part(uri, byte_range));
         Ok(())
     }

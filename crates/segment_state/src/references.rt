@@ -1,16 +1,30 @@
 //! The references of a playlist, resolved against its base (RFC 3986, section 5).
-ghost use Rattle.std.specs.Prelude.{◌≡◌, ◌++◌, true, Ok, IfSome};
+ghost use Rattle.std.specs.Prelude.{◌≡◌, true, IfSome};
 ghost use Rattle.std.specs.List.{list_all};
 ghost use Rattle.std.specs.Option.{option_copied};
 ghost use Rattle.playlist_model.specs.Said.{uri_of};
 ghost use Rattle.playlist_model.specs.Refusals.{GivesOrPlaylistFault};
-ghost use Rattle.uri_resolver.specs.Plain.{is_path_segment_byte};
+ghost use Rattle.uri_resolver.specs.Fronts.{is_plain_after};
+ghost use Rattle.uri_resolver.specs.Plain.{is_path_segment_byte, StandsBefore};
 
 use crate::tags::{shared_tag_uri_of, tag_uri_of};
 use playlist_model::{FaultKind, Shared, Text};
 use std::alloc::Global;
 use std::marker::Model;
-use uri_resolver::Base;
+use uri_resolver::{Base, BaseFront, base_front_before, base_front_before_path_segment};
+
+/// The front of the base that stands before `reference` in the resource that it names, if that is just put before it, as for most
+/// (RFC 3986, section 5). `is_path_segment` says that it is known to be one plain segment of a path. Takes no memory.
+#[inline(always)]
+pub fn base_front_of_segment(reference: &str, is_path_segment: bool) -> Option<BaseFront>
+    requires { is_path_segment ≡ true → list_all is_path_segment_byte reference.now ≡ true }
+    ensures { IfSome result (λ front. is_plain_after front reference.now ≡ true) }
+{
+    if is_path_segment {
+        return base_front_before_path_segment(reference);
+    }
+    base_front_before(reference)
+}
 
 /// A reference, and the resource that it names.
 #[derive(Drop)]
@@ -58,19 +72,14 @@ impl<'a> References<'a> {
         self.base
     }
 
-    /// What stands before `reference` in the resource that it names, if that is just put before it, as for most (RFC
-    /// 3986, section 5). `is_path_segment` says that it is known to be one plain segment of a path. Takes no memory.
-    #[inline(always)]
-    pub fn front_of(&self, reference: &str, is_path_segment: bool) -> Option<&'a str>
-        requires { is_path_segment ≡ true → list_all is_path_segment_byte reference.now ≡ true }
+    /// The text of `front`, if it is known: the resource that a plain reference of its kind names is that text and then the
+    /// reference (RFC 3986, section 5).
+    pub fn text_of_front(&self, front: BaseFront) -> Option<&'a str>
         ensures { IfSome (option_copied result)
-            (λ front. uri_of self.now reference.now ≡ Ok (front ++ reference.now)) }
+            (λ text. StandsBefore self.now (is_plain_after front) text) }
     {
         let base = self.base;
-        if is_path_segment {
-            return base.front_of_path_segment(reference);
-        }
-        base.front_of(reference)
+        base.text_of_front(front)
     }
 
     /// The resource that `reference` names (RFC 8216, section 4.1). `BadUri` if it can't be resolved; `OutOfMemory`

@@ -1,5 +1,5 @@
 //! The stitched list of marked segments, as it is made.
-ghost use Rattle.std.specs.Prelude.{◌≡◌, ◌+◌, ◌<◌, ◌≤◌, ◌^◌, ℕ, List, Bool, true, false, [], ◌∷◌, map, take, drop, length, None, OnOk, IfOk, IfErr};
+ghost use Rattle.std.specs.Prelude.{◌≡◌, ◌+◌, ◌++◌, ◌<◌, ◌≤◌, ◌^◌, ℕ, List, Bool, true, false, [], ◌∷◌, map, take, drop, length, None, OnOk, IfOk, IfErr};
 ghost use Rattle.std.specs.List.{list_all};
 ghost use Rattle.pod_store.specs.Marks.{Mark};
 ghost use Rattle.pod_store.specs.Rules.{ad_keeps};
@@ -295,6 +295,18 @@ fn stitched_part_at(ends: &Ends, mark: &Option<Shared<Text>>, later: &[MarkedSeg
     }
 }
 
+// The front of the URI of an ad's segment, which the segments after it may share, and the rest. A whole resource shares nothing. A
+// part of one shares all of its URI, since the next part is mostly of the same resource.
+fn uri_parts_of_ad_segment(segment: &PodSegment) -> (&str, &str)
+    ensures { result.0.now ++ result.1.now ≡ segment.now.uri }
+{
+    let uri = segment.uri.as_str();
+    if segment.byte_range.is_none() {
+        return ("", uri);
+    }
+    (uri, "")
+}
+
 impl<'a> Stitching<'a> {
     // An empty list.
     fn new(alloc: Global, first: Numbers) -> Stitching<'a>
@@ -356,12 +368,13 @@ impl<'a> Stitching<'a> {
         ensures under { OnOk result ((ad : Ad) → IsUnder self.old ad → IsUnder self.new ad) }
         ensures err { IfErr result (λ e. e ≡ StitchFault.OutOfMemory) }
     {
+        let (uri_front, uri_rest) = uri_parts_of_ad_segment(segment);
+        self.ads.set_uri_front(uri_front)?;
         self.ads.push(&SegmentParts {
             media_sequence: numbers.media_sequence,
             discontinuity_sequence: numbers.discontinuity_sequence,
             discontinuities: numbers.discontinuities,
-            uri_front: segment.uri.as_str(),
-            uri_rest: "",
+            uri_rest,
             byte_range: segment.byte_range,
             duration: segment.duration,
             title: "",

@@ -1,2 +1,3 @@
+pub mod Fronts
 pub mod Plain
 pub mod Refusals

@@ -8,6 +8,7 @@ ghost use Rattle.url.specs.Parts.{IsValid};
 ghost use Rattle.playlist_model.specs.Uri.{can_be_written, resolved, base_of, is_web_scheme};
 ghost use Rattle.uri_resolver.specs.Refusals.{RefusesUri, RefusesBase};
 ghost use Rattle.uri_resolver.specs.Plain.{is_path_segment_byte, is_relative_reference, is_rooted_reference, StandsBefore};
+ghost use Rattle.uri_resolver.specs.Fronts.{is_plain_after};
 
 use crate::plain::{is_relative_path_segment, is_relative_reference, is_rooted_reference};
 pub use plain::after_path_segment;
@@ -37,6 +38,42 @@ impl From<AllocError> for BaseFault {
     fn from(_: AllocError) -> BaseFault {
         BaseFault::OutOfMemory
     }
+}
+
+/// A text that a base puts before plain references (RFC 3986, section 5).
+#[derive(Clone, Copy, PartialEq, Eq, Debug)]
+pub enum BaseFront {
+    /// Where `.` leads: it stands before a relative reference.
+    Directory,
+    /// All before the path: it stands before a reference from the root.
+    Origin,
+}
+
+/// The front of a base that stands before `reference` in the URI that it is, if that is just put before it: then the reference is
+/// a plain one (RFC 3986, section 5). Takes no memory.
+#[inline(always)]
+pub fn base_front_before(reference: &str) -> Option<BaseFront>
+    ensures { IfSome result (λ front. is_plain_after front reference.now ≡ true) }
+{
+    if is_relative_reference(reference) {
+        return Some(BaseFront::Directory);
+    }
+    if is_rooted_reference(reference) {
+        return Some(BaseFront::Origin);
+    }
+    None
+}
+
+/// The same of `segment`, a reference that is one plain segment of a path: its bytes aren't looked at again.
+#[inline(always)]
+pub fn base_front_before_path_segment(segment: &str) -> Option<BaseFront>
+    requires { list_all is_path_segment_byte segment.now ≡ true }
+    ensures { IfSome result (λ front. is_plain_after front segment.now ≡ true) }
+{
+    if is_relative_path_segment(segment) {
+        return Some(BaseFront::Directory);
+    }
+    None
 }
 
 /// The base of a playlist's references: an absolute http or https URL.
@@ -146,40 +183,22 @@ impl Base {
         })
     }
 
-    /// What stands before `reference` in the URI that it is under this base, if that is just put before it: then the
-    /// reference is a plain one (RFC 3986, section 5). Takes no memory.
-    #[inline(always)]
-    pub fn front_of(&self, reference: &str) -> Option<&str>
+    /// The text of `front`, if it is known: it stands before each plain reference of its kind (RFC 3986, section 5).
+    pub fn text_of_front(&self, front: BaseFront) -> Option<&str>
         ensures { IfSome (option_copied result)
-            (λ front. resolved self.now reference.now ≡ Some (front ++ reference.now)) }
+            (λ text. StandsBefore self.now (is_plain_after front) text) }
     {
-        if let Some(directory) = &self.directory {
-            if is_relative_reference(reference) {
-                return Some(directory.as_str());
-            }
-        }
-        if let Some(origin) = &self.origin {
-            if is_rooted_reference(reference) {
-                return Some(origin.as_str());
-            }
-        }
-        None
-    }
-
-    /// The same of `segment`, a reference that is one plain segment of a path: its bytes aren't looked at again.
-    #[inline(always)]
-    pub fn front_of_path_segment(&self, segment: &str) -> Option<&str>
-        requires { list_all is_path_segment_byte segment.now ≡ true }
-        ensures { IfSome (option_copied result)
-            (λ front. resolved self.now segment.now ≡ Some (front ++ segment.now)) }
-    {
-        match &self.directory {
-            Some(directory) if is_relative_path_segment(segment) => Some(directory.as_str()),
-            _ => None,
+        let text = match front {
+            BaseFront::Directory => &self.directory,
+            BaseFront::Origin => &self.origin,
+        };
+        match text {
+            Some(text) => Some(text.as_str()),
+            None => None,
         }
     }
 
-    // The same of a reference before which no plain text is put.
+    // The URI that a reference is before which no plain text is put.
     #[inline(never)]
     fn resolve_other(&self, reference: &str) -> Result<String, BaseFault>
         ensures { MatchResult result
@@ -209,8 +228,10 @@ impl Base {
             (λ text. resolved self.now reference.now ≡ Some (string_bytes text))
             (λ e. RefusesUri e (resolved self.now reference.now)) }
     {
-        if let Some(front) = self.front_of(reference) {
-            return Ok(join_reference(self.alloc, front, reference)?);
+        if let Some(front) = base_front_before(reference) {
+            if let Some(text) = self.text_of_front(front) {
+                return Ok(join_reference(self.alloc, text, reference)?);
+            }
         }
         self.resolve_other(reference)
     }

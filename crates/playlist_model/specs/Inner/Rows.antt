@@ -9,7 +9,8 @@ use Rattle.playlist_model.specs.declared.standings.SegmentNumbers.{SegmentNumber
 use Rattle.playlist_model.specs.declared.standings.Standing.{Standing}
 use Rattle.playlist_model.specs.declared.segments.Tables.{Tables}
 use Rattle.playlist_model.specs.InCommon.{AreSameAt, init_section_keys}
-use Rattle.playlist_model.specs.Rows.{row_standing}
+use Rattle.playlist_model.specs.Rows.{row_standing, segment_text_at}
+use Rattle.playlist_model.specs.Segments.{Growing}
 
 -- ys is xs, and maybe more
 pub record Grows {A : Type 0} (xs ys : List A) : Type 0 where
@@ -22,24 +23,24 @@ pub record Extends (t u : Tables) : Type 0 where
   pub extras : Grows t.extras.items u.extras.items
   pub standings : Grows t.standings.items u.standings.items
 
--- this stands over the segment of these numbers and a URI whose front lies there, which comes so many after the first one
-pub record StandsOver (standing : Standing) (after : ℕ) (numbers : SegmentNumbers) (uri_front : Place) : Type 0 where
+-- this has the numbers of the segment of these, which comes so many after the first one
+pub record StandsOver (standing : Standing) (after : ℕ) (numbers : SegmentNumbers) : Type 0 where
   pub media_sequence_is : standing.numbers.media_sequence + after ≡ numbers.media_sequence
   pub discontinuity_sequence_is : standing.numbers.discontinuity_sequence ≡ numbers.discontinuity_sequence
   pub discontinuities_are : standing.numbers.discontinuities ≡ numbers.discontinuities
-  pub uri_front_is : standing.uri_front ≡ uri_front
   pub word : numbers.media_sequence < 2 ^ 64
 
--- at a place stands this over that segment, which comes so many after the first one
+-- at a place stands this over that segment, whose URI has its front there, and which comes so many after the first one
 abbrev pub StandsAt : List Standing → SegmentNumbers → Place → List Key → Option InitSection → ℕ → ℕ → Type 0
 StandsAt standings numbers uri_front keys init_section place after =
-    (found : Standing) × (slice_get standings place ≡ Some found) × StandsOver found after numbers uri_front × (found.keys ≡ keys) × (found.init_section ≡ init_section)
+    (found : Standing) × (slice_get standings place ≡ Some found) × StandsOver found after numbers × (found.keys ≡ keys) × (found.init_section ≡ init_section) × (found.uri_front ≡ uri_front)
 
--- the keys and the initialisation section in force are those of this place, if it is one
-abbrev pub AreInForceOf : List Standing → Option ℕ → List Key → Option InitSection → Type 0
-AreInForceOf standings None keys init_section = Unit {0}
-AreInForceOf standings (Some place) keys init_section =
-    (keys ≡ (row_standing standings place).keys) × (init_section ≡ (row_standing standings place).init_section) × (place < length standings)
+-- what is in force is what stands at this place, if it is one
+abbrev pub AreInForceOf : Tables → Option ℕ → Growing → Type 0
+AreInForceOf tables None growing = Unit {0}
+AreInForceOf tables (Some place) growing =
+    (growing.keys ≡ (row_standing tables.standings.items place).keys) × (growing.init_section ≡ (row_standing tables.standings.items place).init_section) × (place < length tables.standings.items)
+    × (growing.uri_front ≡ segment_text_at (string_bytes tables.texts) (row_standing tables.standings.items place).uri_front)
 
 -- the last of these has its keys, at these places, in its initialisation section too, if it has one
 abbrev pub LastOwnKeys : List Standing → KeyPlaces → Type 0

@@ -37,3 +37,11 @@ pairs_in_use ids pairs = map (λ (pair : String Global × StoredPod). (pair.0, u
 abbrev pub used_ids : PodsById → List (List ℕ)
 used_ids [] = []
 used_ids (pair ∷ later) = if pair.1.used then string_bytes pair.0 ∷ used_ids later else used_ids later
+
+-- the breaks, in their order
+abbrev pub pod_ids : PodsById → List (List ℕ)
+pod_ids pairs = map (λ (pair : String Global × StoredPod). string_bytes pair.0) pairs
+
+-- each break is used
+abbrev pub all_marked : PodsById → PodsById
+all_marked pairs = map (λ (pair : String Global × StoredPod). (pair.0, record pair.1 { used = true })) pairs

@@ -9,4 +9,4 @@ returns-clause-common c =
 
 pub returns-clause-last : goal.returns-clause-last
 returns-clause-last c =
-    put_last c.args.standings.now.items _ (record { numbers = c.args.numbers; uri_front = c.args.uri_front; keys = c.in_ok-clone.field-0; init_section = c.in_ok-clone-2.field-0; in_common = c.args.in_common; whole = c.whole.result }) c.args.keys.now c.args.init_section.now (grind (arith, common_steps)) (grind (arith, common_steps)) (grind (arith, common_steps))
+    put_last c.args.standings.now.items _ (record { numbers = c.args.numbers; uri_front = c.args.uri_front; keys = c.in_ok-clone.field-0; init_section = c.in_ok-clone-2.field-0; in_common = c.args.in_common; whole = c.whole.result }) c.args.keys.now c.args.init_section.now c.args.uri_front (grind (arith, common_steps)) (grind (arith, common_steps)) (grind (arith, common_steps)) (grind (arith, common_steps))

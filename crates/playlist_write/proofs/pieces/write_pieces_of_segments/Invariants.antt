@@ -4,6 +4,7 @@ use Rattle.playlist_write.specs.Owed.{said_text, segments_owed}
 use Rattle.playlist_write.specs.Inner.Taken.{TookAllBut}
 use Rattle.stitcher.specs.Stretches.{SecondHasInCommon}
 use Rattle.playlist_write.specs.Inner.Changes.{HasFirstInCommon}
+use Rattle.playlist_write.specs.Inner.KeyParts.{IsOnlyKey}
 use Rattle.playlist_write.proofs.pieces.write_pieces_of_segments.Given as goal
 
 abbrev pub invariant-loop-next : goal.invariant-loop-next
@@ -13,6 +14,7 @@ invariant-loop-next g l = record {
       (string_bytes l.fn.held ++ said_text (segments_owed l.fn.before l.fn.segments));
   failed : NoneFailed (g.S.Sink.stand l.fn.sink).failed (g.S.Sink.stand l.sink).failed;
   first : HasFirstInCommon l.common l.force l.segments;
+  key : IsOnlyKey l.key l.force.keys;
   second : SecondHasInCommon l.later l.segments;
 }
 

@@ -1,20 +1,29 @@
-use Rattle.std.proofs.Common.{◌≡◌, List, subst, sym, ap, ◌∙◌, arith}
+use Rattle.std.proofs.Common.{◌≡◌, List, None, subst, sym, ap, ◌∙◌, arith}
 use Rattle.std.specs.List.{list_all}
 use Rattle.std.proofs.lemmas.Grind.{common_steps}
 use Rattle.stitcher.specs.Stitched.{Piece}
 use Rattle.stitcher.specs.StitchedSegments.{RefusesNumber, item_fits}
 use Rattle.stitcher.specs.RunPods.{AreLeftOf, Runs}
-use Rattle.stitcher.specs.Inner.Making.{Passes, PutsPieces, after_front, front_pieces, nothing_made, pieces_between, pieces_on}
+use Rattle.stitcher.specs.Inner.Making.{Made, Passes, PutsPieces, after_front, front_pieces, nothing_made, pieces_between, pieces_of_rest, pieces_on}
 use Rattle.stitcher.proofs.Kept.{pieces_front_at}
 use Rattle.stitcher.proofs.Known.{common_after_front, known_after_front}
 use Rattle.stitcher.proofs.Outcomes.{handed_on, if_ok}
 use Rattle.stitcher.proofs.PodsOfRuns.{left_after_front}
-use Rattle.stitcher.proofs.Putting.{Walks, walks_on, comes_whole, passes_whole, none_left}
+use Rattle.stitcher.proofs.Putting.{Walks, walks_none, walks_on, comes_whole, passes_whole, none_left}
 use Rattle.stitcher.proofs.Runs.{in_order}
 use Rattle.stitcher.proofs.making.stitch.Goals as goal
 
 pub returns-in_err-put_rest-clause-err : goal.returns-in_err-put_rest-clause-err
-returns-in_err-put_rest-clause-err c = grind (arith, common_steps, handed_on, in_order)
+returns-in_err-put_rest-clause-err c =
+    let store = c.args.store.now in
+    let ends = c.args.ends.now in
+    let made = nothing_made c.args.first in
+    let all = pieces_between store ends c.args.marked.now in
+    let rest = pieces_of_rest store ends.rest in
+    let refused = subst (λ (m : Made). RefusesNumber c.in_err-put_rest.field-0.0 (Passes m rest)) c.new-stitching.ensures c.in_err-put_rest.ensures.err in
+    handed_on c.from_residual.result c.in_err-put_rest.field-0.0 c.from_residual.ensures.1 refused
+    (λ p. ap (list_all item_fits) (in_order store c.args.first ends c.args.marked.now c.requires.decided)
+    ∙ passes_whole made made all rest (pieces_on store ends.so_far None c.args.marked.now) (walks_none made all) p)
 
 pub returns-in_err-rest-clause-err : goal.returns-in_err-rest-clause-err
 returns-in_err-rest-clause-err c =

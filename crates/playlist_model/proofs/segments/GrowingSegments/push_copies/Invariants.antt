@@ -9,7 +9,7 @@ invariant-loop-row l = record {
   taken : (count : ℕ) × (l.self.segments ≡ l.initial.self.segments ++ take count l.fn.segments) × (row_segments l.tables l.rest ≡ drop count l.fn.segments);
   fit : AllByRecursion (Fits l.tables) l.rest;
   compared : AreCompared l.tables.standings.items;
-  last : AreInForceOf l.tables.standings.items l.last l.self.keys l.self.init_section;
+  last : AreInForceOf l.tables l.last l.self;
 }
 
 abbrev pub decreases-loop-row : goal.decreases-loop-row

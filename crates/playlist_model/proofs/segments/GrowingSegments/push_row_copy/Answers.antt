@@ -11,7 +11,7 @@ take_standing-requires-clause-next c = λ is.
     let now = c.index-standing.result.now in
     let found = slice_get_read standings (length standings) c.args.row.now.standing now refl c.requires.fits.standing c.index-standing.ensures in
     let next = c.is_next_standing.ensures is in
-    let force = subst (λ last. AreInForceOf standings last c.args.self.now.keys c.args.self.now.init_section) next.1 c.requires.last in
+    let force = subst (λ last. AreInForceOf c.args.tables.now last c.args.self.now) next.1 c.requires.last in
     let before = row_standing standings next.0 in
     let common = c.requires.common.with_before next.0 before now (slice_get-get_or standings next.0 no_standing force.2) (ap (slice_get standings) next.2 ∙ found) in
     subst (λ keys. IsInCommon now.in_common keys c.args.self.now.init_section now.keys now.init_section) (sym force.0)

@@ -19,4 +19,5 @@ invariant_of-self c =
             with.common last.keys c.self.inside.keys last.init_section c.self.inside.init_section c.args.init_section own.0 own.1 same (i.3.with_last last found);
         own = subst (λ places. AreSameAt places c.self.inside.keys (init_section_keys c.args.init_section)) (sym with.own) same;
       },
+      i.4,
     )

@@ -15,4 +15,5 @@ invariant_of-self c =
         with_last = λ last found. with.common last.keys c.self.inside.keys c.args.keys last.init_section c.self.inside.init_section same (i.3.with_last last found);
         own = with.own c.self.inside.keys c.args.keys c.self.inside.init_section same i.3.own;
       },
+      i.4,
     )
