@@ -300,6 +300,38 @@ impl Server {
         }
     }
 
+    // From now on a client has its time.
+    fn give_time(&mut self, rt: &HostRuntime, connections: &mut Connections, place: usize)
+        ensures { HasRun connections.old connections.new }
+    {
+        self.clients.served.remove(place);
+        if self
+            .clients
+            .served
+            .push(place, serving_deadline(self.opened.now))
+            .is_err()
+        {
+            self.faults.tell(rt, EdgeFault::OutOfMemory.text());
+            self.close(connections, place);
+        }
+    }
+
+    // A client whose request was applied in its turn has its time anew, if its reply isn't gone: it may have waited for the
+    // server.
+    fn time_reply(
+        &mut self,
+        rt: &HostRuntime,
+        connections: &mut Connections,
+        place: usize,
+        was_asking: bool,
+    )
+        ensures { HasRun connections.old connections.new }
+    {
+        if was_asking && matches!(connections.phase(place), Phase::Answering(_)) {
+            self.give_time(rt, connections, place);
+        }
+    }
+
     // Makes room for bytes of the client at a place. Of the clients whose bytes are held, that which has asked longest
     // is given up.
     fn make_room(&mut self, rt: &HostRuntime, connections: &mut Connections, place: usize)
@@ -332,16 +364,41 @@ impl Server {
                 return;
             }
             let was_ending = client.is_ending();
+            let was_asking = connections.is_asking(place);
             let turn = client.take_turn(call, connections, block);
             if !matches!(turn, Turn::Full) {
                 self.settle(rt, connections, place, turn, was_ending);
+                self.time_reply(rt, connections, place, was_asking);
                 return;
             }
             self.make_room(rt, connections, place);
         }
     }
 
-    // A client is ready: it has its turn at once if that is short, and else it stands in line.
+    // A client has its turn at once if that is short, and else it stands in line.
+    fn on_when(
+        &mut self,
+        rt: &HostRuntime,
+        connections: &mut Connections,
+        place: usize,
+        when: When,
+        block: &mut [u8],
+    )
+        requires { 0 < length block.old }
+        ensures { HasRun connections.old connections.new }
+    {
+        match when {
+            When::AtOnce(call) => {
+                self.clients.line.leave(place);
+                self.serve(rt, connections, &call, block);
+            }
+            When::InLine => self.stand_in_line(rt, connections, place),
+            When::NotYet => self.watch(connections, place, false),
+            When::Failed(fault) => self.settle(rt, connections, place, Turn::Failed(fault), false),
+        }
+    }
+
+    // A client is ready.
     fn on_ready(
         &mut self,
         rt: &HostRuntime,
@@ -355,14 +412,8 @@ impl Server {
         let Some(Some(client)) = self.clients.at.get_mut(place) else {
             return;
         };
-        match client.when(connections, block) {
-            When::AtOnce(call) => {
-                self.clients.line.leave(place);
-                self.serve(rt, connections, &call, block);
-            }
-            When::InLine => self.stand_in_line(rt, connections, place),
-            When::NotYet => self.watch(connections, place, false),
-        }
+        let when = client.when(connections, block);
+        self.on_when(rt, connections, place, when, block);
     }
 
     // Has a client stand in line, or gives it up if there is no memory for that.
@@ -488,15 +539,7 @@ impl Server {
         let client = self.clients.at.get_mut(place)?;
         connections.insert(&seat);
         *client = Some(Client::new(NonBlocking::new(stream), seat));
-        if self
-            .clients
-            .served
-            .push(place, serving_deadline(self.opened.now))
-            .is_err()
-        {
-            self.faults.tell(rt, EdgeFault::OutOfMemory.text());
-            self.close(connections, place);
-        }
+        self.give_time(rt, connections, place);
         Some(place)
     }
 
@@ -576,27 +619,57 @@ impl Server {
         ensures { HasRun connections.old connections.new }
     {
         for _ in 0..PLACES {
-            let Some(place) = self.clients.ending.late(self.opened.now) else {
+            let overdue = self
+                .clients
+                .ending
+                .overdue(self.opened.now, &self.clients.line);
+            let Some(place) = overdue else {
                 return;
             };
             self.close(connections, place);
         }
     }
 
-    // Gives up those whose time is up.
-    fn give_up_late(&mut self, rt: &HostRuntime, connections: &mut Connections)
+    // A client's time is up: it is given up, unless it has its turn still.
+    fn on_late(
+        &mut self,
+        rt: &HostRuntime,
+        connections: &mut Connections,
+        place: usize,
+        block: &mut [u8],
+    )
+        requires { 0 < length block.old }
+        ensures { HasRun connections.old connections.new }
+    {
+        let Some(Some(client)) = self.clients.at.get_mut(place) else {
+            return;
+        };
+        match client.when_late(connections, block) {
+            Some(when) => self.on_when(rt, connections, place, when, block),
+            None => self.give_up(rt, connections, place),
+        }
+    }
+
+    // Looks at each client whose time is up, and that doesn't stand in line.
+    fn give_up_late(&mut self, rt: &HostRuntime, connections: &mut Connections, block: &mut [u8])
+        requires { 0 < length block.old }
         ensures { HasRun connections.old connections.new }
     {
         for _ in 0..PLACES {
-            let Some(place) = self.clients.served.late(self.opened.now) else {
+            let overdue = self
+                .clients
+                .served
+                .overdue(self.opened.now, &self.clients.line);
+            let Some(place) = overdue else {
                 return;
             };
-            self.give_up(rt, connections, place);
+            self.on_late(rt, connections, place, block);
         }
     }
 
     // At each tick: clients whose time is up are given up, and after an error it is tried again to let clients in.
-    fn tick(&mut self, rt: &HostRuntime, connections: &mut Connections)
+    fn tick(&mut self, rt: &HostRuntime, connections: &mut Connections, block: &mut [u8])
+        requires { 0 < length block.old }
         ensures { HasRun connections.old connections.new }
     {
         if !has_come(self.next_tick, self.opened.now) {
@@ -607,12 +680,12 @@ impl Server {
             self.door = Door::Open;
         }
         self.close_late(connections);
-        self.give_up_late(rt, connections);
+        self.give_up_late(rt, connections, block);
     }
 
     /// A round over `connections`: of the clients that `events` name, and of those that are let in then, each has its
     /// turn if it reads what stands, or is answered. Of the others the first one has its request applied.
-    /// Then clients whose time is up are given up. `block` is room for a read.
+    /// Then those are given up whose time is up, and of whom nothing is unread. `block` is room for a read.
     pub fn round(
         &mut self,
         rt: &HostRuntime,
@@ -626,6 +699,6 @@ impl Server {
         self.serve_events(rt, connections, events, block);
         self.let_in(rt, connections, block);
         self.call_line(rt, connections, block);
-        self.tick(rt, connections);
+        self.tick(rt, connections, block);
     }
 }

@@ -1,5 +1,5 @@
 -- Who came when, and which connection is given up.
-use Rattle.std.specs.Prelude.{ℕ, ◌==◌, nat_le, nat_lt, not, Bool, true, false, List, [], ◌∷◌, Option, Some, None, option_map}
+use Rattle.std.specs.Prelude.{ℕ, ◌==◌, ◌&&◌, nat_le, nat_lt, not, Bool, true, false, List, [], ◌∷◌, Option, Some, None, option_map}
 use Rattle.std.specs.Option.{option_or}
 use Rattle.std.specs.List.{find}
 use Rattle.std.specs.Time.{instant_nanos}
@@ -7,6 +7,7 @@ use Rattle.std.specs.declared.time.Instant.{Instant}
 use Rattle.connections.specs.declared.arrivals.Arrival.{Arrival}
 use Rattle.connections.specs.declared.conversation.Conversation.{Conversation}
 use Rattle.connections.specs.declared.conversation.Conversation.TheVariants.{Asking, Answering}
+use Rattle.connections.specs.Lines.{is_in_line}
 use Rattle.connections.specs.Table.{State, at, held_of}
 
 abbrev pub arrival_place : Arrival → ℕ
@@ -25,6 +26,10 @@ has_come until now = nat_le (instant_nanos until) (instant_nanos now)
 -- its time is up
 abbrev pub is_late : Instant → Arrival → Bool
 is_late now arrival = has_come arrival.until now
+
+-- its time is up, and it doesn't wait for its turn
+abbrev pub is_overdue : Instant → List ℕ → Arrival → Bool
+is_overdue now line arrival = is_late now arrival && not (is_in_line arrival.place line)
 
 -- ---- what a connection is at
 
@@ -52,7 +57,7 @@ abbrev pub first_that : (Arrival → Bool) → List Arrival → Option ℕ
 first_that test arrivals = option_map arrival_place (find test arrivals)
 
 -- for one that comes the client is given up that has asked longest; if none asks, the one that has been ending longest, and
--- only if all have a reply on its way the one that came first
+-- only if all have a reply on its way the first of these
 abbrev pub gives_place : State → List Arrival → List Arrival → Option ℕ
 gives_place s served ending = option_or (first_that (asks s) served) (option_or (first_client_arrival ending) (first_client_arrival served))
 

@@ -1,17 +1,17 @@
 -- A client, and what its turn came to.
-use Rattle.std.specs.Prelude.{◌≡◌, ◌≢◌, ℕ, zero, suc, ◌+◌, ◌*◌, ◌≤◌, Bool, true, false, List, [], ◌∷◌, length, Option, Some, ◌⊎◌}
+use Rattle.std.specs.Prelude.{◌≡◌, ◌≢◌, ℕ, zero, suc, ◌+◌, ◌*◌, ◌≤◌, Bool, true, false, List, [], ◌∷◌, ◌++◌, length, Option, Some, ◌⊎◌}
 use Rattle.http_edge.specs.declared.serving.EdgeFault.{EdgeFault}
 use Rattle.http_edge.specs.Served.{BeginsWithRead}
 use Rattle.connections.specs.declared.line.When.{When}
-use Rattle.connections.specs.declared.line.When.TheVariants.{AtOnce, InLine, NotYet}
+use Rattle.connections.specs.declared.line.When.TheVariants.{AtOnce, InLine, NotYet, Failed}
 use Rattle.connections.specs.declared.conversation.Conversation.{Conversation}
 use Rattle.connections.specs.declared.devices.Passage.{Passage}
-use Rattle.connections.specs.declared.devices.Passage.TheVariants.{WouldWait}
+use Rattle.connections.specs.declared.devices.Passage.TheVariants.{Bytes, WouldWait}
 use Rattle.connections.specs.Arrivals.{is_asking}
 use Rattle.connections.specs.Devices.{DeviceStand, AreNext}
 use Rattle.connections.specs.Limits.{reads_in_turn, writes_in_turn}
 use Rattle.connections.specs.Runs.{EventsLeadTo}
-use Rattle.connections.specs.Table.{State, ClientEvent, arrival, request_bytes, reply_bytes, departure, at, held_of, left_of}
+use Rattle.connections.specs.Table.{State, ClientEvent, arrival, request_bytes, reply_bytes, departure, at, left_of, part_of_request}
 use Rattle.connections.specs.Turns.{MovedEach, HasListened, HasListenedUntil, HasNoMore, HasSpoken, HasSpokenUntil, is_client_read_out}
 
 -- its device, its place, whether its end alone is awaited, and whether the system was asked to tell of it
@@ -27,10 +27,21 @@ abbrev pub IfAtOnce : When → (ℕ → Type 0) → Type 0
 IfAtOnce (AtOnce call) P = P call
 IfAtOnce InLine P = Unit {0}
 IfAtOnce NotYet P = Unit {0}
+IfAtOnce (Failed fault) P = Unit {0}
 
--- nothing of its request was read yet, and what it sends begins with a whole request that reads a playlist that stands
+abbrev pub IfLookFailed : When → (EdgeFault → Type 0) → Type 0
+IfLookFailed (Failed fault) P = P fault
+IfLookFailed (AtOnce call) P = Unit {0}
+IfLookFailed InLine P = Unit {0}
+IfLookFailed NotYet P = Unit {0}
+
+-- the last call gave some bytes, or told the end
+abbrev pub HasGiven : Option Passage → Type 0
+HasGiven last = (count : ℕ) × (last ≡ Some (Bytes count))
+
+-- what was read of its request and what it sends now begin with a whole request that reads a playlist that stands
 abbrev pub SendsRead : DeviceStand → Option Conversation → Type 0
-SendsRead reader it = (held_of it ≡ 0) × ((bytes : List ℕ) × AreNext bytes reader.bytes × BeginsWithRead bytes)
+SendsRead reader it = (bytes : List ℕ) × AreNext bytes reader.bytes × BeginsWithRead (part_of_request it ++ bytes)
 
 -- it can't hold the others: its end alone is awaited, or it is answered, or it reads what stands
 abbrev pub IsShort : {X : Type 0} → (X → DeviceStand) → ClientAt X → State → Type 0

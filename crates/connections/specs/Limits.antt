@@ -9,7 +9,7 @@ most_held = 67108864
 abbrev pub place_count : ℕ
 place_count = 512
 
--- how long a client may ask and be answered: 10 seconds, in nanoseconds
+-- how long a client may ask, and how long it may then take its reply: 10 seconds, in nanoseconds
 abbrev pub serving_nanos : ℕ
 serving_nanos = 10000000000
 

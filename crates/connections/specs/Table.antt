@@ -27,6 +27,12 @@ held_of (Some (Answering rest status)) = 0
 abbrev pub held_in : List (Option Conversation) → ℕ
 held_in places = sum_by held_of places
 
+-- what was read of a request that isn't whole
+abbrev pub part_of_request : Option Conversation → List ℕ
+part_of_request None = []
+part_of_request (Some (Asking bytes pieces)) = bytes
+part_of_request (Some (Answering rest status)) = []
+
 -- what is left of a connection's reply
 abbrev pub left_of : Option Conversation → List ℕ
 left_of None = []

@@ -1,8 +1,9 @@
 //! The order in which connections came, and which of them is given up if there is no room.
 ghost use Rattle.std.specs.Prelude.{◌≡◌, [], ◌∷◌, ◌++◌, filter, option_map, length, IfOk, OnOk, OnErr};
 ghost use Rattle.std.specs.List.{find};
-ghost use Rattle.connections.specs.Arrivals.{is_elsewhere, has_come, is_late, asks, holds, first_client_arrival, first_that, gives_place, gives_room};
+ghost use Rattle.connections.specs.Arrivals.{is_elsewhere, has_come, is_overdue, asks, holds, first_client_arrival, first_that, gives_place, gives_room};
 
+use crate::line::Line;
 use crate::table::{Connections, Phase};
 use std::alloc::{AllocError, Global};
 use std::marker::Model;
@@ -40,11 +41,18 @@ pub fn has_come(until: Instant, now: Instant) -> bool
     }
 }
 
-fn first_late_client(arrivals: &[Arrival], now: Instant) -> Option<usize>
-    ensures { result ≡ first_that (is_late now) arrivals.now }
+// Whether the time of `arrival` is up at `now`, and it doesn't stand in `line`.
+fn is_client_overdue(arrival: &Arrival, now: Instant, line: &Line) -> bool
+    ensures { result ≡ is_overdue now line.now arrival.now }
+{
+    has_come(arrival.until, now) && !line.has(arrival.place)
+}
+
+fn first_overdue_client(arrivals: &[Arrival], now: Instant, line: &Line) -> Option<usize>
+    ensures { result ≡ first_that (is_overdue now line.now) arrivals.now }
 {
     for arrival in arrivals {
-        if has_come(arrival.until, now) {
+        if is_client_overdue(arrival, now, line) {
             return Some(arrival.place);
         }
     }
@@ -123,11 +131,12 @@ impl Arrivals {
         remove_client_arrival(&mut self.arrivals, place);
     }
 
-    /// The place of the first connection whose time is up at `now`.
-    pub fn late(&self, now: Instant) -> Option<usize>
-        ensures { result ≡ first_that (is_late now) self.now }
+    /// The place of the first connection whose time is up at `now`, of those that don't stand in `line`: who stands
+    /// there waits for the others, and they don't wait for it.
+    pub fn overdue(&self, now: Instant, line: &Line) -> Option<usize>
+        ensures { result ≡ first_that (is_overdue now line.now) self.now }
     {
-        first_late_client(self.arrivals.as_slice(), now)
+        first_overdue_client(self.arrivals.as_slice(), now, line)
     }
 
     /// The place of the client that has asked longest and whose request isn't whole, by what `connections` hold.

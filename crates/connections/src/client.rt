@@ -1,10 +1,8 @@
 //! A client, from its first byte to its end. Its device is read and written to here alone.
-ghost use Rattle.std.specs.Prelude.{◌≡◌, ◌<◌, ◌+◌, ◌≢◌, ℕ, List, [], Some, length, true, false};
-ghost use Rattle.connections.specs.declared.devices.Passage.TheVariants.{WouldWait};
+ghost use Rattle.std.specs.Prelude.{◌≡◌, ◌<◌, ◌+◌, ◌≢◌, [], Some, None, length, true, false, IfSome};
+ghost use Rattle.connections.specs.declared.devices.Passage.TheVariants.{WouldWait, HasFailed};
 ghost use Rattle.connections.specs.Arrivals.{is_asking};
-ghost use Rattle.http_edge.specs.Served.{BeginsWithRead};
-ghost use Rattle.connections.specs.Clients.{AreSent, ConnectionHasEnded, HasMoved, HasToWait, HasTurned, HasTurnedUntil, IfAtOnce, IsShort};
-ghost use Rattle.connections.specs.Devices.{AreNext};
+ghost use Rattle.connections.specs.Clients.{AreSent, ConnectionHasEnded, HasGiven, HasMoved, HasToWait, HasTurned, HasTurnedUntil, IfAtOnce, IfLookFailed, IsShort, SendsRead};
 ghost use Rattle.connections.specs.Limits.{most_held, drains_in_turn, writes_in_turn};
 ghost use Rattle.connections.specs.Runs.{HasRun};
 ghost use Rattle.connections.specs.Table.{Happens, at, departure, held_in, left_of};
@@ -15,6 +13,7 @@ use crate::line::{Call, When};
 use crate::seats::Seat;
 use crate::table::Connections;
 use crate::turns::{Turn, drain, is_client_read_out, listen, speak};
+use http_edge::EdgeFault;
 use mio::{Interest, Registry, Token};
 use std::marker::Model;
 
@@ -84,34 +83,39 @@ impl<T: Drop> Client<T> {
 }
 
 impl<T: Looking> Client<T> {
-    // When a client that asks has its turn, of whose request nothing was read.
+    // When a client that asks has its turn.
     fn when_it_sends(&mut self, connections: &Connections, block: &mut [u8]) -> When
-        requires { 0 < length block.old }
+        requires room { 0 < length block.old }
+        requires asking { is_asking (at connections.now self.old.place) ≡ true }
         ensures place { self.new.place ≡ self.old.place }
         ensures is_ending { self.new.is_ending ≡ self.old.is_ending }
         ensures is_watched { self.new.is_watched ≡ self.old.is_watched }
         ensures unread { (T.stand self.new.device).bytes ≡ (T.stand self.old.device).bytes }
         ensures at_once { IfAtOnce result (λ call. (call ≡ self.old.place)
-            × (bytes : List ℕ) × AreNext bytes (T.stand self.old.device).bytes
-            × BeginsWithRead bytes) }
+            × SendsRead (T.stand self.old.device) (at connections.now self.old.place)) }
+        ensures in_line { result ≡ When.InLine →
+            HasGiven (T.stand self.new.device).calls.last }
         ensures not_yet { result ≡ When.NotYet →
             (T.stand self.new.device).calls.last ≡ Some WouldWait }
+        ensures failed { IfLookFailed result (λ fault. (fault ≡ EdgeFault.Read)
+            × ((T.stand self.new.device).calls.last ≡ Some HasFailed)) }
     {
         let count = match self.device.look(block) {
             Passage::Bytes(count) => count,
             Passage::WouldWait => return When::NotYet,
-            Passage::HasFailed => return When::InLine,
+            Passage::HasFailed => return When::Failed(EdgeFault::Read),
         };
-        match connections.begins_with_read(&block[..count]) {
-            Ok(true) => When::AtOnce(Call::new(self.seat.place())),
+        let place = self.seat.place();
+        match connections.begins_with_read(place, &block[..count]) {
+            Ok(true) => When::AtOnce(Call::new(place)),
             _ => When::InLine,
         }
     }
 
     /// When the client has its turn. `AtOnce` only if it can't hold the others: its end alone is awaited, or it is
-    /// answered, or nothing of its request was read yet and what it sends begins with a whole request that reads a
-    /// playlist that stands. That is looked at, by `block`, and left unread. `NotYet` if it sends nothing. `connections`
-    /// have what it said.
+    /// answered, or what it said and what it sends now begin with a whole request that reads a playlist that stands. What
+    /// it sends is looked at, by `block`, and left unread. `InLine` if it sends anything else, or has ended; `NotYet` if it
+    /// sends nothing; `Failed` if the look failed: `Read`. `connections` have what it said.
     pub fn when(&mut self, connections: &Connections, block: &mut [u8]) -> When
         requires { 0 < length block.old }
         ensures place { self.new.place ≡ self.old.place }
@@ -121,18 +125,52 @@ impl<T: Looking> Client<T> {
         ensures at_once { IfAtOnce result (λ call. (call ≡ self.old.place)
             × IsShort T.stand self.old connections.now) }
         ensures in_line { result ≡ When.InLine → (self.old.is_ending ≡ false)
-            × (is_asking (at connections.now self.old.place) ≡ true) }
+            × (is_asking (at connections.now self.old.place) ≡ true)
+            × HasGiven (T.stand self.new.device).calls.last }
         ensures not_yet { result ≡ When.NotYet →
             (T.stand self.new.device).calls.last ≡ Some WouldWait }
+        ensures failed { IfLookFailed result (λ fault. (fault ≡ EdgeFault.Read)
+            × ((T.stand self.new.device).calls.last ≡ Some HasFailed)) }
     {
         let place = self.seat.place();
         if self.is_ending || !connections.is_asking(place) {
             return When::AtOnce(Call::new(place));
         }
-        if connections.held_at(place) > 0 {
-            return When::InLine;
-        }
         self.when_it_sends(connections, block)
+    }
+
+    /// When the client has its turn, though its time is up: as `when` says, by what `connections` have of it and a look by
+    /// `block`. `None` if it is given up: it is answered and its reply isn't gone yet, or it asks and nothing that it sent
+    /// is unread. So none is given up whose request is whole.
+    pub fn when_late(&mut self, connections: &Connections, block: &mut [u8]) -> Option<When>
+        requires { 0 < length block.old }
+        ensures place { self.new.place ≡ self.old.place }
+        ensures is_ending { self.new.is_ending ≡ self.old.is_ending }
+        ensures is_watched { self.new.is_watched ≡ self.old.is_watched }
+        ensures unread { (T.stand self.new.device).bytes ≡ (T.stand self.old.device).bytes }
+
+        // It is given up only if a look would wait, or if it is answered.
+        ensures given_up { result ≡ None →
+            is_asking (at connections.now self.old.place) ≡ true →
+            (T.stand self.new.device).calls.last ≡ Some WouldWait }
+        ensures answered { is_asking (at connections.now self.old.place) ≡ false → result ≡ None }
+
+        // Else it has something unread, has ended, or is gone.
+        ensures at_once { IfSome result (λ when. IfAtOnce when (λ call.
+            (call ≡ self.old.place) × IsShort T.stand self.old connections.now)) }
+        ensures in_line { result ≡ Some When.InLine →
+            HasGiven (T.stand self.new.device).calls.last }
+        ensures sends { result ≡ Some When.NotYet → ⊥ }
+        ensures failed { IfSome result (λ when. IfLookFailed when (λ fault. (fault ≡ EdgeFault.Read)
+            × ((T.stand self.new.device).calls.last ≡ Some HasFailed))) }
+    {
+        if !connections.is_asking(self.seat.place()) {
+            return None;
+        }
+        match self.when(connections, block) {
+            When::NotYet => None,
+            when => Some(when),
+        }
     }
 }
 

@@ -6,7 +6,7 @@ ghost use Rattle.connections.specs.Limits.{serving_nanos, ending_nanos};
 
 use std::time::{Duration, Instant};
 
-// How long a request and its reply may take, in milliseconds.
+// How long a request, and then its reply, may take, in milliseconds.
 const SERVING_MILLIS: u64 = 10_000;
 
 // How long a client may take to close after its reply, in milliseconds.
@@ -24,8 +24,8 @@ fn later_connection_deadline(now: Instant, time: Duration) -> Instant
     }
 }
 
-/// Until when a client that comes at `now` may ask and be answered: 10 s later (RFC 9112, section 9.5), or `now`
-/// itself if the clock doesn't reach so far.
+/// Until when a client that comes at `now` may ask, or one whose request is applied at `now` may take its reply: 10 s
+/// later (RFC 9112, section 9.5), or `now` itself if the clock doesn't reach so far.
 pub fn serving_deadline(now: Instant) -> Instant
     ensures later { FitsClock (instant_nanos now + serving_nanos) →
         instant_nanos result ≡ instant_nanos now + serving_nanos }

@@ -2,6 +2,7 @@
 ghost use Rattle.std.specs.Prelude.{◌≡◌, [], filter, length, IfOk, OnOk, OnErr};
 ghost use Rattle.connections.specs.Lines.{is_in_line, is_other, first_in, after, joins, leaves, calls};
 
+use http_edge::EdgeFault;
 use std::alloc::{AllocError, Global};
 use std::marker::Model;
 
@@ -44,6 +45,8 @@ pub enum When {
     InLine,
     /// Once it has sent something.
     NotYet,
+    /// Never: the connection is gone.
+    Failed(EdgeFault),
 }
 
 /// The places of those that stand in line, the first one first.

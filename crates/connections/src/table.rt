@@ -1,5 +1,5 @@
 //! The connections by their places.
-ghost use Rattle.std.specs.Prelude.{◌≡◌, ◌<◌, ◌≤◌, ◌+◌, ◌++◌, [], None, Some, Decides, length, replicate, IfOk, IfErr, OnOk, OnErr, IsErrOf};
+ghost use Rattle.std.specs.Prelude.{◌≡◌, ◌<◌, ◌≤◌, ◌+◌, ◌++◌, [], true, None, Some, Decides, length, replicate, IfOk, IfErr, OnOk, OnErr, IsErrOf};
 ghost use Rattle.http_edge.specs.Edges.{RepresentsRequests};
 ghost use Rattle.http_edge.specs.Served.{BeginsWithRead};
 ghost use Rattle.http_edge.specs.declared.serving.EdgeFault.TheVariants.{TooManyReads};
@@ -8,14 +8,14 @@ ghost use Rattle.connections.specs.Inner.Giving.{IsFaultOfGiving};
 ghost use Rattle.connections.specs.Inner.Reads.{is_playlist_read_by_client};
 ghost use Rattle.connections.specs.Limits.{most_held, place_count};
 ghost use Rattle.connections.specs.Arrivals.{is_asking};
-ghost use Rattle.connections.specs.Table.{at, held_of, held_in, left_of, taken_of, phase_of, PutsAtPlace, Happens};
+ghost use Rattle.connections.specs.Table.{at, held_of, held_in, left_of, part_of_request, taken_of, phase_of, PutsAtPlace, Happens};
 ghost use Rattle.connections.specs.Table.{arrival, request_bytes, reply_bytes, departure};
 ghost use Rattle.connections.specs.Seats.{places_below};
 
 use crate::conversation::{Conversation, give_to_connection};
 use crate::seats::{Seat, all_client_seats};
 use http_edge::{Edge, EdgeFault};
-use http_messages::{Arrived, Arriving, Asked};
+use http_messages::{Arriving, Asked};
 use std::alloc::{AllocError, Global};
 use std::hash::RandomState;
 use std::marker::Model;
@@ -150,14 +150,18 @@ impl Connections {
         }
     }
 
-    /// Whether `bytes`, the first ones of a client, begin with a whole request that reads the playlist that a channel wrote
-    /// last. Fails only if an allocation fails.
-    pub(crate) fn begins_with_read(&self, bytes: &[u8]) -> Result<bool, AllocError>
-        ensures { IfOk result (λ it. Decides it (BeginsWithRead bytes.now)) }
+    /// Whether what the client at `place` has said, with `bytes`, the next ones, begins with a whole request that reads the
+    /// playlist that a channel wrote last. Fails only if an allocation fails.
+    pub(crate) fn begins_with_read(&self, place: usize, bytes: &[u8]) -> Result<bool, AllocError>
+        requires { is_asking (at self.now place) ≡ true }
+        ensures { IfOk result (λ it. Decides it
+            (BeginsWithRead (part_of_request (at self.now place) ++ bytes.now))) }
     {
-        match Arriving::new(self.alloc).take(self.alloc, bytes)? {
-            Arrived::Whole(asked) => Ok(is_playlist_read_by_client(&self.edge, &asked)),
-            Arrived::More(_) => Ok(false),
+        match self.places.get(place) {
+            Some(Some(Conversation::Asking(arriving, _))) => does_client_begin_with_read(
+                &self.edge, self.alloc, arriving, bytes,
+            ),
+            _ => Ok(false),
         }
     }
 
@@ -240,6 +244,21 @@ impl Connections {
         ensures { Happens self.old (departure seat.now) self.new }
     {
         let _ = self.take_out(seat);
+    }
+}
+
+// Whether what came, with the next bytes, begins with a whole request that reads a playlist that stands.
+fn does_client_begin_with_read(
+    edge: &Edge,
+    alloc: Global,
+    arriving: &Arriving,
+    bytes: &[u8],
+) -> Result<bool, AllocError>
+    ensures { IfOk result (λ it. Decides it (BeginsWithRead (arriving.now ++ bytes.now))) }
+{
+    match arriving.asks_with(alloc, bytes)? {
+        Some(asked) => Ok(is_playlist_read_by_client(edge, &asked)),
+        None => Ok(false),
     }
 }
 

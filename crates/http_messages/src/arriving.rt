@@ -1,6 +1,7 @@
 //! A request that comes in pieces, from whoever has them.
-ghost use Rattle.std.specs.Prelude.{◌≡◌, ◌++◌, [], length, IfOk};
-ghost use Rattle.http_messages.specs.Arriving.{IsArrived};
+ghost use Rattle.std.specs.Prelude.{◌≡◌, ◌++◌, [], length, IfOk, IfSome};
+ghost use Rattle.http_messages.specs.Received.{IsHeadAt};
+ghost use Rattle.http_messages.specs.Arriving.{IsArrived, IsAskedUnlessPut};
 
 use crate::head::Head;
 use crate::receiving::{Asked, Step, http_request_of, look_for_request};
@@ -58,12 +59,37 @@ impl Arriving {
     {
         let Arriving { mut bytes, head } = self;
         bytes.extend_from_slice(piece)?;
-        match look_for_request(alloc, bytes.as_slice(), head)? {
-            Step::Whole(head, count) => Ok(Arrived::Whole(Asked::Request(http_request_of(
-                bytes, head, count,
-            )))),
-            Step::Refused(refusal) => Ok(Arrived::Whole(Asked::Refused(refusal))),
-            Step::More(head) => Ok(Arrived::More(Arriving { bytes, head })),
+        request_arrived(alloc, bytes, head)
+    }
+
+    /// What is asked with `piece`, the next bytes, which are left where they are. `None` if the request isn't whole then,
+    /// or if it is a PUT whose head has come: its body isn't copied. Fails only if an allocation fails.
+    pub fn asks_with(&self, alloc: Global, piece: &[u8]) -> Result<Option<Asked>, AllocError>
+        ensures { IfOk result (IsAskedUnlessPut (self.now ++ piece.now)) }
+    {
+        if self.head.is_some() {
+            return Ok(None);
         }
+        let mut all = Vec::new(alloc);
+        all.extend_from_slice(self.bytes.as_slice())?;
+        all.extend_from_slice(piece)?;
+        match request_arrived(alloc, all, None)? {
+            Arrived::Whole(asked) => Ok(Some(asked)),
+            Arrived::More(_) => Ok(None),
+        }
+    }
+}
+
+// What all of these bytes are, whose head is `head` if it is known already.
+fn request_arrived(alloc: Global, bytes: Vec<u8>, head: Option<Head>) -> Result<Arrived, AllocError>
+    requires { IfSome head (IsHeadAt bytes.items) }
+    ensures { IfOk result (IsArrived bytes.items) }
+{
+    match look_for_request(alloc, bytes.as_slice(), head)? {
+        Step::Whole(head, count) => Ok(Arrived::Whole(Asked::Request(http_request_of(
+            bytes, head, count,
+        )))),
+        Step::Refused(refusal) => Ok(Arrived::Whole(Asked::Refused(refusal))),
+        Step::More(head) => Ok(Arrived::More(Arriving { bytes, head })),
     }
 }

@@ -127,7 +127,10 @@ make_b = put (codes "/channels/b") (codes "{\"base\":\"http://h/\"}")
 abbrev pub remove : List ℕ → Request
 remove path = asks (codes "DELETE") path []
 
--- what is done to one of two channels isn't done to the other
+abbrev pub make_named : List ℕ → Request
+make_named name = put (codes "/channels/" ++ name) (codes "{\"base\":\"http://h/\"}")
+
+-- what is done to one of two channels isn't done to the other, however far their names are the same
 abbrev pub OthersStay : Type 0
 OthersStay = HasValues answer (
     (remove (codes "/channels/a") ∷ make_b ∷ make ∷ [], Some (bare 204))
@@ -137,7 +140,16 @@ OthersStay = HasValues answer (
     ∷ (remove (codes "/channels/b") ∷ remove (codes "/channels/b") ∷ make_b ∷ make ∷ [], Some not_found)
     ∷ (remove (codes "/channels/a") ∷ put (codes "/channels/b/origin") first_refresh.body ∷ make_b ∷ make ∷ [], Some (bare 204))
     ∷ (live ∷ put (codes "/channels/b/origin") first_refresh.body ∷ make_b ∷ make ∷ [], Some not_found)
-    ∷ (make_b ∷ make_b ∷ make ∷ [], Some (line 409 (codes "channel exists"))) ∷ [])
+    ∷ (make_b ∷ make_b ∷ make ∷ [], Some (line 409 (codes "channel exists")))
+    ∷ (make_named (codes "ab") ∷ make_named (codes "aa") ∷ [], Some (bare 201))
+    ∷ (remove (codes "/channels/ab") ∷ make_named (codes "aa") ∷ [], Some not_found)
+    ∷ (get (codes "/channels/ab/live.m3u8") ∷ put (codes "/channels/aa/origin") first_refresh.body ∷ make_named (codes "ab") ∷ make_named (codes "aa") ∷ [], Some not_found)
+    ∷ (get (codes "/channels/aa/live.m3u8") ∷ put (codes "/channels/ab/origin") first_refresh.body ∷ make_named (codes "ab") ∷ make_named (codes "aa") ∷ [], Some not_found)
+    ∷ (remove (codes "/channels/ab") ∷ remove (codes "/channels/aa") ∷ make_named (codes "ab") ∷ make_named (codes "aa") ∷ [], Some (bare 204))
+    ∷ (get (codes "/channels/ab/live.m3u8") ∷ remove (codes "/channels/aa") ∷ put (codes "/channels/ab/origin") first_refresh.body ∷ make_named (codes "ab") ∷ make_named (codes "aa") ∷ [], Some owed)
+    ∷ (remove (codes "/channels/news-1234-b") ∷ make_named (codes "news-1234-a") ∷ [], Some not_found)
+    ∷ (make_named (codes "news-1234-b") ∷ make_named (codes "news-1234-a") ∷ [], Some (bare 201))
+    ∷ (get (codes "/channels/news-1234-b/live.m3u8") ∷ put (codes "/channels/news-1234-a/origin") first_refresh.body ∷ make_named (codes "news-1234-b") ∷ make_named (codes "news-1234-a") ∷ [], Some not_found) ∷ [])
 
 abbrev pub PlaylistsAreRead : Type 0
 PlaylistsAreRead = HasValues answer (
@@ -306,6 +318,12 @@ ChannelsAreApart = HasValues on_a (
     ∷ (live ∷ get (codes "/") ∷ get (codes "/") ∷ get (codes "/") ∷ get (codes "/") ∷ live ∷ live ∷ live ∷ make ∷ [], not_found ∷ not_found ∷ not_found ∷ not_found ∷ bare 201 ∷ [])
     ∷ (first_refresh ∷ get (codes "/") ∷ get (codes "/") ∷ get (codes "/") ∷ get (codes "/") ∷ make ∷ [], bare 204 ∷ bare 201 ∷ []) ∷ [])
 
+-- the same of a channel with a longer name
+abbrev pub LongNamesAreApart : Type 0
+LongNamesAreApart = HasValues (λ (requests : List Request). replies_on (codes "news-1234-a") requests) (
+    (get (codes "/channels/news-1234-b/why") ∷ get (codes "/channels/news-1234-a/why") ∷ [], not_found ∷ [])
+    ∷ (get (codes "/channels/n/why") ∷ make_named (codes "news-1234-b") ∷ make_named (codes "news-1234-a") ∷ [], bare 201 ∷ []) ∷ [])
+
 abbrev pub exchange : Request → Reply → Exchange
 exchange request reply = record { request = request; reply = reply }
 
@@ -318,6 +336,7 @@ RequestsAreServed = HasValues (is_served_on (codes "a")) (
     ∷ (exchange (get (codes "/channels/b/why?/channels/a/why")) not_found, false)
     ∷ (exchange make (bare 503), false)
     ∷ (exchange (get (codes "/channels/b/live.m3u8")) not_found, false)
+    ∷ (exchange (get (codes "/channels/ab/why")) not_found, false)
     ∷ (exchange (get (codes "/")) not_found, false) ∷ [])
 
 abbrev pub RequestsWereAsked : Type 0

@@ -24,7 +24,15 @@ NamesAreChecked = HasValues is_channel_name (
     ∷ (codes "News", false)
     ∷ (codes "n_1", false)
     ∷ (codes "n/1", false)
-    ∷ (codes "n,1", false) ∷ [])
+    ∷ (codes "n,1", false)
+    ∷ (codes "a", true)
+    ∷ (codes "z", true)
+    ∷ (codes "0", true)
+    ∷ (codes "9", true)
+    ∷ (codes "`", false)
+    ∷ (codes "{", false)
+    ∷ (codes ":", false)
+    ∷ (codes "/", false) ∷ [])
 
 -- RFC 3986, 3.4: a query begins at the first question mark, and is passed over
 abbrev pub QueriesArePassedOver : Type 0
@@ -64,6 +72,8 @@ BodiesAreFramed = HasValues framing (
     ∷ ((codes "PUT", []), Refused LengthRequired)
     ∷ ((codes "PUT", (codes "Content-Length", codes "5") ∷ (codes "Content-Length", codes "5") ∷ (codes "Transfer-Encoding", codes "chunked") ∷ []), Refused LengthRequired)
     ∷ ((codes "PUT", (codes "Content-Length", codes "5") ∷ (codes "transfer-encoding", codes "chunked") ∷ []), Refused LengthRequired)
+    ∷ ((codes "PUT", (codes "Transfer-Encoding", codes "chunked") ∷ (codes "Content-Length", codes "5") ∷ []), Refused LengthRequired)
+    ∷ ((codes "PUT", (codes "Host", codes "h") ∷ (codes "Transfer-Encoding", codes "chunked") ∷ (codes "Content-Length", codes "5") ∷ []), Refused LengthRequired)
     ∷ ((codes "GET", (codes "Content-Length", codes "5") ∷ []), Body 0)
     ∷ ((codes "POST", (codes "Transfer-Encoding", codes "chunked") ∷ []), Body 0)
     ∷ ((codes "put", []), Body 0)

@@ -4,7 +4,7 @@
 #![tactic(auto, unfolding(crate::proofs::OnLiterals::on_literals))]
 
 ghost use Rattle.served_examples.specs.Requests.{NamesAreChecked, QueriesArePassedOver, RoutesAreFound, OtherPathsAreNone, BodiesAreFramed, HeadsAreFramed, MessagesAreLimited, RepliesAreWritten, HeadsAreSent, HeadRepliesAreWritten, AllFieldsCount};
-ghost use Rattle.served_examples.specs.Answers.{ChannelsAreMade, RefreshesAreAnswered, PlaylistsAreRead, DecisionsAreAnswered, DecisionFaultsAreAnswered, RefreshFaultsAreAnswered, WordsOfWhyAreTold, ReasonsAreAnswered, TablesAreLimited, ChannelsAreApart, RequestsAreServed, RequestsWereAsked, RequestsWereAnswered, OthersStay, BodyFaultsAreAnswered, BodyFaultsAreTold, ChannelsAreOnce};
+ghost use Rattle.served_examples.specs.Answers.{ChannelsAreMade, RefreshesAreAnswered, PlaylistsAreRead, DecisionsAreAnswered, DecisionFaultsAreAnswered, RefreshFaultsAreAnswered, WordsOfWhyAreTold, ReasonsAreAnswered, TablesAreLimited, ChannelsAreApart, LongNamesAreApart, RequestsAreServed, RequestsWereAsked, RequestsWereAnswered, OthersStay, BodyFaultsAreAnswered, BodyFaultsAreTold, ChannelsAreOnce};
 ghost use Rattle.served_examples.specs.Clients.{ClientsAreLimited, PlacesAreGiven, RepliesAreGivenUpLast, RoomIsGiven, BytesAreHeld, RepliesAreLeft, BytesAreTaken, VisitsAreCounted, WordsAreSaid, TakenIsCounted, PiecesAreJoined, CallsAreCounted, FailuresAreCounted, OthersAreApart};
 ghost use Rattle.served_examples.specs.Kept.{StatesAreMeant, SegmentsAreHeld, StoresAreReplaced, TextsAreKept, RefreshesAreOwed, LackOfMemoryIsSeen, DecisionsAreStored, ShownAreMeant, RunsBegin, EndsAreTold, FirstNumbersAreTold, LastWindowsAreTold};
 ghost use Rattle.served_examples.specs.Runs.{ReadsAreLimited, FilesAreTold, FilesAreGiven, BytesAreTold, UrisAreWhole, ReadNumbersRise, ReadSegmentsAreWritten, LinesKeepTheirLimit, InputsAreReadUnderBases, RunsAreTold};
@@ -36,6 +36,7 @@ pub fn answers_have_their_values()
     ensures reasons_are_answered { ReasonsAreAnswered }
     ensures tables_are_limited { TablesAreLimited }
     ensures channels_are_apart { ChannelsAreApart }
+    ensures long_names_are_apart { LongNamesAreApart }
     ensures requests_are_served { RequestsAreServed }
     ensures requests_were_asked { RequestsWereAsked }
     ensures requests_were_answered { RequestsWereAnswered }

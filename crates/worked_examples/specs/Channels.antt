@@ -89,7 +89,7 @@ with_14 s = plays [] (segments 10 4 ++ s ∷ [])
 abbrev pub stepped_14 : Segment
 stepped_14 = record (origin 14) { discontinuity_sequence = 6; discontinuities = 1 }
 
--- discontinuity numbers go on from the last segment's
+-- discontinuity numbers go on from the last segment's, also of a list of one segment; an ended list of one may come again
 abbrev pub LastSegmentsCount : Type 0
 LastSegmentsCount = HasValues follows (
     ((five, with_14 (record (origin 14) { uri = codes "u" })), Some (Changed 14))
@@ -97,7 +97,10 @@ LastSegmentsCount = HasValues follows (
     ∷ ((plays [] (segments 10 2), plays [] (record (origin 12) { discontinuity_sequence = 4 } ∷ [])), Some (Changed 12))
     ∷ ((with_14 stepped_14, plays [] (record (origin 15) { discontinuity_sequence = 5 } ∷ [])), Some (Changed 15))
     ∷ ((with_14 stepped_14, plays [] (record (origin 15) { discontinuity_sequence = 1006 } ∷ [])), None)
-    ∷ ((with_14 stepped_14, plays [] (record (origin 15) { discontinuity_sequence = 1007 } ∷ [])), Some (Changed 15)) ∷ [])
+    ∷ ((with_14 stepped_14, plays [] (record (origin 15) { discontinuity_sequence = 1007 } ∷ [])), Some (Changed 15))
+    ∷ ((plays [] (segments 14 1), plays [] (record (origin 15) { discontinuity_sequence = 4 } ∷ [])), Some (Changed 15))
+    ∷ ((plays [] (segments 14 1), plays [] (record (origin 15) { discontinuity_sequence = 1005 } ∷ [])), None)
+    ∷ ((record (plays [] (segments 14 1)) { end_list = true }, record (plays [] (segments 14 1)) { end_list = true }), None) ∷ [])
 
 -- segment 11 of the five as this one
 abbrev pub with_11 : Segment → Playlist
@@ -221,7 +224,7 @@ SeveralAreFilled = HasValues written (
     ∷ (window (b ∷ tag (codes "c") 20 ∷ []) 0 5 ∷ decide (codes "c") (2000 ∷ []) ∷ decide_b ∷ [], Some ((0 ∷ 0 ∷ 5 ∷ 0 ∷ []) ∷ (1000 ∷ 1 ∷ 6 ∷ 1 ∷ []) ∷ (1001 ∷ 2 ∷ 6 ∷ 0 ∷ []) ∷ (1002 ∷ 3 ∷ 6 ∷ 0 ∷ []) ∷ (4 ∷ 4 ∷ 7 ∷ 1 ∷ []) ∷ [])) ∷ [])
 
 -- a refused refresh changes nothing, nor does a refused decision; a mark stands although the break's end is stated earlier later
--- on; two breaks that follow one another; a fallback
+-- on; two breaks that follow one another; a fallback; the origin goes on with a list of its own discontinuity number (6.2.2)
 abbrev pub WindowsGoOn : Type 0
 WindowsGoOn = HasValues written (
     (window (b ∷ []) 5 1 ∷ window (b ∷ []) 0 2 ∷ decide_b ∷ [], Some ((0 ∷ 0 ∷ 5 ∷ 0 ∷ []) ∷ (1000 ∷ 1 ∷ 6 ∷ 1 ∷ []) ∷ []))
@@ -229,7 +232,22 @@ WindowsGoOn = HasValues written (
     ∷ (window (b ∷ []) 0 2 ∷ decided (Withdraw (codes "b")) ∷ decide_b ∷ [], Some ((0 ∷ 0 ∷ 5 ∷ 0 ∷ []) ∷ (1 ∷ 1 ∷ 5 ∷ 0 ∷ []) ∷ []))
     ∷ (window (lasting 10 b ∷ []) 0 4 ∷ window (b ∷ []) 0 3 ∷ decide (codes "b") (1000 ∷ []) ∷ [], Some ((0 ∷ 0 ∷ 5 ∷ 0 ∷ []) ∷ (1000 ∷ 1 ∷ 6 ∷ 1 ∷ []) ∷ (3 ∷ 2 ∷ 7 ∷ 1 ∷ []) ∷ []))
     ∷ (window (lasting 10 b ∷ lasting 10 (tag (codes "c") 20) ∷ []) 0 4 ∷ decide (codes "c") (2000 ∷ []) ∷ decide (codes "b") (1000 ∷ []) ∷ [], Some ((0 ∷ 0 ∷ 5 ∷ 0 ∷ []) ∷ (1000 ∷ 1 ∷ 6 ∷ 1 ∷ []) ∷ (2000 ∷ 2 ∷ 7 ∷ 1 ∷ []) ∷ (3 ∷ 3 ∷ 8 ∷ 1 ∷ []) ∷ []))
-    ∷ (window (lasting 10 b ∷ []) 0 3 ∷ decided (Fallback (pod (3000 ∷ []))) ∷ [], Some ((0 ∷ 0 ∷ 5 ∷ 0 ∷ []) ∷ (3000 ∷ 1 ∷ 6 ∷ 1 ∷ []) ∷ (2 ∷ 2 ∷ 7 ∷ 1 ∷ []) ∷ [])) ∷ [])
+    ∷ (window (lasting 10 b ∷ []) 0 3 ∷ decided (Fallback (pod (3000 ∷ []))) ∷ [], Some ((0 ∷ 0 ∷ 5 ∷ 0 ∷ []) ∷ (3000 ∷ 1 ∷ 6 ∷ 1 ∷ []) ∷ (2 ∷ 2 ∷ 7 ∷ 1 ∷ []) ∷ []))
+    ∷ (refreshed (plays [] (record (origin 2) { discontinuity_sequence = 9 } ∷ [])) ∷ window [] 0 2 ∷ [], Some ((2 ∷ 2 ∷ 9 ∷ 4 ∷ []) ∷ [])) ∷ [])
+
+-- the break that is carried into the next refresh
+abbrev pub carried : List live.Event → Option (List ℕ)
+carried events = (live.acceptance (told 100000000 events) five).carried
+
+-- docs/OPERATING.md: a break that is played is known although its tag has gone. It is the one of the newest segment; a break that
+-- is over isn't carried on
+abbrev pub BreaksAreCarried : Type 0
+BreaksAreCarried = HasValues carried (
+    ([], None)
+    ∷ (window (b ∷ []) 0 2 ∷ decide_b ∷ [], Some (codes "b"))
+    ∷ (window (lasting 10 b ∷ []) 0 2 ∷ decide_b ∷ [], Some (codes "b"))
+    ∷ (window (lasting 10 b ∷ []) 0 3 ∷ decide_b ∷ [], None)
+    ∷ (window four 0 3 ∷ four_are_decided, Some (codes "c")) ∷ [])
 
 abbrev pub header_and_ids : Playlist → (ℕ × ℕ × Bool) × List (List ℕ) × List (Option ℤ)
 header_and_ids p = ((p.version, p.target_duration, p.end_list), map (λ (r : DateRange). r.id) p.date_ranges, map (λ (s : Segment). s.program_date_time) p.segments)
@@ -270,6 +288,7 @@ PodsAreKept = HasValues stored (
     ∷ (decided (Withdraw (codes "b")) ∷ window (b ∷ []) 0 2 ∷ decide_b ∷ [], (codes "b", true) ∷ [])
     ∷ (window (lasting 10 b ∷ []) 3 2 ∷ window (lasting 10 b ∷ []) 0 3 ∷ decide_b ∷ [], (codes "b", true) ∷ [])
     ∷ (window (lasting 10 b ∷ lasting 10 (tag (codes "c") 20) ∷ []) 2 2 ∷ window (lasting 10 b ∷ lasting 10 (tag (codes "c") 20) ∷ []) 0 2 ∷ decide (codes "c") (2000 ∷ []) ∷ decide_b ∷ [], (codes "b", true) ∷ (codes "c", true) ∷ [])
+    ∷ (window (lasting 10 b ∷ lasting 10 (tag (codes "c") 20) ∷ []) 2 1 ∷ window (lasting 10 b ∷ lasting 10 (tag (codes "c") 20) ∷ []) 0 2 ∷ decide (codes "c") (2000 ∷ []) ∷ decide_b ∷ [], (codes "b", true) ∷ (codes "c", true) ∷ [])
     ∷ (window (lasting 10 b ∷ lasting 10 (tag (codes "c") 20) ∷ []) 3 2 ∷ window (lasting 10 b ∷ lasting 10 (tag (codes "c") 20) ∷ []) 2 2 ∷ window (lasting 10 b ∷ lasting 10 (tag (codes "c") 20) ∷ []) 0 2 ∷ decide (codes "c") (2000 ∷ []) ∷ decide_b ∷ [], (codes "c", true) ∷ []) ∷ [])
 
 abbrev pub kept_briefly : Kept → Option (List ℕ) × List ℕ × ℕ × Option ℕ × ℕ
@@ -287,7 +306,8 @@ StatesAreKept = HasValues kept (
     ∷ (window (b ∷ []) 0 2 ∷ decide_b ∷ [], (Some (codes "b"), 0 ∷ 5 ∷ 0 ∷ [], 10000000000, None, 2))
     ∷ (window (b ∷ []) 1 2 ∷ window (b ∷ []) 0 2 ∷ decide_b ∷ [], (Some (codes "b"), 1 ∷ 6 ∷ 1 ∷ [], 20000000000, None, 2))
     ∷ (window (b ∷ []) 0 4 ∷ decide (codes "b") (1000 ∷ []) ∷ [], (Some (codes "b"), 0 ∷ 5 ∷ 0 ∷ [], 10000000001, None, 4))
-    ∷ (window (lasting 10 b ∷ []) 2 2 ∷ window (lasting 10 b ∷ []) 0 2 ∷ decide_b ∷ [], (Some (codes "b"), 2 ∷ 6 ∷ 0 ∷ [], 0, Some 1, 2)) ∷ [])
+    ∷ (window (lasting 10 b ∷ []) 2 2 ∷ window (lasting 10 b ∷ []) 0 2 ∷ decide_b ∷ [], (Some (codes "b"), 2 ∷ 6 ∷ 0 ∷ [], 0, Some 1, 2))
+    ∷ (window (lasting 10 b ∷ []) 2 1 ∷ window (lasting 10 b ∷ []) 0 2 ∷ decide_b ∷ [], (Some (codes "b"), 2 ∷ 6 ∷ 0 ∷ [], 0, Some 1, 1)) ∷ [])
 
 -- docs/OPERATING.md, "Faults"
 abbrev pub RefreshFaultsAreTold : Type 0

@@ -68,12 +68,15 @@ TagsHaveTheirNames = HasValues named (
 -- RFC 3986, 3.1: scheme = ALPHA *( ALPHA / DIGIT / "+" / "-" / "." )
 abbrev pub SchemesAreSeen : Type 0
 SchemesAreSeen = HasValues has_scheme (
-    (codes "http://h/a", true) ∷ (codes "a+b-c.9:", true) ∷ (codes "a.ts", false) ∷ (codes "1http:", false) ∷ (codes "a/b:c", false) ∷ ([], false) ∷ (codes "a;b", false) ∷ (codes "a*b:", false) ∷ (codes "a,b:", false) ∷ (long 98 ++ codes ":a", true) ∷ [])
+    (codes "http://h/a", true) ∷ (codes "a+b-c.9:", true) ∷ (codes "a.ts", false) ∷ (codes "1http:", false) ∷ (codes "a/b:c", false) ∷ ([], false) ∷ (codes "a;b", false) ∷ (codes "a*b:", false) ∷ (codes "a,b:", false)
+    ∷ (codes "@:", false) ∷ (codes "[:", false) ∷ (codes "`:", false) ∷ (codes "{:", false) ∷ (codes "a@:", false) ∷ (codes "a[:", false) ∷ (codes "a`:", false) ∷ (codes "a{:", false) ∷ (codes "a/:", false) ∷ (codes "a0:", true) ∷ (codes "A:", true) ∷ (codes "Z:", true) ∷ (codes "z:", true)
+    ∷ (long 98 ++ codes ":a", true) ∷ [])
 
 -- what is joined may be written on a line and between quotes if it has a scheme, no control character and no quote
 abbrev pub JoinsCanBeWritten : Type 0
 JoinsCanBeWritten = HasValues can_be_written (
     (codes "http://h/a", true)
+    ∷ (codes "a:b", true)
     ∷ (codes "h/a", false)
     ∷ (codes "http://h/\"", false)
     ∷ (codes "http://h/" ++ (9 ∷ []), false)
@@ -89,7 +92,8 @@ VersionsAreRead = HasValues version_of (
 
 -- 4.3.3.5
 abbrev pub TypesAreRead : Type 0
-TypesAreRead = HasValues playlist_type_of ((codes "EVENT", Ok Event) ∷ (codes "VOD", Ok Vod) ∷ (codes "LIVE", Err BadValue) ∷ (codes "vod", Err BadValue) ∷ [])
+TypesAreRead = HasValues playlist_type_of ((codes "EVENT", Ok Event) ∷ (codes "VOD", Ok Vod) ∷ (codes "LIVE", Err BadValue) ∷ (codes "vod", Err BadValue)
+    ∷ (codes "EVENX", Err BadValue) ∷ (codes "AVENT", Err BadValue) ∷ (codes "VOX", Err BadValue) ∷ (codes "LOD", Err BadValue) ∷ [])
 
 -- 4.3.2.1: <duration>,[<title>]
 abbrev pub SegmentDurationsAreRead : Type 0
@@ -119,6 +123,7 @@ ReferencesAreResolved = HasValues (λ reference. based (λ base. resolved base r
     ∷ (codes "/s0.ts?a=b", Some (Some (codes "http://origin.example/s0.ts?a=b")))
     ∷ (codes "//cdn.example/s0.ts", Some (Some (codes "http://cdn.example/s0.ts")))
     ∷ (codes "skd://key", Some (Some (codes "skd://key")))
+    ∷ (codes "/a:b", Some (Some (codes "http://origin.example/a:b")))
     ∷ (codes "HTTP://H/a", Some (Some (codes "HTTP://H/a")))
     ∷ (codes "http:", Some (Some (codes "http:")))
     ∷ (codes "../a b?q#f", Some (Some (codes "http://origin.example/a%20b?q#f")))
@@ -138,18 +143,28 @@ BasesAreWebUrls = HasValues (λ text. option_map (λ (parts : Parts). parts.sche
     ∷ (codes "https://h/a", Some (codes "https"))
     ∷ (codes "http://h/" ++ replicate 300 97, Some (codes "http"))
     ∷ (codes "ftp://h/", None)
+    ∷ (codes "file://h/", None)
+    ∷ (codes "httq://h/", None)
+    ∷ (codes "xttp://h/", None)
+    ∷ (codes "httpx://h/", None)
+    ∷ (codes "xttps://h/", None)
     ∷ (codes "h/a", None) ∷ [])
 
 abbrev pub aes : List ℕ → List ℕ → Option ℕ → List ℕ → Key
 aes format resource iv others = record { format = format; method = codes "AES-128"; uri = resource; iv = iv; other_attributes = others }
 
--- 4.3.2.4: METHOD and, except for NONE, URI are required; KEYFORMAT is `identity` if it isn't stated. The first fault of METHOD,
+-- 4.3.2.4: attributes come in any order (4.2); METHOD and, except for NONE, URI are required; KEYFORMAT is `identity` if it isn't stated. The first fault of METHOD,
 -- URI, IV and KEYFORMAT is told, and then that the URI can't be resolved
 abbrev pub KeysAreRead : Type 0
 KeysAreRead = HasValues (λ text. based (λ base. key_said limited base text)) (
     (codes "METHOD=NONE", Some (Ok no_keys))
     ∷ (codes "METHOD=NONE,URI=a", Some (Ok no_keys))
     ∷ (codes "METHOD=NONE,IV=5", Some (Ok no_keys))
+    ∷ (codes "METHOD=NOPE,URI=\"a:k\"", Some (Ok (key (record (aes (codes "identity") (codes "a:k") None []) { method = codes "NOPE" }))))
+    ∷ (codes "METHOD=XONE,URI=\"a:k\"", Some (Ok (key (record (aes (codes "identity") (codes "a:k") None []) { method = codes "XONE" }))))
+    ∷ (codes "URI=\"a:k\",METHOD=AES-128", Some (Ok (key (aes (codes "identity") (codes "a:k") None []))))
+    ∷ (codes "IV=0x1F,METHOD=AES-128,URI=\"a:k\"", Some (Ok (key (aes (codes "identity") (codes "a:k") (Some 31) []))))
+    ∷ (codes "KEYFORMAT=\"f\",METHOD=AES-128,URI=\"a:k\"", Some (Ok (key (aes (codes "f") (codes "a:k") None []))))
     ∷ (codes "METHOD=AES-128,URI=\"k\"", Some (Ok (key (aes (codes "identity") (codes "http://origin.example/ch/k") None []))))
     ∷ (codes "METHOD=AES-128,URI=\"a:k\",IV=0x1F,KEYFORMAT=\"f\",KEYFORMATVERSIONS=\"1\"", Some (Ok (key (aes (codes "f") (codes "a:k") (Some 31) (codes ",KEYFORMATVERSIONS=\"1\"")))))
     ∷ (codes "METHOD=AES-128,URI=\"a:k\",X-A=1,X-B=2,X-C=3,X-D=4,IV=0x1F,KEYFORMAT=\"f\"", Some (Ok (key (aes (codes "f") (codes "a:k") (Some 31) (codes ",X-A=1,X-B=2,X-C=3,X-D=4")))))
@@ -176,6 +191,7 @@ InitSectionsAreRead = HasValues (λ text. based (λ base. init_section_said limi
     (codes "URI=\"a:i\"", Some (Ok (init_section (codes "a:i") None)))
     ∷ (codes "URI=\"i\"", Some (Ok (init_section (codes "http://origin.example/ch/i") None)))
     ∷ (codes "URI=\"a:i\",BYTERANGE=\"100@5\"", Some (Ok (init_section (codes "a:i") (Some (record { length = 100; offset = 5 })))))
+    ∷ (codes "BYTERANGE=\"100@5\",URI=\"a:i\"", Some (Ok (init_section (codes "a:i") (Some (record { length = 100; offset = 5 })))))
     ∷ (codes "URI=\"a:i\",BYTERANGE=\"100\"", Some (Ok (init_section (codes "a:i") (Some (record { length = 100; offset = 0 })))))
     ∷ (codes "URI=\"a:i\",BYTERANGE=\"18446744073709551615\"", Some (Ok (init_section (codes "a:i") (Some (record { length = 18446744073709551615; offset = 0 })))))
     ∷ (codes "URI=\"a:" ++ (long 98 ++ codes "\""), Some (Ok (init_section (codes "a:" ++ long 98) None)))
@@ -188,7 +204,7 @@ InitSectionsAreRead = HasValues (λ text. based (λ base. init_section_said limi
     ∷ (codes "URI=\"//[/x\",BYTERANGE=\"x\"", Some (Err BadRange))
     ∷ (codes "URI=\"//[/x\"", Some (Err BadUri)) ∷ [])
 
--- 4.3.2.7 and 4.3.2.7.1: each field is that of its own attribute, quoted or not, and SCTE35-CMD is none of them. Faults are told in
+-- 4.3.2.7 and 4.3.2.7.1: each field is that of its own attribute, wherever it stands (4.2), quoted or not, and SCTE35-CMD is none of them. Faults are told in
 -- the order ID, START-DATE, END-DATE, DURATION, PLANNED-DURATION
 abbrev pub DateRangesAreRead : Type 0
 DateRangesAreRead = HasValues (date_range_said limited) ((
@@ -234,6 +250,11 @@ DateRangesAreRead = HasValues (date_range_said limited) ((
         attributes = codes "SCTE35-IN=0xB,SCTE35-OUT=0xA,PLANNED-DURATION=30,DURATION=\"000000000000000000000000000000000000000000020\",END-DATE=\"2024-05-01T12:00:10Z\",START-DATE=\"2024-05-01T12:00:00Z\",ID=\"b\"";
       })),
     )
+    ∷ (codes "START-DATE=\"2024-05-01T12:00:00Z\",ID=\"b\"", Ok (date_range (record { id = codes "b"; start = Some (pos 1714564800000000000); end = None; duration = None; planned_duration = None; scte35_out = None; scte35_in = None; attributes = codes "START-DATE=\"2024-05-01T12:00:00Z\",ID=\"b\"" })))
+    ∷ (codes "END-DATE=\"2024-05-01T12:00:10Z\",ID=\"b\"", Ok (date_range (record { id = codes "b"; start = None; end = Some (pos 1714564810000000000); duration = None; planned_duration = None; scte35_out = None; scte35_in = None; attributes = codes "END-DATE=\"2024-05-01T12:00:10Z\",ID=\"b\"" })))
+    ∷ (codes "DURATION=20,ID=\"b\"", Ok (date_range (record { id = codes "b"; start = None; end = None; duration = Some 20000000000; planned_duration = None; scte35_out = None; scte35_in = None; attributes = codes "DURATION=20,ID=\"b\"" })))
+    ∷ (codes "PLANNED-DURATION=30,ID=\"b\"", Ok (date_range (record { id = codes "b"; start = None; end = None; duration = None; planned_duration = Some 30000000000; scte35_out = None; scte35_in = None; attributes = codes "PLANNED-DURATION=30,ID=\"b\"" })))
+    ∷ (codes "SCTE35-OUT=0xA,ID=\"b\"", Ok (date_range (record { id = codes "b"; start = None; end = None; duration = None; planned_duration = None; scte35_out = Some (codes "0xA"); scte35_in = None; attributes = codes "SCTE35-OUT=0xA,ID=\"b\"" })))
     ∷ (codes "ID=\"b\",DURATION=x,END-DATE=\"x\"", Err BadTime)
     ∷ (codes "START-DATE=\"2024-05-01T12:00:00Z\"", Err MissingAttribute)
     ∷ (codes "START-DATE=\"x\"", Err MissingAttribute)

@@ -15,7 +15,7 @@ use Rattle.playlist_model.specs.Said.{Reader, key, no_keys, nothing}
 use Rattle.playlist_model.specs.EffectiveKeys.{effective_key}
 use Rattle.playlist_model.specs.FaultTexts.{fault_text}
 use Rattle.playlist_model.specs.Instants.{begins_at, ends_at, instants_of}
-use Rattle.playlist_model.specs.LookBack.{keys_at, standing_at}
+use Rattle.playlist_model.specs.LookBack.{keys_at, Standing, standing_at}
 use Rattle.playlist_model.specs.Reading.{reading, limited, unlimited}
 use Rattle.playlist_model.specs.Same.{same_segment, kept_parts}
 use Rattle.playlist_model.specs.Uri.{base_of}
@@ -51,7 +51,9 @@ under_key_1 = record { uri = codes "a:i"; byte_range = None; keys = identity (co
 -- discontinuity number goes up with each EXT-X-DISCONTINUITY (4.3.3.3), a byte range without an offset begins where the one
 -- before ended (4.3.2.2), a key is in force until another one or NONE (4.3.2.4) and has the segment's number as IV (5.2), and
 -- an initialisation section has the keys in force at its own line (4.3.2.5). Keys stand in the order of their formats, a
--- reference is resolved against the base (4.1), and of two EXTINF of a segment the last one counts
+-- reference is resolved against the base (4.1). A tag of a segment may stand between its EXTINF and its URI (4.3.2), and
+-- a tag of the whole playlist anywhere (4.3.3, 4.3.5); of two
+-- EXTINF, EXT-X-BYTERANGE or EXT-X-PROGRAM-DATE-TIME of a segment the last one counts (docs/CONFORMANCE.md)
 abbrev pub WholePlaylistIsRead : Type 0
 WholePlaylistIsRead = HasValues (read_by limited) ((
   codes "#EXTM3U"
@@ -131,6 +133,175 @@ WholePlaylistIsRead = HasValues (read_by limited) ((
             ∷ [];
       })),
     )
+    ∷ (
+      codes "#EXTM3U"
+          ∷ codes "#EXT-X-TARGETDURATION:10"
+          ∷ codes "#EXTINF:10,"
+          ∷ codes "#EXT-X-DISCONTINUITY"
+          ∷ codes "#EXT-X-KEY:METHOD=AES-128,URI=\"a:1\",IV=0x1"
+          ∷ codes "#EXT-X-MAP:URI=\"a:i\""
+          ∷ codes "a:s" ∷ [],
+      Some (Ok (record {
+        version = 1;
+        target_duration = 10;
+        playlist_type = None;
+        independent_segments = false;
+        end_list = false;
+        date_ranges = [];
+        segments = record { media_sequence = 0; discontinuity_sequence = 1; discontinuities = 1; uri = codes "a:s"; byte_range = None; keys = identity (codes "a:1") (Some 1) ∷ []; init_section = Some under_key_1; duration = 10000000000; title = []; program_date_time = None } ∷ [];
+      })),
+    )
+    ∷ (
+      codes "#EXTM3U"
+          ∷ codes "#EXT-X-TARGETDURATION:10"
+          ∷ codes "#EXTINF:10,"
+          ∷ codes "#EXT-X-MAP:URI=\"a:i\""
+          ∷ codes "#EXT-X-KEY:METHOD=AES-128,URI=\"a:1\",IV=0x1"
+          ∷ codes "#EXT-X-DISCONTINUITY"
+          ∷ codes "a:s" ∷ [],
+      Some (Ok (record {
+        version = 1;
+        target_duration = 10;
+        playlist_type = None;
+        independent_segments = false;
+        end_list = false;
+        date_ranges = [];
+        segments = record { media_sequence = 0; discontinuity_sequence = 1; discontinuities = 1; uri = codes "a:s"; byte_range = None; keys = identity (codes "a:1") (Some 1) ∷ []; init_section = Some (record { uri = codes "a:i"; byte_range = None; keys = [] }); duration = 10000000000; title = []; program_date_time = None } ∷ [];
+      })),
+    )
+    ∷ (
+      codes "#EXTM3U"
+          ∷ codes "#EXT-X-TARGETDURATION:10"
+          ∷ codes "#EXTINF:10,"
+          ∷ codes "#EXT-X-DISCONTINUITY"
+          ∷ codes "#EXT-X-MAP:URI=\"a:i\""
+          ∷ codes "#EXT-X-KEY:METHOD=AES-128,URI=\"a:1\",IV=0x1"
+          ∷ codes "a:s" ∷ [],
+      Some (Ok (record {
+        version = 1;
+        target_duration = 10;
+        playlist_type = None;
+        independent_segments = false;
+        end_list = false;
+        date_ranges = [];
+        segments = record { media_sequence = 0; discontinuity_sequence = 1; discontinuities = 1; uri = codes "a:s"; byte_range = None; keys = identity (codes "a:1") (Some 1) ∷ []; init_section = Some (record { uri = codes "a:i"; byte_range = None; keys = [] }); duration = 10000000000; title = []; program_date_time = None } ∷ [];
+      })),
+    )
+    ∷ (
+      codes "#EXTM3U"
+          ∷ codes "#EXT-X-TARGETDURATION:10"
+          ∷ codes "#EXTINF:10,"
+          ∷ codes "a:s"
+          ∷ codes "#EXT-X-VERSION:3" ∷ [],
+      Some (Ok (record {
+        version = 3;
+        target_duration = 10;
+        playlist_type = None;
+        independent_segments = false;
+        end_list = false;
+        date_ranges = [];
+        segments = record { media_sequence = 0; discontinuity_sequence = 0; discontinuities = 0; uri = codes "a:s"; byte_range = None; keys = []; init_section = None; duration = 10000000000; title = []; program_date_time = None } ∷ [];
+      })),
+    )
+    ∷ (
+      codes "#EXTM3U"
+          ∷ codes "#EXTINF:10,"
+          ∷ codes "a:s"
+          ∷ codes "#EXT-X-TARGETDURATION:10" ∷ [],
+      Some (Ok (record {
+        version = 1;
+        target_duration = 10;
+        playlist_type = None;
+        independent_segments = false;
+        end_list = false;
+        date_ranges = [];
+        segments = record { media_sequence = 0; discontinuity_sequence = 0; discontinuities = 0; uri = codes "a:s"; byte_range = None; keys = []; init_section = None; duration = 10000000000; title = []; program_date_time = None } ∷ [];
+      })),
+    )
+    ∷ (
+      codes "#EXTM3U"
+          ∷ codes "#EXT-X-TARGETDURATION:10"
+          ∷ codes "#EXTINF:10,"
+          ∷ codes "a:s"
+          ∷ codes "#EXT-X-PLAYLIST-TYPE:EVENT" ∷ [],
+      Some (Ok (record {
+        version = 1;
+        target_duration = 10;
+        playlist_type = Some Event;
+        independent_segments = false;
+        end_list = false;
+        date_ranges = [];
+        segments = record { media_sequence = 0; discontinuity_sequence = 0; discontinuities = 0; uri = codes "a:s"; byte_range = None; keys = []; init_section = None; duration = 10000000000; title = []; program_date_time = None } ∷ [];
+      })),
+    )
+    ∷ (
+      codes "#EXTM3U"
+          ∷ codes "#EXT-X-TARGETDURATION:10"
+          ∷ codes "#EXTINF:10,"
+          ∷ codes "a:s"
+          ∷ codes "#EXT-X-INDEPENDENT-SEGMENTS" ∷ [],
+      Some (Ok (record {
+        version = 1;
+        target_duration = 10;
+        playlist_type = None;
+        independent_segments = true;
+        end_list = false;
+        date_ranges = [];
+        segments = record { media_sequence = 0; discontinuity_sequence = 0; discontinuities = 0; uri = codes "a:s"; byte_range = None; keys = []; init_section = None; duration = 10000000000; title = []; program_date_time = None } ∷ [];
+      })),
+    )
+    ∷ (
+      codes "#EXTM3U"
+          ∷ codes "#EXT-X-TARGETDURATION:10"
+          ∷ codes "#EXTINF:10,"
+          ∷ codes "a:s"
+          ∷ codes "#EXT-X-DATERANGE:ID=\"b\"" ∷ [],
+      Some (Ok (record {
+        version = 1;
+        target_duration = 10;
+        playlist_type = None;
+        independent_segments = false;
+        end_list = false;
+        date_ranges = record { id = codes "b"; start = None; end = None; duration = None; planned_duration = None; scte35_out = None; scte35_in = None; attributes = codes "ID=\"b\"" } ∷ [];
+        segments = record { media_sequence = 0; discontinuity_sequence = 0; discontinuities = 0; uri = codes "a:s"; byte_range = None; keys = []; init_section = None; duration = 10000000000; title = []; program_date_time = None } ∷ [];
+      })),
+    )
+    ∷ (
+      codes "#EXTM3U"
+          ∷ codes "#EXT-X-TARGETDURATION:10"
+          ∷ codes "#EXT-X-KEY:METHOD=AES-128,URI=\"a:1\""
+          ∷ codes "#EXTINF:10,"
+          ∷ codes "#EXT-X-MEDIA-SEQUENCE:7"
+          ∷ codes "a:s" ∷ [],
+      Some (Ok (record {
+        version = 1;
+        target_duration = 10;
+        playlist_type = None;
+        independent_segments = false;
+        end_list = false;
+        date_ranges = [];
+        segments = record { media_sequence = 7; discontinuity_sequence = 0; discontinuities = 0; uri = codes "a:s"; byte_range = None; keys = identity (codes "a:1") (Some 7) ∷ []; init_section = None; duration = 10000000000; title = []; program_date_time = None } ∷ [];
+      })),
+    )
+    ∷ (
+      codes "#EXTM3U"
+          ∷ codes "#EXT-X-TARGETDURATION:10"
+          ∷ codes "#EXT-X-PROGRAM-DATE-TIME:1970-01-01T00:00:01Z"
+          ∷ codes "#EXT-X-PROGRAM-DATE-TIME:1970-01-01T00:00:02Z"
+          ∷ codes "#EXT-X-BYTERANGE:100@5"
+          ∷ codes "#EXT-X-BYTERANGE:50@7"
+          ∷ codes "#EXTINF:10,"
+          ∷ codes "a:s" ∷ [],
+      Some (Ok (record {
+        version = 1;
+        target_duration = 10;
+        playlist_type = None;
+        independent_segments = false;
+        end_list = false;
+        date_ranges = [];
+        segments = record { media_sequence = 0; discontinuity_sequence = 0; discontinuities = 0; uri = codes "a:s"; byte_range = Some (record { length = 50; offset = 7 }); keys = []; init_section = None; duration = 10000000000; title = []; program_date_time = Some (pos 2000000000) } ∷ [];
+      })),
+    )
     ∷ [])
 
 -- what lines are read as after `#EXTM3U` and a target duration of 10 s
@@ -164,6 +335,7 @@ TagsArePlaced = HasValues read_on (
     ∷ (codes "#EXT-X-PLAYLIST-TYPE:VOD" ∷ codes "#EXT-X-PLAYLIST-TYPE:x" ∷ [], refused_at 4 fault.Repeated)
     ∷ ((codes "#EXT-X-VERSION:x" ++ 7 ∷ []) ∷ [], refused_at 3 fault.Control)
     ∷ ((97 ∷ 7 ∷ []) ∷ [], refused_at 3 fault.Control)
+    ∷ ((7 ∷ []) ∷ [], refused_at 3 fault.Control)
     ∷ ((97 ∷ 13 ∷ 98 ∷ []) ∷ [], refused_at 3 fault.Control)
     ∷ ((codes "#EXTINF:1," ++ 9 ∷ []) ∷ [], refused_at 3 fault.Control)
     ∷ ((codes "# " ++ 127 ∷ []) ∷ [], refused_at 3 fault.Control)
@@ -205,12 +377,20 @@ SegmentsAreChecked = HasValues read_on (
     ∷ (codes "#EXT-X-DISCONTINUITY-SEQUENCE:18446744073709551615" ∷ codes "#EXT-X-DISCONTINUITY" ∷ [], refused_at 4 fault.BadValue)
     ∷ (codes "#EXTINF:1," ∷ codes "#EXT-X-BYTERANGE:5" ∷ codes "a:s" ∷ [], refused_at 5 fault.RangeNoStart)
     ∷ (codes "#EXTINF:1," ∷ codes "#EXT-X-BYTERANGE:5@0" ∷ codes "a:s" ∷ codes "#EXTINF:1," ∷ codes "#EXT-X-BYTERANGE:5" ∷ codes "a:t" ∷ [], refused_at 8 fault.RangeNoStart)
+    ∷ (codes "#EXTINF:1," ∷ codes "a:s" ∷ codes "#EXTINF:1," ∷ codes "#EXT-X-BYTERANGE:5" ∷ codes "a:s" ∷ [], refused_at 7 fault.RangeNoStart)
+    ∷ (codes "#EXTINF:1," ∷ codes "#EXT-X-BYTERANGE:5@0" ∷ codes "a:s" ∷ codes "#EXTINF:1," ∷ codes "a:s" ∷ codes "#EXTINF:1," ∷ codes "#EXT-X-BYTERANGE:5" ∷ codes "a:s" ∷ [], refused_at 10 fault.RangeNoStart)
+    ∷ (codes "#EXTINF:1," ∷ codes "#EXT-X-BYTERANGE:5@0" ∷ codes "a:s" ∷ codes "#EXTINF:1," ∷ codes "#EXT-X-BYTERANGE:5" ∷ codes "#" ∷ codes "a:s" ∷ codes "a:t" ∷ [], refused_at 10 fault.NoDuration)
+    ∷ (codes "#EXTINF:1," ∷ codes "#EXT-X-BYTERANGE:1@18446744073709551613" ∷ codes "a:s" ∷ codes "#EXTINF:1," ∷ codes "#EXT-X-BYTERANGE:1" ∷ codes "a:s" ∷ codes "a:t" ∷ [], refused_at 9 fault.NoDuration)
     ∷ (codes "#EXTINF:1," ∷ codes "#EXT-X-BYTERANGE:1@18446744073709551614" ∷ codes "a:s" ∷ codes "#EXTINF:1," ∷ codes "#EXT-X-BYTERANGE:1" ∷ codes "a:s" ∷ [], refused_at 8 fault.BadRange)
     ∷ (codes "//[/x" ∷ [], refused_at 3 fault.NoDuration)
     ∷ (codes "#EXT-X-MEDIA-SEQUENCE:18446744073709551615" ∷ codes "#EXTINF:1," ∷ codes "a:s" ∷ codes "#EXTINF:1," ∷ codes "//[/x" ∷ [], refused_at 7 fault.BadValue)
     ∷ (codes "#EXTINF:1," ∷ codes "#EXT-X-BYTERANGE:5" ∷ codes "//[/x" ∷ [], refused_at 5 fault.BadUri)
     ∷ (codes "#EXT-X-KEY:METHOD=AES-128,URI=\"a:k\"" ∷ codes "#EXT-X-MAP:URI=\"a:i\"" ∷ [], refused_at 4 fault.MapWithoutIv)
     ∷ (codes "#EXT-X-KEY:METHOD=AES-128,URI=\"a:k\"" ∷ codes "#EXT-X-MAP:URI=\"//[/x\"" ∷ [], refused_at 4 fault.BadUri)
+    ∷ (codes "#EXT-X-KEY:METHOD=SAMPLE-AES,URI=\"a:d\",KEYFORMAT=\"f\"" ∷ codes "#EXT-X-KEY:METHOD=AES-128,URI=\"a:k\"" ∷ codes "#EXT-X-MAP:URI=\"a:i\"" ∷ [], refused_at 5 fault.MapWithoutIv)
+    ∷ (codes "#EXT-X-KEY:METHOD=AES-128,URI=\"a:k\",KEYFORMAT=\"f\"" ∷ codes "#EXT-X-KEY:METHOD=SAMPLE-AES,URI=\"a:d\"" ∷ codes "#EXT-X-MAP:URI=\"a:i\"" ∷ [], refused_at 5 fault.MapWithoutIv)
+    ∷ (codes "#EXT-X-KEY:METHOD=AES-129,URI=\"a:k\"" ∷ codes "#EXT-X-MAP:URI=\"a:i\"" ∷ [], refused_at 0 fault.NoSegments)
+    ∷ (codes "#EXT-X-KEY:METHOD=XES-128,URI=\"a:k\"" ∷ codes "#EXT-X-MAP:URI=\"a:i\"" ∷ [], refused_at 0 fault.NoSegments)
     ∷ (codes "#EXT-X-KEY:METHOD=SAMPLE-AES,URI=\"a:k\"" ∷ codes "#EXT-X-MAP:URI=\"a:i\"" ∷ [], refused_at 0 fault.NoSegments)
     ∷ (codes "#EXTINF:1," ∷ codes "a:s" ∷ codes "#EXT-X-MAP:URI=\"a:i\"" ∷ codes "#EXTINF:1," ∷ codes "a:t" ∷ [], refused_at 0 fault.MixedMaps)
     ∷ (
@@ -234,6 +414,8 @@ abbrev pub HeadersAreChecked : Type 0
 HeadersAreChecked = HasValues (read_by limited) (
     ([], refused_at 1 fault.NoHeader)
     ∷ (codes "#EXTM3U8" ∷ [], refused_at 1 fault.NoHeader)
+    ∷ (codes "#EXTM3V" ∷ [], refused_at 1 fault.NoHeader)
+    ∷ (codes "xEXTM3U" ∷ [], refused_at 1 fault.NoHeader)
     ∷ (codes "" ∷ codes "#EXTM3U" ∷ [], refused_at 1 fault.NoHeader)
     ∷ (codes "#EXTM3U" ∷ codes "#EXTINF:1," ∷ codes "a:s" ∷ [], refused_at 0 fault.NoTarget)
     ∷ (codes "#EXTM3U" ∷ codes "#EXT-X-TARGETDURATION:1" ∷ [], refused_at 0 fault.NoSegments)
@@ -257,6 +439,7 @@ ReadersAreLimited = HasValues (read_by small) (
     ∷ (codes "#EXTM3U" ∷ codes "#EXT-X-KEY:METHOD=A,URI=\"a:k\"" ∷ codes "#EXT-X-KEY:METHOD=A,URI=\"a:l\"" ∷ [], refused_at 0 fault.NoTarget)
     ∷ (codes "#EXTM3U" ∷ codes "#EXT-X-KEY:METHOD=A,URI=\"a:k\"" ∷ codes "#EXT-X-KEY:METHOD=A,URI=\"a:l\",KEYFORMAT=\"f\"" ∷ [], refused_at 3 fault.TooMany)
     ∷ (codes "#EXTM3U" ∷ codes "#        10        20        30        40        50        60        70        80" ∷ [], refused_at 0 fault.NoTarget)
+    ∷ (codes "#EXTM3U" ∷ codes "#        10        20        30        40        50        60        70        80." ∷ [], refused_at 0 fault.TooLong)
     ∷ (codes "#EXTM3U" ∷ codes "#        10        20        30        40        50        60        70        80" ∷ codes "#" ∷ [], refused_at 0 fault.TooLong)
     ∷ (codes "#EXTM3U" ∷ codes "#        10        20        30        40        50        60        70        80" ∷ (128 ∷ []) ∷ [], refused_at 0 fault.NotUtf8)
     ∷ (codes "#EXTM3U" ∷ codes "#EXTINF:1," ∷ codes "a:s" ∷ codes "a:t" ∷ [], refused_at 4 fault.TooMany)
@@ -317,18 +500,33 @@ LinesStand = HasValues standing_at ((
       },
     ) ∷ [])
 
--- four lines of no meaning after the tags of a segment
+-- nothing was said
+abbrev pub nothing_stands : Standing
+nothing_stands = record { media_sequence = 0; discontinuity_sequence = 0; media_count = 0; discontinuity_count = 0; discontinuities = 0; duration = None; byte_range = None; program_date_time = None; keys = []; init_section = None; extent = None }
+
+-- one line each, and four lines of no meaning after the tags of a segment
 abbrev pub TagsStand : Type 0
-TagsStand = HasValues standing_at ((
-  nothing ∷ nothing ∷ nothing ∷ nothing ∷ said.time (pos 9) ∷ said.byte_range 50 None ∷ said.duration 6 [] ∷ said.duration 5 [] ∷ [],
-  record { media_sequence = 0; discontinuity_sequence = 0; media_count = 0; discontinuity_count = 0; discontinuities = 0; duration = Some (6, []); byte_range = Some (50, None); program_date_time = Some (pos 9); keys = []; init_section = None; extent = None },
-) ∷ [])
+TagsStand = HasValues standing_at ((said.sequence 7 ∷ [], record nothing_stands { media_sequence = 7 })
+    ∷ (said.discontinuity_sequence 7 ∷ [], record nothing_stands { discontinuity_sequence = 7 })
+    ∷ (said.media (codes "a:s") ∷ [], record nothing_stands { media_count = 1 })
+    ∷ (said.media (codes "a:s") ∷ said.byte_range 5 (Some 1) ∷ [], record nothing_stands { media_count = 1; extent = Some (record { uri = codes "a:s"; byte_range = record { length = 5; offset = 1 } }) })
+    ∷ (said.discontinuity ∷ [], record nothing_stands { discontinuity_count = 1; discontinuities = 1 })
+    ∷ (said.duration 6 [] ∷ [], record nothing_stands { duration = Some (6, []) })
+    ∷ (said.byte_range 50 None ∷ [], record nothing_stands { byte_range = Some (50, None) })
+    ∷ (key (of_format (codes "a") (codes "a:2")) ∷ [], record nothing_stands { keys = of_format (codes "a") (codes "a:2") ∷ [] })
+    ∷ (said.init_section (codes "a:i") None ∷ [], record nothing_stands { init_section = Some (record { uri = codes "a:i"; byte_range = None; keys = [] }) })
+    ∷ (
+      nothing ∷ nothing ∷ nothing ∷ nothing ∷ said.time (pos 9) ∷ said.byte_range 50 None ∷ said.duration 6 [] ∷ said.duration 5 [] ∷ [],
+      record { media_sequence = 0; discontinuity_sequence = 0; media_count = 0; discontinuity_count = 0; discontinuities = 0; duration = Some (6, []); byte_range = Some (50, None); program_date_time = Some (pos 9); keys = []; init_section = None; extent = None },
+    ) ∷ [])
 
 -- 5.2: the Media Sequence Number is the IV of a key that states none; of the format `identity` alone
 abbrev pub KeysHaveTheirIvs : Type 0
 KeysHaveTheirIvs = HasValues (effective_key 7) (
     (identity (codes "a:k") None, identity (codes "a:k") (Some 7))
     ∷ (identity (codes "a:k") (Some 1), identity (codes "a:k") (Some 1))
+    ∷ (of_format (codes "identitx") (codes "a:k"), of_format (codes "identitx") (codes "a:k"))
+    ∷ (of_format (codes "xdentity") (codes "a:k"), of_format (codes "xdentity") (codes "a:k"))
     ∷ (of_format (codes "f") (codes "a:k"), of_format (codes "f") (codes "a:k")) ∷ [])
 
 abbrev pub stands_at : ℕ × List Key → Option Key

@@ -79,10 +79,10 @@ UrisAreChecked = HasValues is_uri (
 
 -- RFC 8216, 4.3.2.4: METHOD is an enumerated-string; NONE is no key
 abbrev pub MethodsAreChecked : Type 0
-MethodsAreChecked = HasValues is_key_method ((codes "AES-128", true) ∷ (codes "NONE", false) ∷ (codes "aes", false) ∷ ([], false) ∷ (long 65, true) ∷ (long 97, false) ∷ [])
+MethodsAreChecked = HasValues is_key_method ((codes "AES-128", true) ∷ (codes "NONE", false) ∷ (codes "aes", false) ∷ (codes "aES-128", false) ∷ ([], false) ∷ (long 65, true) ∷ (long 97, false) ∷ [])
 
 abbrev pub FormatsAreChecked : Type 0
-FormatsAreChecked = HasValues is_format ((codes "a b", true) ∷ ([], false) ∷ (codes "a\"", false) ∷ (long 65, true) ∷ (long 34, false) ∷ [])
+FormatsAreChecked = HasValues is_format ((codes "a b", true) ∷ ([], false) ∷ (codes "a\"", false) ∷ (codes "\"a", false) ∷ (long 65, true) ∷ (long 34, false) ∷ [])
 
 abbrev pub key : Option ℕ → Key
 key iv = record { format = codes "f"; method = codes "AES-128"; uri = codes "http://a/k"; iv = iv; other_attributes = [] }

@@ -12,7 +12,7 @@ ghost use Rattle.worked_examples.specs.Pods.{IdsAreChecked, UrisAreChecked, Meth
 ghost use Rattle.worked_examples.specs.Stitched.{PodsStandInOrder, RestsAreLeft, RunsAreReplaced, PodsKeepPace, NumbersFit, ItemsAreWritten, MarksAreFound, KeysChange, LargePodsStand, AdsHaveTheirKeys, RunsGoOn};
 ghost use Rattle.worked_examples.specs.Written.{LinesAreSpelled, PlaylistsAreWritten, WrittenLinesAreInForce, WrittenTextsTellWhatIsInForce, LargePlaylistsAreWritten, LargeListsAreInForce};
 ghost use Rattle.worked_examples.specs.Windows.{ItemsAreOfPods, ItemsHavePieces, PiecesHaveSegments, PiecesLast, MarkedAreTheOrigins, UnmarkedAreSeen, TimesAreStated, MarksAreMeant, RestsAreMeant, SegmentsAreListed, LastWindowsStand, BreaksArePlayed};
-ghost use Rattle.worked_examples.specs.Channels.{PlaylistsFollow, TypesStay, SegmentsStay, DiscontinuitiesFollow, EndedStays, TolerancesAreStated, BreaksAreFilled, TolerancesCount, SeveralAreFilled, WindowsGoOn, HeadersAreOwed, TypesAreOwed, PodsAreKept, StatesAreKept, RefreshFaultsAreTold, LastNumbersAreRefused, LastSegmentsCount};
+ghost use Rattle.worked_examples.specs.Channels.{PlaylistsFollow, TypesStay, SegmentsStay, DiscontinuitiesFollow, EndedStays, TolerancesAreStated, BreaksAreFilled, TolerancesCount, SeveralAreFilled, WindowsGoOn, BreaksAreCarried, HeadersAreOwed, TypesAreOwed, PodsAreKept, StatesAreKept, RefreshFaultsAreTold, LastNumbersAreRefused, LastSegmentsCount};
 ghost use Rattle.worked_examples.specs.LargePlaylists.{LargePlaylistsAreRead, LargePlaylistsAreDenoted};
 ghost use Rattle.worked_examples.specs.Long.{LongRunsAreWritten, WholeListsAreStitched, DateRangesAreLeft, PodsStay, BreaksAreInUse, LongStatesAreKept, DateRangesAreCarried, BreaksAreShown, WindowsAreKept};
 ghost use Rattle.worked_examples.specs.Paced.{BreaksGoThrough, PodsGoOnWithRuns, NothingIsShownAtOnce, InstantsCount, TimesAreReckoned, RestsAreWritten, DateRangesComeBack, PodsGo, FallbacksStay, FallbacksFillEach, OwnPodsComeFirst, UsedPodsStand, LastBreaksAreLeft};
@@ -175,6 +175,7 @@ pub fn channels_have_their_values()
     ensures tolerances_count { TolerancesCount }
     ensures several_are_filled { SeveralAreFilled }
     ensures windows_go_on { WindowsGoOn }
+    ensures breaks_are_carried { BreaksAreCarried }
     ensures headers_are_owed { HeadersAreOwed }
     ensures types_are_owed { TypesAreOwed }
     ensures pods_are_kept { PodsAreKept }

@@ -2,9 +2,6 @@ use Rattle.connections.specs.Table.{arrival}
 use Rattle.connections.proofs.Leading.{by_one, and_then}
 use Rattle.adsplice.proofs.server.Server.seat.Goals as goal
 
-pub returns-then-is_err : goal.returns-then-is_err
-returns-then-is_err c =
-    and_then _ _ _ c.seat_for_one.ensures (and_then _ _ _ (by_one _ _ (arrival c.in_ok-seat.seat) c.insert.ensures) c.close.ensures)
-
-pub returns-else-is_err : goal.returns-else-is_err
-returns-else-is_err c = and_then _ _ _ c.seat_for_one.ensures (by_one _ _ (arrival c.in_ok-seat.seat) c.insert.ensures)
+pub returns : goal.returns
+returns c =
+    and_then _ _ _ c.seat_for_one.ensures (and_then _ _ _ (by_one _ _ (arrival c.in_ok-seat.seat) c.insert.ensures) c.give_time.ensures)
