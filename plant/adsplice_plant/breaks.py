@@ -3,7 +3,7 @@ from __future__ import annotations
 
 from bisect import bisect_left, insort
 from collections import deque
-from dataclasses import asdict, dataclass
+from dataclasses import dataclass
 from typing import Any
 
 from . import splice
@@ -18,6 +18,7 @@ STALE = 1800 * SECOND  # after which a break without a duration that nothing end
 MOST = 256  # breaks known at a time: adsplice decides no more
 MOST_ALIKE = 8  # segments that are compared, to see whether they are cut regularly
 SHOWN = 100  # letters of an ID that are told
+Order = tuple[int, int]  # of a tag: the place of the segment before which it stands, and its place among the tags there
 
 
 @dataclass
@@ -57,26 +58,43 @@ class Break:
         end = self.end()
         return instant >= (end if end is not None else max(self.start, self.latest) + STALE)
 
+    def is_past_plan(self, instant: int) -> bool:
+        """Whether its planned end is before the `instant`; not if it has none."""
+        return self.planned is not None and instant > self.start + self.planned
+
+    def is_extended(self) -> bool:
+        """Whether it lasts longer than it was planned to."""
+        return self.until is not None and self.is_past_plan(self.until)
+
+    def extend(self, until: int, least: int) -> None:
+        """It lasts `until` then, if that is later than its end by more than `least` and no signal has ended it before that was planned."""
+        end = self.end()
+        if end is not None and until > end + least and (self.until is None or self.is_extended()):
+            self.until = until
+
 
 @dataclass(frozen=True)
 class Placed:
-    """A `signal` with its place: the instant `at`, the `number` of the segment before which it stands, and the `order` in which it
-    came. `id` is that of its date range. `is_own_end`: it ends the break of that ID, whatever began it. `others`: further
-    attributes of its tag. `is_in_step`: no new segment is listed before it."""
+    """A `signal` with its place: the instant `at`, the `number` of the segment before which it stands, and its `order` among the
+    list's lines. `id` is that of its date range. `is_own_end`: it ends the break of that ID, whatever began it; `is_stated`: at an instant
+    that the date range states. `others`: further attributes of its tag. `is_in_step`: no new segment is listed before it."""
 
     signal: Signal
     at: int
     number: int
-    order: int
+    order: Order
     id: str = ""
     is_own_end: bool = False
     others: str = ""
     is_in_step: bool = False
+    is_stated: bool = False
 
-    def key(self, line: Timeline) -> tuple[int, int, int, int]:
-        """The order in which signals count on `line`: by instants, ends before begins, an outer span before those within it."""
+    def key(self, line: Timeline) -> tuple[int, int, int, Order]:
+        """The order in which signals count on `line`: by instants, ends before begins, an outer span before those within it, and a bare
+        tag after the sections, which say what it is."""
         message = self.signal.message
         rank = splice.SPANS.index(message.type) if message.kind == Kind.BEGIN and message.type in splice.SPANS else -1
+        rank = len(splice.SPANS) if message.kind == Kind.BEGIN and self.signal.is_bare() else rank
         return line.aligned(self.at), message.kind, rank, self.order
 
 
@@ -99,7 +117,8 @@ class Timeline:
         self.begins = [it.begins or 0 for it in segments]
         self.end = self.begins[-1] + segments[-1].duration
         self.first = min(self.begins)
-        self.low = next((n for n in range(len(segments) - 1, 0, -1) if self.begins[n] < self.begins[n - 1]), 0)  # since when the clock didn't go back
+        is_steady = self.begins == sorted(self.begins)
+        self.low = 0 if is_steady else next(n for n in range(len(segments) - 1, 0, -1) if self.begins[n] < self.begins[n - 1])  # since when the clock didn't go back
 
     def jumps(self, fresh: int) -> list[tuple[int, int, int]]:
         """The places, from the place `fresh` on, at which the clock changes by more than a segment: the instant at which it does, by how much,
@@ -144,12 +163,23 @@ class Timeline:
         duration = max(1, self.segments[-1].duration)
         return (instant - self.end + duration // 2) // duration
 
+    def usual(self) -> int:
+        """The mean duration of the newest segments; 0 if they differ in their durations."""
+        durations = [it.duration for it in self.segments[-MOST_ALIKE:]]
+        return sum(durations) // len(durations) if max(durations) - min(durations) <= TOLERANCE // 2 else 0
+
+    def expected(self, instant: int) -> int:
+        """When the segment begins that is nearest to the `instant` after the listed ones, if these go on as they are; the instant itself if that
+        isn't known, or if it is within TOLERANCE."""
+        duration = self.usual() if self.aligns and self.will_have(instant) else 0
+        found = self.end + (instant - self.end + duration // 2) // duration * duration if duration else instant
+        return found if abs(found - instant) > TOLERANCE else instant
+
     def will_begin(self, instant: int) -> bool:
         """Whether a segment begins at the `instant` after the listed ones, if these go on as they are: it isn't known of segments
         that differ in their durations."""
-        durations = [it.duration for it in self.segments[-MOST_ALIKE:]]
-        duration = durations[-1]
-        if not duration or max(durations) - min(durations) > TOLERANCE // 2:
+        duration = self.segments[-1].duration if self.usual() else 0
+        if not duration:
             return False
         rest = (instant - self.end) % duration
         return self.will_have(instant) and min(rest, duration - rest) <= TOLERANCE
@@ -302,9 +332,11 @@ class Breaks:
         not if a signal of the same list said more of it (`has_begun`)."""
         half, elapsed, planned = line.half(it.at), it.signal.elapsed or 0, self.duration_of(it)
         before = self.latest(it.at + half)
-        if before is not None and not before.is_over(it.at):
+        if before is not None and not before.is_over(it.at - half):
             before.latest = max(before.latest, it.at)
             before.planned = planned if before.end() is None else before.planned
+            if planned is not None and not before.is_past_plan(it.at - half):
+                before.extend(before.start + planned, half)
             return None
         if has_begun or not self.is_first or not elapsed or planned is not None and elapsed >= planned - half:
             return None
@@ -319,6 +351,8 @@ class Breaks:
         own = self.named(it.id) if it.is_own_end else None
         if it.is_own_end and own is None and it.signal.is_cue:
             return
+        if own is not None and it.is_stated and not own.is_told:
+            own.extend(it.at, half)
         for one in [own] if own else reversed(self.known):
             if one.is_ended or at - one.start <= half or one.is_over(at - half):
                 continue
@@ -364,4 +398,4 @@ class Breaks:
 
     def kept(self) -> list[dict[str, Any]]:
         """The breaks as JSON."""
-        return [asdict(it) for it in self.known]
+        return [dict(vars(it)) for it in self.known]

@@ -55,6 +55,8 @@ class Channel:
         self.away, self.missing = Pauses(0.5, longest_pause), Pauses(0.5, longest_pause)
         self.fallback_stamp: tuple[int, int, int] | None = None  # of the file that was given
         self.is_made = False
+        self.is_bare = False  # whether it was made anew, and no list was taken since
+        self.has_learnt = False  # whether it is known what it holds by the files that an earlier feed gave
         self.tolerance = playlist.read_duration(settings.tolerance) if settings.tolerance else TOLERANCE
         self.unnoted: tuple[Answer, bytes] | None = None  # a list that was taken, and is kept with the next event
         self.reached = 0  # the instant at which the last segment that was taken begins; 0 if the channel was made since
@@ -117,7 +119,7 @@ class Channel:
             found.append(Event(now_text(), "place", self.origin.place + 1, ""))
         if self.is_apart:
             found.append(Event(now_text(), "apart", 1, ""))
-        bodies = [self.fallback()] + [it.body for it in self.folder.open()]
+        bodies = [self.fallback()] + [it.body for it in self.folder.open()] + self.lists.pods.again(())
         return found + [Event(now_text(), "decisions", 204, "", it.decode("utf-8", "replace")) for it in bodies if it]
 
     def beat(self) -> None:
@@ -136,6 +138,8 @@ class Channel:
         """PUTs `body` to the channel (`what` is ``), or to its `origin` or `decisions`."""
         answer = self.client.ask("PUT", f"{self.url}/{what}" if what else self.url, body)
         self.beat()
+        if what == "decisions" and answer.status == 204:
+            self.lists.pods.given(body, not self.is_bare)
         if what == "origin" and self.lists.ahead is not None and answer.status == 204:
             self.unnoted = answer, body  # (it is kept with the list that it comes ahead of: between both a break seems to be gone)
         else:
@@ -148,6 +152,8 @@ class Channel:
         body = decisions.withdrawal(name)
         answer = self.client.ask("PUT", f"{self.url}/decisions", body)
         self.beat()
+        if answer.status == 204 or faults.code_of(answer.line()) == "J11":
+            self.lists.pods.withdrawn(name, not self.is_bare)
         if answer.status not in JUDGED:
             self.note("decisions", replace(answer, why=answer.why or why), body)
         return answer
@@ -176,18 +182,29 @@ class Channel:
         if answer.status not in (201, 409):
             self.unmade(answer, "makes the channel as soon as it can")
             return False
-        self.is_made = True
         self.compare(answer.status)
-        if self.is_new(answer):
-            self.knows, self.reached = True, 0
-            self.lists.begin_anew()
-            self.folder.start_anew(answer.status == 201)
-        self.folder.look()
+        if (is_new := self.is_new(answer)) is None:
+            return False
+        self.is_made = True
+        if is_new:
+            self.knows = True
+        self.anew(is_new, answer.status == 201)
         text = "makes the channel" if answer.status == 201 else "the channel is there already; goes on with it"
         self.states.pop("adsplice", None)
         self.tell("adsplice", answer.status, "", text)
         body = self.fallback()
         return body is None or self.give_fallback(body)
+
+    def anew(self, is_new: bool, is_empty: bool) -> None:
+        """The channel is there, and all is to be given to it again; `is_new`: it has no list yet; `is_empty`: it was made now."""
+        if is_new:
+            self.reached, self.is_bare = 0, True
+            self.lists.begin_anew()
+            self.folder.start_anew(is_empty)
+        self.folder.look()
+        for it in self.folder.open() if not is_new and not self.has_learnt else []:
+            self.lists.pods.learn(decisions.without(it, it.late).body)
+        self.has_learnt = True
 
     def compare(self, status: int) -> None:
         """Keeps how the channel was made (201), or tells if it was made otherwise than the settings say now (409)."""
@@ -203,10 +220,16 @@ class Channel:
         except OSError as fault:
             self.tell("settings", 0, "Unkept", f"{path}: {fault.strerror}; a change of base or tolerance won't be told")
 
-    def is_new(self, answer: Answer) -> bool:
-        """Whether the channel, whose making was answered by `answer`, has no list yet: it was made now, or right before the feed that
-        made it was killed."""
-        return answer.status == 201 or (self.lists.is_resumed() and self.client.ask("GET", f"{self.url}/live.m3u8").status == 404)
+    def is_new(self, answer: Answer) -> bool | None:
+        """Whether the channel, whose making was answered by `answer`, has no list yet; none if that can't be known now, which is told. It was
+        made now; or before, and the answer was lost, another rendition couldn't be made, or the feed was killed."""
+        if answer.status == 201:
+            return True
+        written = self.client.ask("GET", f"{self.url}/live.m3u8")
+        if written.status == 0 or written.status >= 500:
+            self.failed(written, "looks again whether the channel has a list as soon as it can")
+            return None
+        return written.status == 404
 
     def give_fallback(self, body: bytes) -> bool:
         """Gives the fallback file's `body`; whether the feed may go on."""
@@ -283,7 +306,7 @@ class Channel:
             return False
         if answer.status == 204:
             self.folder.given(decision)
-            late = self.begun(decision.ids) if decision.kind == "breaks" else []
+            late = self.begun(decision.ids) + self.settled(decision) if decision.kind == "breaks" else []
             if late:
                 self.came_late(decision, late, who)
             else:
@@ -331,6 +354,10 @@ class Channel:
         reached = min(self.reached, (newest[-1].begins or self.reached) if newest else self.reached)  # (the newest may be of a clock that went back)
         return [it for it in dict.fromkeys(ids) if it in starts and reached >= starts[it] - (self.tolerance or 0)]
 
+    def settled(self, decision: Decision) -> list[str]:
+        """Those of the breaks of the `decision` that began otherwise, or with no pod, before the channel was made anew."""
+        return [it for it in self.lists.pods.settled(decision.body) if it not in decision.late] if self.is_bare else []
+
     def came_late(self, decision: Decision, late: list[str], who: str) -> None:
         """The breaks `late` of the `decision`, which adsplice took, had begun with no pod: they stay as they are."""
         decision.late |= set(late)
@@ -365,8 +392,10 @@ class Channel:
         else:
             begun = decision.ids
         if self.knows:
-            decision.late |= set(begun)  # (else it may be the pod that an earlier feed gave)
+            decision.late |= set(begun)
             self.note_late(begun)
+        else:
+            self.lists.pods.learn(decision.body)  # (it may be the pod that an earlier feed gave)
         self.folder.given(decision)
         rest = [it for it in decision.ids if it not in begun]
         self.tell(who, 409, "J9 Used", f"{', '.join(begun)} has begun, and keeps its pod" + (f"; decides {', '.join(rest)}" if rest else ""))
@@ -388,6 +417,8 @@ class Channel:
             if is_later and not self.decide_asked():
                 return False
             is_later = True
+            if self.is_bare and not self.give_again():
+                return False
             self.keep_files()
             self.lists.sending()
             answer = self.put("origin", text)
@@ -400,6 +431,19 @@ class Channel:
             else:
                 self.refused(answer.status, line)
         return True
+
+    def give_again(self) -> bool:
+        """Gives a channel that was made anew what its breaks began with, as far as that is something else by now; whether the feed may go on."""
+        for body in self.lists.pods.again(self.begun_elsewhere()):
+            answer = self.put("decisions", body)
+            if answer.status != 204 and answer.status not in JUDGED:
+                self.gone(answer)
+                return False
+        return True
+
+    def begun_elsewhere(self) -> set[str]:
+        """The breaks that have begun in other renditions of the programme."""
+        return set()
 
     def keep_files(self) -> bool:
         """Has the file of numbers know what a later feed has to know of decision files; whether that has changed."""
@@ -443,7 +487,7 @@ class Channel:
 
     def taken(self) -> None:
         """A list was taken: learns its numbers, and tells of it."""
-        self.unfit = 0
+        self.unfit, self.is_bare = 0, False
         last = self.lists.stands.repairer.last or self.lists.newest.segments
         self.reached = (last[-1].begins or 0) if last else 0  # (earlier ones may be of a clock that went back since)
         if self.lists.taken():
@@ -490,8 +534,16 @@ class Channel:
         """One turn: looks at the origin and the folder, gives adsplice what is new, and answers the seconds to the next one."""
         begun = time.monotonic()
         self.beat()
-        found = read_whole(self.origin, self.settings.unended, self.settings.line)
+        found = self.read()
         self.beat()
+        return self.take_in(found, begun)
+
+    def read(self) -> Read:
+        """What is found at the origin."""
+        return read_whole(self.origin, self.settings.unended, self.settings.line)
+
+    def take_in(self, found: Read, begun: float) -> float:
+        """The turn that began at `begun`, in which `found` was found, once no other rendition has its own."""
         self.waits = True
         with self.together:
             self.waits = False

@@ -102,7 +102,9 @@ class Check:
             yield journal(self.settings.keep / f"{self.settings.name}.events")
 
     def fallback(self, path: Path) -> Fact:
-        """Whether the fallback's file `path` can be read, and is right."""
+        """Whether the fallback's file `path` is there, can be read, and is right."""
+        if not path.is_file():
+            return Fact("settings", False, f"channel {self.settings.name}: fallback: there is no file {path}")
         try:
             with open(path, "rb") as it:
                 body = it.read(MAX_BYTES + 1)
@@ -126,8 +128,9 @@ class Check:
             return Fact("origin", False, found.why if place in found.why else f"{place}: {found.why or f'it answers {found.status}'}")
         if it.master is not None:
             try:
-                return Fact("origin", True, f"{place} answers a master playlist of {len(masters.read(found.body, it.base).uris)} renditions")
-            except Fault as fault:
+                count = len(masters.channels_of(masters.read(found.body, it.base), it))
+                return Fact("origin", True, f"{place} answers a master playlist of {count} renditions")
+            except (Fault, ValueError) as fault:
                 return Fact("origin", False, f"{place}: {fault}")
         body = absolute(found.body, base) if base else found.body
         if it.repair:

@@ -2,17 +2,19 @@
 from __future__ import annotations
 
 import re
-from dataclasses import dataclass
+from dataclasses import dataclass, replace
+from functools import lru_cache
 
 from adsplice_rules.splice import insert_said, ticks_nanos
 
 from . import packaged, signals, splice
-from .breaks import Break, Breaks, Placed, Timeline
+from .breaks import Break, Breaks, Order, Placed, Timeline
 from .packaged import DATE_RANGE, PackagedList
 from .signals import SPLICES, Signal
 from .splice import Kind, Message, Unread
 
 STATED = ("END-DATE", "DURATION")  # attributes that say where a break ends
+REMEMBERED = 2048  # date ranges that were read
 OTHER = re.compile(r'(?:CLASS|X-[A-Z0-9-]+)=(?:"[^"]*"|[^\s",]+)')  # an attribute that says something to players
 
 
@@ -25,7 +27,7 @@ class DateRange:
     id: str
     said: dict[str, str]
     place: int
-    order: int
+    order: Order
 
     def start(self) -> int | None:
         """Its START-DATE; none if it has none that reads."""
@@ -75,7 +77,8 @@ class RangeReader:
         place = min(max(self.it.place, self.fresh), len(self.line.segments) - 1)
         number = self.line.segments[place].number
         is_in_step = self.instant(self.fresh) >= self.line.aligned(at)
-        return Placed(signal, at, number, self.it.order, self.it.id, is_own_end, self.it.others(), is_in_step)
+        is_stated = is_own_end and self.start is not None and self.it.length(self.start) is not None
+        return Placed(signal, at, number, self.it.order, self.it.id, is_own_end, self.it.others(), is_in_step, is_stated)
 
     def here(self) -> int:
         """The instant of the segment before which it stands. One in the head of a list stands nowhere: then it is the planned end of
@@ -122,14 +125,14 @@ class RangeReader:
 
 def ranges_of(found: PackagedList) -> list[DateRange]:
     """The date ranges of the list `found`."""
-    ranges, order = [], 0
-    for place, tags in enumerate([*(it.tags for it in found.segments), found.tail_tags]):
-        for line in tags:
-            order += 1
-            if line.startswith(DATE_RANGE):
-                said = packaged.attributes_of(line.partition(":")[2])
-                ranges.append(DateRange(line, said.get("ID", ""), said, place, order))
-    return ranges
+    return [replace(read_range(line), place=place, order=(place, at)) for place, at, line in found.own_ranges()]
+
+
+@lru_cache(REMEMBERED)
+def read_range(line: str) -> DateRange:
+    """The date range of the EXT-X-DATERANGE `line`, as one in a list's head. Lists say the same again and again: what was read is remembered."""
+    said = packaged.attributes_of(line.partition(":")[2])
+    return DateRange(line, said.get("ID", ""), said, 0, (0, 0))
 
 
 # ---- what adsplice makes of a date range by itself

@@ -4,8 +4,11 @@ An edit is a list of pieces which make the new text one after the other: a text 
 line of the old text to which (counted from 0, the second one not among them). A list whose window moved on takes a few pieces.
 Lines end with LF alone (RFC 8216, 4.1).
 """
+from typing import NamedTuple
+
 Piece = str | list[int]
-LOOKS = 4  # at each line of the old text, after which what is out of order counts as new
+LOOKS = 4  # at each line of the old text, after which what is out of order counts as new; and at the rest of both texts
+ALIKE = 150  # letters, or bytes, at a text's end by which it is found in the next one
 
 
 def lines_of(text: str) -> list[str]:
@@ -14,7 +17,46 @@ def lines_of(text: str) -> list[str]:
     return [f"{it}\n" for it in parts[:-1]] + ([parts[-1]] if parts[-1] else [])
 
 
-def edit_of(old: list[str], new: list[str]) -> list[Piece]:
+class Common(NamedTuple):
+    """What the end of an old text and a new one have in common: from the place `old` on in the old text to its end, and in the new one from
+    the place `begin` on, to the place `end`."""
+
+    old: int
+    begin: int
+    end: int
+
+
+def common_end(old: str, new: str) -> Common | None:
+    """The end of the text `old` that stands in `new`, from one of the first lines of `new` on; none if it isn't found by its last letters.
+    A list whose window moved on has all but its front from the list before it. The texts are compared LOOKS times at most."""
+    if len(old) < ALIKE or not old.endswith("\n") or (at := new.rfind(old[-ALIKE:])) < 0:
+        return None
+    end, begin, looks = at + ALIKE, 0, 0
+    while looks < LOOKS and (past := new.find("\n", begin, end) + 1):
+        place = len(old) - (end - begin)
+        if place >= 0 and old[place - 1:place] in ("", "\n") and old.startswith(new[begin:past], place):
+            looks += 1
+            if new.startswith(old[place:], begin):
+                return Common(place, begin, end)
+        begin = past
+    return None
+
+
+def edit_of(old: str, new: str) -> list[Piece]:
+    """The edit that makes the text `new` of the text `old`: by what their ends have in common, and by lines for the rest."""
+    if (common := common_end(old, new)) is None:
+        return edit_of_lines(lines_of(old), lines_of(new))
+    first = old.count("\n", 0, common.old)
+    pieces = edit_of_lines(lines_of(old[:common.old]), lines_of(new[:common.begin]))
+    past = first + new.count("\n", common.begin, common.end)
+    if pieces and isinstance(last := pieces[-1], list) and last[1] == first:
+        last[1] = past
+    else:
+        pieces.append([first, past])
+    return pieces + ([new[common.end:]] if common.end < len(new) else [])
+
+
+def edit_of_lines(old: list[str], new: list[str]) -> list[Piece]:
     """The edit that makes the lines `new` of the lines `old`. It takes lines over in their order, and looks at each a few times. Lines are
     passed for two that follow one another in both, so that none that is often there (EXTINF) leads far ahead."""
     there, left = set(old), LOOKS * len(old)

@@ -3,6 +3,7 @@ import argparse
 import random
 import threading
 import time
+from collections.abc import Callable
 from pathlib import Path
 
 from . import check, words
@@ -10,6 +11,7 @@ from . import settings as told
 from .channel import Channel
 from .door import Door, address_of
 from .ladder import Ladder, Rendition
+from .locks import Lock, Taken, take_all
 from .masters import Programme
 from .settings import Settings
 from .web import Client
@@ -17,6 +19,7 @@ from .words import Fault
 
 print_line = words.Teller().say
 LAST = 0.5  # seconds that turns may take to their end once a signal came
+AGAIN = 1.0  # seconds from one trial to the next of a lock that another feed has
 
 HELP = """Reads a packager's playlist and gives it to adsplice, with the decisions of its breaks.
 
@@ -95,7 +98,7 @@ def read_words(arguments: list[str]) -> argparse.Namespace:
     it.add_argument("--tolerance", metavar="SECONDS", help="the channel's tolerance (adsplice's own is 0.1)")
     it.add_argument("--decisions", metavar="DIR")
     it.add_argument("--fallback", metavar="FILE", help="a decision file with a fallback, given whenever the channel is made")
-    it.add_argument("--keep", metavar="DIR", help="keeps NAME.events and NAME.beat there, for adsplice-monitor and adsplice-explain, and NAME.numbers and NAME.signals for itself")
+    it.add_argument("--keep", metavar="DIR", help="keeps NAME.events and NAME.beat there, for adsplice-monitor and adsplice-explain, NAME.numbers and NAME.signals for itself, and NAME.lock against a second feed")
     it.add_argument("--renditions", metavar="NAMES", help="a ladder: a channel NAME-R for each rendition R of NAMES, such as '1080 720 360'")
     it.add_argument("--master", metavar="FILE", help="the origin is a master playlist: its renditions are channels, and FILE is the one that viewers load")
     it.add_argument("--viewers", metavar="URL", help="with --master: where viewers read channels, such as http://viewers.example (the host of FILE's URL)")
@@ -124,45 +127,137 @@ def read_words(arguments: list[str]) -> argparse.Namespace:
     return said
 
 
-def channels_of(said: argparse.Namespace, faults: list[tuple[str, str]] | None = None) -> list[Settings]:
-    """The channels that the words `said` tell of; raises Fault, unless it is of a section and there are `faults` to add it to."""
+def channels_of(said: argparse.Namespace, faults: list[tuple[str, str]]) -> list[Settings]:
+    """The channels that the words `said` tell of; raises Fault, unless it is of a section: then it is added to `faults`."""
     if said.config is not None:
         return told.read_file(said.config, faults)
     return told.ladder_of(said.channel, {it: getattr(said, it) for it in told.NAMES})
 
 
-def feeds_of(channels: list[Settings], said: argparse.Namespace) -> list[Channel]:
-    """The feeds of `channels` by the words `said`; those of one programme share a ladder."""
-    ladders: dict[str, Ladder] = {}
-    found: list[Channel] = []
+def units_of(channels: list[Settings]) -> list[list[Settings]]:
+    """The `channels` that are fed together: the renditions of each programme, and each other one by itself."""
+    found: dict[tuple[bool, str], list[Settings]] = {}
     for it in channels:
+        found.setdefault((bool(it.programme), it.programme or it.name), []).append(it)
+    return list(found.values())
+
+
+class Feeds:
+    """The feeds of this process by the words `said`, each in a thread of its own until `ending` is set. `threads` are those that run, and
+    `known` are the feeds by their channels' names."""
+
+    def __init__(self, said: argparse.Namespace, ending: threading.Event) -> None:
+        self.said, self.ending = said, ending
+        self.threads: list[threading.Thread] = []
+        self.known: dict[str, Channel] = {}
+        self.locks: list[Lock] = []
+
+    def start(self, channels: list[Settings], faults: list[tuple[str, str]] | None = None) -> None:
+        """Begins to feed `channels`: the renditions of a master playlist once that is read, and one that another feed has once that is over.
+        What keeps it from one raises Fault, or is added to `faults`, if there are some, by its name; then the others are fed."""
+        units = units_of([it for it in channels if it.master is None])
+        spread = min(1.0, 0.05 * (sum(map(len, units)) - 1))
+        for unit in units:
+            name = unit[0].programme or unit[0].name
+            try:
+                if text := self.begin(unit, spread):
+                    tell_lock(unit, "Taken", f"{text}; this one doesn't, and tries again each second")
+                    self.go(name, self.wait_for, unit)
+            except Fault as fault:
+                if faults is None:
+                    raise
+                faults.append((name, str(fault)))
+        for it in channels:
+            if it.master is not None:
+                programme = Programme(it, Client(self.said.timeout, it.redirects), print_line, self.start)
+                self.go(it.name, programme.run, self.ending, self.said.longest_pause)
+
+    def begin(self, unit: list[Settings], spread: float) -> str:
+        """Feeds the channels of `unit` unless another feed has one of them; who has it then. Raises Fault, and has no lock then. The rest as in
+        `feed`."""
+        before = len(self.locks)
+        if text := self.lock(unit):
+            return text
+        try:
+            self.feed(unit, spread)
+        except (Fault, OSError) as fault:
+            while len(self.locks) > before:
+                self.locks.pop().release()
+            raise fault if isinstance(fault, Fault) else Fault(f"channel {unit[0].name}: {fault.filename}: {fault.strerror}") from None
+        return ""
+
+    def go(self, name: str, does: Callable[..., None], *what: object) -> None:
+        """Has a thread of the `name` do what it `does` with `what`."""
+        one = threading.Thread(target=does, args=what, name=name, daemon=True)
+        one.start()
+        self.threads.append(one)  # (who watches them takes one that doesn't run for one that has ended)
+
+    def lock(self, unit: list[Settings]) -> str:
+        """Takes the locks of the channels of `unit`; who has one of them if another feed does. One without `keep` has no lock, and where the
+        disk refuses it is told that there is none."""
+        try:
+            self.locks += take_all(it.keep / f"{it.name}.lock" for it in unit if it.keep is not None)
+        except Taken as fault:
+            return str(fault)
+        except OSError as fault:
+            tell_lock(unit, "Unkept", f"{fault.filename}: {fault.strerror}; nothing keeps another feed from it")
+        return ""
+
+    def wait_for(self, unit: list[Settings]) -> None:
+        """Feeds the channels of `unit` once no other feed has one of them."""
+        why = ""
+        while not self.ending.wait(AGAIN):
+            try:
+                if not self.begin(unit, 0):
+                    tell_lock(unit, "-", "the other feed has let it go; feeds it")
+                    break
+            except Fault as fault:
+                if why != str(fault):
+                    why = str(fault)
+                    tell_wrong(unit[0].programme or unit[0].name, why)
+        self.threads.remove(threading.current_thread())
+
+    def feed(self, unit: list[Settings], spread: float) -> None:
+        """Feeds the channels of `unit`; their first turns come within `spread` seconds. Raises Fault or OSError."""
+        feeds = feeds_of(unit, self.said)
+        self.known.update({it.settings.name: it for it in feeds})
+        for it in feeds:
+            for text in it.settings.idle:
+                it.tell(f"settings/{text}", 0, "Idle", text)
+            if (path := it.settings.fallback) is not None and not path.is_file():
+                it.tell("fallback", 0, "", f"there is no file {path}; goes on without it until it is there")
+        for it in feeds:
+            self.go(it.settings.name, run, it, self.ending, random.uniform(0, max(0, spread)))
+
+    def ended(self) -> str:
+        """The name of a thread that has ended; empty if none has."""
+        return next((it.name for it in list(self.threads) if not it.is_alive() and it in self.threads), "")
+
+
+def tell_lock(unit: list[Settings], word: str, text: str) -> None:
+    """Prints a line of the lock of the channels of `unit`, by a `word` and a `text`."""
+    print_line(f"{words.now_text()} {unit[0].programme or unit[0].name} lock - {word}: {text}")
+
+
+def tell_wrong(name: str, text: str) -> None:
+    """Prints that the section of the channel or programme `name` is wrong, and why (`text`)."""
+    print_line(f"{words.now_text()} {name} settings - Wrong: {text}; goes on without it")
+
+
+def feeds_of(unit: list[Settings], said: argparse.Namespace) -> list[Channel]:
+    """The feeds of the channels of `unit` by the words `said`; those of one programme share a ladder. Raises Fault."""
+    for it in unit:
         told.make_folder(it)
+    name = unit[0].programme
+    ladder = Ladder(name, print_line) if name else None
+    found: list[Channel] = []
+    for it in unit:
         client = Client(said.timeout, it.redirects)
-        if it.programme:
-            ladder = ladders.setdefault(it.programme, Ladder(it.programme, print_line))
+        if ladder is not None:
             found.append(Rendition(it, client, print_line, said.longest_pause, said.keep_days, ladder))
         else:
             found.append(Channel(it, client, print_line, said.longest_pause, said.keep_days))
     return found
-
-
-def start(channels: list[Settings], said: argparse.Namespace, ending: threading.Event, threads: list[threading.Thread], known: dict[str, Channel]) -> None:
-    """Begins to feed `channels` by the words `said`, each in a thread of its own, which are added to `threads`, and the feeds to
-    those that are `known` by their names."""
-    feeds = feeds_of([it for it in channels if it.master is None], said)
-    known.update({it.settings.name: it for it in feeds})
-    spread = min(1.0, 0.05 * (len(feeds) - 1))
-    begun = [threading.Thread(target=run, args=(it, ending, random.uniform(0, max(0, spread))), name=it.settings.name, daemon=True) for it in feeds]
-    for it in channels:
-        if it.master is not None:
-            programme = Programme(it, Client(said.timeout), print_line, lambda found: start(found, said, ending, threads, known))
-            begun.append(threading.Thread(target=programme.run, args=(ending, said.longest_pause), name=it.name, daemon=True))
-    threads += begun
-    for feed in feeds:
-        for text in feed.settings.idle:
-            feed.tell(f"settings/{text}", 0, "Idle", text)
-    for one in begun:
-        one.start()
 
 
 def run(channel: Channel, ending: threading.Event, delay: float) -> None:
@@ -180,26 +275,28 @@ def run(channel: Channel, ending: threading.Event, delay: float) -> None:
 def main(arguments: list[str]) -> int:
     """Runs the feed until a signal ends it; answers the exit status."""
     said = read_words(arguments)
-    threads: list[threading.Thread] = []
+    faults: list[tuple[str, str]] = []
     try:
+        channels = channels_of(said, faults)
         if said.check:
             words.ends_cleanly()
-            faults: list[tuple[str, str]] = []
-            return check.run(channels_of(said, faults), faults, lambda redirects: Client(said.timeout, redirects))
-        channels = channels_of(said)
+            return check.run(channels, faults, lambda redirects: Client(said.timeout, redirects))
         ending = words.ends_by_signals()
-        feeds: dict[str, Channel] = {}
-        door = Door(said.door, feeds) if said.door else None
-        start(channels, said, ending, threads, feeds)
+        feeds = Feeds(said, ending)
+        door = Door(said.door, feeds.known) if said.door else None
+        feeds.start(channels, faults)
+        if not feeds.threads:
+            raise Fault(faults[0][1])
+        for name, text in faults:
+            tell_wrong(name, text)
     except (Fault, OSError) as fault:
         words.fail("adsplice-feed", str(fault))
     while not ending.wait(1):
-        for it in threads:
-            if not it.is_alive() and not ending.is_set():
-                words.fail("adsplice-feed", f"the thread of {it.name} has ended; what starts the feed may start it again")
+        if (name := feeds.ended()) and not ending.is_set():
+            words.fail("adsplice-feed", f"the thread of {name} has ended; what starts the feed may start it again")
     if door:
         door.close()
     until = time.monotonic() + LAST
-    for it in threads:
+    for it in list(feeds.threads):
         it.join(max(0.0, until - time.monotonic()))
     return 0

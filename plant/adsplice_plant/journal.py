@@ -56,11 +56,13 @@ def text_of(body: bytes) -> str:
     return body.decode("utf-8", "surrogateescape")
 
 
-def line_of(event: Event, before: list[str] | None) -> str:
-    """The line of `event`; a list is told by its difference from the list of the lines `before`, if there is one."""
+def line_of(event: Event, before: str | None) -> str:
+    """The line of `event`; a list is told by its difference from the list `before`, if there is one."""
     said: dict[str, object] = {"at": event.at, "what": event.what, "status": event.status, "fault": event.fault}
-    edit = edit_of(before, event.lines) if event.lines is not None and before is not None else None
-    said["body" if edit is None else "edit"] = event.text() if edit is None else edit
+    if event.what == "origin" and before is not None:
+        said["edit"] = edit_of(before, event.body)
+    else:
+        said["body"] = event.body
     return json.dumps(said | ({"again": True} if event.again else {})) + "\n"
 
 
@@ -94,7 +96,7 @@ class Journal:
         self.path, self.opening = path, opening
         path.parent.mkdir(parents=True, exist_ok=True)
         self.end = "\n" if is_torn(path) else ""  # of a line that was left unfinished
-        self.lines: list[str] | None = None  # of the newest list in this file that this journal wrote
+        self.list: str | None = None  # the newest one in this file that this journal wrote
         self.since = 0  # bytes that were written since the last whole list
         self.hole: Event | None = None  # since when nothing could be kept
         self.unkept: list[Event] = []  # what is to be kept of that time: all but lists
@@ -107,7 +109,7 @@ class Journal:
             self.put(event)
         except OSError as lack:
             self.hole = self.hole or Event(event.at, "hole", 0, lack.strerror or "")
-            self.lines = None
+            self.list = None
             size = len(event.body) + sum(len(it.body) for it in self.unkept)
             if what not in LOST and len(self.unkept) < MOST_UNKEPT and size <= MAX_BYTES:
                 self.unkept.append(event)
@@ -119,17 +121,15 @@ class Journal:
         if size > MAX_BYTES:
             self.begin_file()
             size = 0
-        if event.what == "origin":
-            event = replace(event, lines=lines_of(event.body))
         if not size or (event.what == "origin" and self.since > WHOLE * len(event.body)):
-            self.lines, self.since = None, 0
+            self.list, self.since = None, 0
         opening = [] if size else [replace(it, again=True) for it in self.opening()]
         told = [*opening, *self.unkept, *([self.hole] if self.hole else []), event]
-        data = (self.end + "".join(line_of(it, self.lines) for it in told)).encode()
+        data = (self.end + "".join(line_of(it, self.list) for it in told)).encode()
         append(self.path, data)
         self.end, self.since = "", self.since + len(data)
         self.unkept = []
-        self.hole, self.lines = None, self.lines if event.lines is None else event.lines
+        self.hole, self.list = None, event.body if event.what == "origin" else self.list
 
     def begin_file(self) -> None:
         """Puts the file aside, and takes away the oldest ones that have no room."""

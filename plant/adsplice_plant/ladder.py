@@ -13,11 +13,12 @@ from dataclasses import replace
 from . import faults
 from .channel import JUDGED, MOST, Channel, Say
 from .decisions import NO_FALLBACK, SPARE, Decision, in_time, said_by, taken_back_text, withdrawal, without
-from .numbers import Numbers
+from .origin import Read
 from .origins import Choice, TwoOrigins
 from .playlist import SECOND
+from .reckoning import Numbers
 from .settings import Settings
-from .siblings import Sibling, Siblings
+from .siblings import Reach, Sibling, Siblings, reach_of
 from .signalling import Signalling
 from .web import Answer, Client
 from .words import now_text
@@ -25,6 +26,8 @@ from .words import now_text
 STEP = 3.0  # target durations that the renditions' lists have to come into step before the channels are made without
 LATE = 2.0  # seconds after which a file that isn't there in all renditions is told
 HELD = 2.0  # target durations that a rendition whose process is away holds up a decision of the others
+SOON = 0.05  # seconds until a list that waits for another rendition's is looked at again
+SIGNALS = (b"#EXT-X-CUE", b"SCTE35")  # what each style of signals that is translated has in its tags (docs/SIGNALS.md)
 
 Group = list[tuple["Rendition", Decision]]
 
@@ -36,12 +39,36 @@ class Rendition(Channel):
         super().__init__(settings, client, say, longest_pause, keep_days, ladder.signalling)
         self.ladder, self.together, ladder.signalling = ladder, ladder.lock, self.signalling
         self.debts: list[bytes] = []  # withdrawals that come before its next list
+        self.found: tuple[Read, float] | None = None  # what was found at the origin and isn't taken in yet, and since when
+        self.has_signals = False  # whether a list of it had signals
+        self.reach: Reach | None = None  # of the list that was found
+        self.given: Reach | None = None  # of the list that was taken in
         ladder.members.append(self)
         self.lists.join(Siblings(lambda: [
             Sibling(it.settings.base, it.lists.listed_segments, it.lists.is_held, it.settings.group == settings.group, it.lists.moved)
             for it in ladder.members if it is not self], self.lists.moved))
         if isinstance(self.origin, TwoOrigins):
             self.origin.join(ladder.choice)
+
+    def turn(self) -> float:
+        """As in Channel. The list of a rendition without signals waits until one that has them has come as far, for a target duration at most:
+        by then it is known which breaks begin in it."""
+        if self.found is None:
+            begun = time.monotonic()
+            self.beat()
+            found = self.read()
+            self.found = found, begun
+            if found.body is not None:
+                self.reach = reach_of(found.body)
+                self.has_signals = self.has_signals or any(it in found.body for it in SIGNALS)
+        found, begun = self.found
+        self.beat()
+        if found.body is not None and time.monotonic() < begun + self.ladder.target() and self.ladder.comes_later(self):
+            return SOON
+        self.found = None
+        pause = self.take_in(found, begun)
+        self.given = self.reach
+        return pause
 
     def put(self, what: str, body: bytes) -> Answer:
         """PUTs `body` to the channel (`what` is ``), or to its `origin` or `decisions`; those who wait for that go on."""
@@ -100,13 +127,13 @@ class Rendition(Channel):
             self.note("apart", Answer(int(is_apart)))
 
     def anew(self, is_new: bool, is_empty: bool) -> None:
-        """Its channel is there, and all is to be given to it again; `is_new`: it has no list yet; `is_empty`: it was made now."""
+        """As in Channel."""
         self.is_made, self.debts = True, []
-        if is_new:
-            self.reached = 0
-            self.lists.begin_anew()
-            self.folder.start_anew(is_empty)
-        self.folder.look()
+        super().anew(is_new, is_empty)
+
+    def begun_elsewhere(self) -> set[str]:
+        """The breaks that have begun in other renditions of the programme: it has the pods that it had been given for them."""
+        return {name for it in self.ladder.members if it is not self for name in it.lists.pods.entered}
 
 
 class Ladder:
@@ -136,6 +163,14 @@ class Ladder:
     def target(self) -> float:
         """The target duration in seconds; one second if it isn't known."""
         return min(MOST, float(max((it.lists.target or 1 for it in self.members), default=1)))
+
+    def comes_later(self, one: Rendition) -> bool:
+        """Whether the list of `one` has to wait: it has no signals, and none of the renditions that have them has come as far. While none
+        has shown any, they are expected in the first one, which is a picture."""
+        if one.has_signals or one.reach is None or not one.settings.signals:
+            return False
+        leading = [it for it in self.members if it.has_signals] or self.members[:1]
+        return one not in leading and not any(it.given is not None and it.given.covers(one.reach) for it in leading)
 
     # ---- making the channels
 
@@ -176,24 +211,36 @@ class Ladder:
         return all(pushed)
 
     def make(self, one: Rendition) -> bool:
-        """Makes the channels that aren't there; whether all are there."""
+        """Makes the channels that aren't there; whether all are there. One that was made before another one couldn't be is looked at again:
+        it has no list."""
         answers = {it: it.put("", it.settings.body()) for it in self.members}
+        for it in [it for it, answer in answers.items() if answer.status == 201]:
+            it.compare(201)
         for it, answer in answers.items():
             if answer.status not in (201, 409):
                 one.unmade(answer, f"makes {it.settings.name} with the other renditions as soon as it can")
                 return False
-        new = [it for it, answer in answers.items() if answer.status == 201]
+        is_new = {it: it.is_new(answer) for it, answer in answers.items()}
+        if None in is_new.values():
+            return False
+        new = [it for it in self.members if is_new[it]]
         if len(new) == len(self.members) or self.states.get("numbers"):
             self.level(new)
-        for it, answer in [(it, answer) for it, answer in answers.items() if answer.status == 201 or not it.is_made]:
-            it.anew(it.is_new(answer), answer.status == 201)
-            it.compare(answer.status)
-            it.states.pop("adsplice", None)
-            it.tell("adsplice", answer.status, "", "makes the channel" if answer.status == 201 else "the channel is there already; goes on with it")
+        for it in [it for it in self.members if it in new or not it.is_made]:
+            self.begin_with(it, answers[it].status, it in new)
         self.held.clear()
         self.given_up.clear()
-        self.is_resumed = all(it.status == 409 for it in answers.values())
+        self.is_resumed = not new
         return True
+
+    @staticmethod
+    def begin_with(it: Rendition, status: int, is_new: bool) -> None:
+        """The channel of the rendition `it` is there, by the `status` of its making; `is_new`: it has no list yet."""
+        it.anew(is_new, status == 201)
+        if status == 409:
+            it.compare(status)
+        it.states.pop("adsplice", None)
+        it.tell("adsplice", status, "", "makes the channel" if status == 201 else "the channel is there already; goes on with it")
 
     def level(self, new: list[Rendition]) -> None:
         """The channels of the renditions `new` have no list: they begin with the greatest media numbers that viewers have of one segment, if
@@ -229,10 +276,14 @@ class Ladder:
         return True
 
     def give_fallbacks(self) -> bool:
-        """Gives each rendition its fallback file; if one is refused, none has a fallback. Whether all was answered."""
+        """Gives each rendition its fallback file; if one is refused or isn't there, none has a fallback. Whether all was answered."""
         for it in self.members:
             it.fallback_stamp = it.stamp()
         bodies = [(it, body) for it in self.members if (body := it.fallback())]
+        lacking = [it.settings.name for it in self.members if it.settings.fallback is not None and it not in {one for one, _ in bodies}]
+        if lacking:
+            self.tell("fallback", "Missing", f"{', '.join(lacking)} has no fallback file; no rendition has a fallback until all have one")
+            return self.give_no_fallback()
         answers = [(it, it.put("decisions", body)) for it, body in bodies]
         if not self.are_judged(answers):
             for it in self.members:
@@ -245,7 +296,14 @@ class Ladder:
         it, answer = refused
         self.tell("fallback", faults.name_of(answer.line()), f"{it.settings.name}: {faults.meaning(answer.status, answer.line())} ({answer.line()}); "
                                                              "no rendition has a fallback until its file is mended")
-        return self.are_judged([(it, it.put("decisions", NO_FALLBACK)) for it in self.members])
+        return self.give_no_fallback()
+
+    def give_no_fallback(self) -> bool:
+        """Takes the fallback from all renditions; whether all answered."""
+        is_answered = self.are_judged([(it, it.put("decisions", NO_FALLBACK)) for it in self.members])
+        for it in self.members if not is_answered else []:
+            it.fallback_stamp = None
+        return is_answered
 
     @staticmethod
     def are_judged(answers: list[tuple[Rendition, Answer]]) -> bool:
@@ -261,6 +319,7 @@ class Ladder:
         found = [(it, decision) for it in self.members if (decision := it.folder.named(name)) is not None]
         is_given = any(decision.state == "given" for _, decision in found)  # (and one channel was made anew since)
         late = [] if is_given else self.begun(sorted({id_ for _, decision in found for id_ in decision.ids}))
+        late += [id_ for id_ in dict.fromkeys(id_ for it, decision in found for id_ in it.settled(decision)) if not is_given and id_ not in late]
         absent = [it.settings.name for it in self.members if it.folder.named(name) is None]
         if absent:
             return self.wait_for_rest(name, found, absent, late)

@@ -8,18 +8,23 @@ from copy import copy
 from dataclasses import replace
 from pathlib import Path
 
-from . import numbers, packaged, repairs, spelling
-from .numbers import Standing, Viewed
+from . import numbers, packaged, repairs, spelling, standing
+from .date_ranges import read_range
+from .numbers import Viewed
 from .packaged import DATE_RANGE, PackagedList, PackagedSegment
-from .records import Record
+from .pods import Pods
+from .reckoning import Reckoned, Store
 from .repair import Choices, Head, Repaired, Repairer, count_on
 from .settings import Settings
 from .siblings import Siblings
 from .signalling import Signalling, as_listed
+from .standing import Book, Standing
 
 Tell = Callable[[str, int, str, str], None]  # who, status, fault, text: told unless the state of who is as it was
 SIGNAL = "SCTE35-OUT"
+MARK = f"\n{DATE_RANGE}".encode()
 QUIET = 60.0  # seconds for which the same isn't told again
+LOOK = 60.0  # seconds between two looks at the written playlist while no break begins or ends
 MOST_REMEMBERED = 120  # segments that left the list, for other renditions
 
 
@@ -32,7 +37,7 @@ class Lists:
                  clock: Callable[[], int] = time.time_ns) -> None:
         self.settings, self.tell, self.say, self.signalling, self.now, self.clock = settings, tell, say, signalling, now, clock
         self.path: Path | None = settings.keep / f"{settings.name}.numbers" if settings.keep and settings.repair else None
-        self.record = Record(self.path) if self.path else None
+        self.book = Book(self.path) if self.path else None
         choices = Choices(settings.target, settings.endless, settings.times)
         self.stands = Standing(Repairer(choices), Viewed(), b"", Counter())
         self.came: bytes | None = None  # the newest whole list
@@ -40,6 +45,8 @@ class Lists:
         self.pending: Repaired | None = None  # what is to be pushed
         self.text: bytes | None = None  # of it, or of what was pushed last
         self.ahead: bytes | None = None  # what is to be pushed before it
+        self.lines: list[str] = []  # the EXT-X-DATERANGE lines of the list that was taken last
+        self.seen_at = float("-inf")  # when the written playlist was looked at last
         self.is_open = False  # whether `text` is to be pushed, or was pushed and not answered
         self.before: Standing | None = None  # where the channel stood before it, if it was pushed
         self.is_aligned = False  # whether the first list was numbered as those of other renditions
@@ -69,6 +76,11 @@ class Lists:
         """Whether a list that doesn't go on is held back."""
         return self.stands.repairer.held_since is not None
 
+    @property
+    def pods(self) -> Pods:
+        """What its breaks began with."""
+        return self.stands.pods
+
     def owe(self, steps: int) -> None:
         """The next new segment has so many discontinuities (`steps`) more."""
         self.stands.repairer.owed = steps
@@ -80,24 +92,23 @@ class Lists:
         if self.path is None:
             return
         try:
-            found = numbers.load(self.path, choices)
+            found = standing.load(self.path, choices)
         except ValueError as fault:
             self.tell("numbers", 0, "Broken", f"{self.path}: {fault}; goes on without it")
             return
         if found is not None:
+            if found.is_converted:
+                self.tell("numbers", 0, "Converted", f"{self.path}: an earlier feed wrote it; it is read, and written as today's feed does")
             self.stands, self.text, self.is_open = found, found.text, True
+            self.signalling.go_on(self.settings.rendition(), found.repairer.last[-1])
             self.target = found.repairer.head.target if found.repairer.head else None
-
-    def is_resumed(self) -> bool:
-        """Whether it goes on from where an earlier feed ended, and has pushed nothing yet."""
-        return self.is_open and self.pending is None and bool(self.stands.repairer.last)
 
     def save(self) -> None:
         """Keeps where the channel stands."""
-        if self.record is None or not self.stands.repairer.last:
+        if self.book is None or not self.stands.repairer.last:
             return
         try:
-            self.record.write(numbers.pack(self.stands), {"repairs": self.stands.repairs})
+            self.book.write(self.stands)
             self.tell("numbers", 0, "", "" if self.is_kept else f"{self.path}: numbers are kept again")
             self.is_kept = True
         except OSError as fault:
@@ -150,8 +161,7 @@ class Lists:
             return
         self.count(found)
         if found.found is not None:
-            if self.signalling.translate(found.found, self.settings.rendition(), self.moved()):
-                found.came = None
+            self.signalling.translate(found.found, self.settings.rendition(), self.moved())
             self.learn(found.found)
         text = found.body()
         if text != self.stands.text:
@@ -194,23 +204,47 @@ class Lists:
 
     def sending(self) -> None:
         """The list is about to be pushed: keeps where the channel stands then, so that a feed that is killed now goes on from there."""
-        if self.ahead is None and self.pending is not None and self.pending.found is not None and self.before is None:
-            repairer, viewed, found = self.stands.repairer, self.stands.viewed, self.pending.found
-            self.before = replace(self.stands, repairer=copy(repairer), viewed=Viewed(viewed.begins, viewed.end, viewed.is_replaced, dict(viewed.ranges)))
-            repairer.accept(self.pending)
-            viewed.note(found.date_ranges(), found.segments[-1].number)
-            viewed.forget((repairer.past or repairer.last)[0].number)
-            self.stands.text = self.text or b""
+        if self.ahead is None and self.pending is not None and self.pending.found is not None:
+            if self.before is None:
+                self.accept(self.pending, self.pending.found)
+            self.enter()
         self.save()
 
+    def accept(self, pending: Repaired, found: PackagedList) -> None:
+        """The channel stands where it does once the list `found` of `pending` is taken; where it stood is known until it is."""
+        repairer, viewed = self.stands.repairer, self.stands.viewed
+        self.before = replace(self.stands, repairer=copy(repairer), viewed=replace(viewed, ranges=dict(viewed.ranges)))
+        repairer.accept(pending)
+        viewed.note(found.date_ranges(), found.segments[-1].number)
+        viewed.forget((repairer.past or repairer.last)[0].number)
+        self.stands.text = self.text or b""
+
+    def enter(self) -> None:
+        """The list that is about to be pushed enters breaks with what adsplice holds now, also if it was pushed before and wasn't answered."""
+        assert self.before is not None
+        last, listed = self.before.repairer.last, self.stands.repairer.last
+        new = listed[len(listed) - (listed[-1].number - last[-1].number):] if last and listed[-1].number >= last[-1].number else listed
+        fresh = [it.begins for it in new if it.begins is not None]
+        starts = {name: start for name, (start, _) in starts_in(self.stands.text).items()}
+        pods = self.pods.of(self.stands.window())
+        pods.enter(starts, self.before.viewed.ranges.keys(), fresh, self.signalling.translator.tolerance)
+        self.stands.pods = pods
+
     def taken(self) -> bool:
-        """The list was taken. Whether the written playlist has to be looked at to know its numbers."""
-        if self.ahead is not None:
+        """The list was taken. Whether the written playlist has to be looked at: its numbers aren't known, a break began or ended in it, or it
+        wasn't looked at for a while."""
+        self.lines = ranges_in(self.ahead or self.text or b"")
+        is_ahead, last, viewed = self.ahead is not None, self.stands.repairer.last, self.stands.viewed
+        if is_ahead:
             self.ahead = None
+        else:
+            self.is_open, self.before, self.pending = False, None, None
+        if not last or self.stands.repairer.head is None:
             return False
-        self.is_open, self.before, self.pending = False, None, None
-        last = self.stands.repairer.last
-        return bool(last) and (self.is_signalled() or not self.stands.viewed.reckon(last))
+        store, tolerance = Store(self.pods.held, self.pods.fallback), self.signalling.translator.tolerance
+        is_known = viewed.reckon(last, self.lines, store, tolerance, self.stands.repairer.head.target)
+        is_marked = viewed.reckoned is not None and viewed.reckoned.is_marked
+        return not is_ahead and (not is_known or is_marked or self.now() - self.seen_at >= LOOK)
 
     def may_enter(self, tolerance: int) -> bool:
         """Whether a break may begin with the next segment: one is listed whose start is within `tolerance` of the newest segment's end,
@@ -223,15 +257,20 @@ class Lists:
         starts = [packaged.instant_of(it.get("START-DATE", "")) for it in found]
         return any(it is not None and -tolerance <= it - end <= tolerance + last.duration for it in starts)
 
-    def is_signalled(self) -> bool:
-        """Whether the list that was pushed last has a break."""
-        newest = self.stands.repairer.last[-1].number
-        return any(SIGNAL in line and number == newest for line, number in self.stands.viewed.ranges.values())
-
     def see(self, written: bytes) -> None:
-        """Adsplice wrote `written` after the list that was taken last."""
-        if (items := numbers.items_of(written)) and self.stands.repairer.last:
-            self.stands.viewed.see(items, self.stands.repairer.last)
+        """Adsplice wrote `written` after the list that was taken last: if it has other numbers than were reckoned, these hold."""
+        end, last, viewed = numbers.end_of(written), self.stands.repairer.last, self.stands.viewed
+        if end is None or not last:
+            return
+        self.seen_at = self.now()
+        if viewed.reckoned is not None and (viewed.reckoned.end() == end or self.newest.is_ended):
+            self.tell("written", 0, "", "")
+            return
+        if viewed.reckoned is not None:
+            self.tell("written", 0, "Others", f"adsplice's list ends with media number {end[0]} and discontinuity number {end[1]}, and not with "
+                                              "what it was given here: perhaps somebody else gave it a decision; goes by what it wrote")
+        viewed.see(numbers.items_of(written), last)
+        viewed.learn(last, self.lines)
 
     def refused(self) -> None:
         """The list was refused: the next one follows the one before it."""
@@ -239,7 +278,8 @@ class Lists:
             self.ahead = None
             return
         if self.before is not None:
-            self.stands, self.before = replace(self.before, repairs=self.stands.repairs, files=self.stands.files, over=self.stands.over), None
+            stands, pods = self.stands, replace(self.pods, entered=self.before.pods.entered, missed=self.before.pods.missed)
+            self.stands, self.before = replace(self.before, repairs=stands.repairs, files=stands.files, over=stands.over, pods=pods), None
             self.save()
         self.is_open, self.pending = False, None
 
@@ -262,7 +302,8 @@ class Lists:
     def begin_anew(self) -> None:
         """The channel is new: its first list begins where viewers' list stood."""
         self.signalling.begin_anew()
-        self.ahead = None
+        self.pods.begin_anew()
+        self.ahead, self.stands.viewed.reckoned = None, Reckoned()
         self.is_anew, self.stands.text = bool(self.stands.repairer.last), b""
         if self.stands.repairer.head is not None and self.settings.target is not None:
             self.stands.repairer.head.target = self.settings.target  # (a new channel may have another one)
@@ -271,7 +312,7 @@ class Lists:
 
     def resume(self) -> bool:
         """Makes the first list of a new channel ready, by which it writes what viewers have: the newest list, and before it the
-        segments from which on its first one has its numbers. Whether there is one."""
+        segments from which on its first one has its numbers. It says nothing of breaks that were missed. Whether there is one."""
         self.is_anew = False
         repairer, viewed = self.stands.repairer, self.stands.viewed
         newest = repairer.take(self.came, self.now(), self.clock()) if self.came is not None else Repaired()
@@ -289,6 +330,7 @@ class Lists:
         media, discontinuity = viewed.begins[first.number]
         lines = [line for line, number in viewed.ranges.values() if number >= first.number]
         lines += newest.found.date_ranges() if newest.found is not None else []
+        lines = [line for line in lines if not ids_in([line]) & self.pods.missed]
         media, discontinuity = media - first.number, discontinuity - first.discontinuity
         repairer.renumber(media, discontinuity, listed)
         viewed.renumber(media)
@@ -312,7 +354,7 @@ class Lists:
         count_on(PackagedSegment("", 0, number=number, discontinuity=discontinuity), segments)
         moved = stands.repairer.moved + number - stands.repairer.last[-1].number
         self.signalling.translate(first.found, self.settings.rendition(), moved)
-        self.stands = replace(stands, repairer=Repairer(stands.repairer.choices, stands.repairer.siblings), viewed=Viewed(end=stands.viewed.end))
+        self.stands = replace(stands, repairer=Repairer(stands.repairer.choices, stands.repairer.siblings), viewed=Viewed(end=stands.viewed.end, reckoned=Reckoned()))
         self.stands.repairer.moved = moved
         self.pending, self.text, self.is_open, self.is_new = first, packaged.write(first.found), True, False
         self.learn(first.found)
@@ -324,14 +366,23 @@ def ids_in(ranges: Iterable[str]) -> set[str]:
     return {name for line in ranges if (name := packaged.attributes_of(line.partition(":")[2]).get("ID"))}
 
 
+def ranges_in(text: bytes) -> list[str]:
+    """The EXT-X-DATERANGE lines of the list `text`."""
+    found, begin = [], text.find(MARK)
+    while begin >= 0:
+        end = text.find(b"\n", begin + 1)
+        found.append(text[begin + 1:end if end >= 0 else len(text)].decode("utf-8", "replace").rstrip("\r"))
+        begin = text.find(MARK, end) if end >= 0 else -1
+    return found
+
+
 def starts_in(text: bytes) -> dict[str, tuple[int, bytes]]:
     """The signalled breaks of the list `text`, which the feed wrote, by their IDs: each one's START-DATE and its line."""
     found = {}
-    for line in text.split(b"\n"):
-        if line.startswith(DATE_RANGE.encode()) and SIGNAL.encode() in line:
-            said = packaged.attributes_of(line.decode("utf-8", "replace").partition(":")[2])
-            if (start := packaged.instant_of(said.get("START-DATE", ""))) is not None and "ID" in said:
-                found[said["ID"]] = start, line
+    for line in ranges_in(text):
+        it = read_range(line)
+        if SIGNAL in it.said and it.id and (start := it.start()) is not None:
+            found[it.id] = start, line.encode()
     return found
 
 

@@ -18,7 +18,7 @@ from .origin import Origin, origin_of, read_whole
 from .pauses import Pauses
 from .settings import Settings
 from .siblings import absolute
-from .web import Client
+from .web import Client, strays
 from .whole_files import write_aside
 from .words import Fault, now_text
 
@@ -94,15 +94,30 @@ def names_of(found: Master, names: list[str]) -> list[str]:
     return names or [str(it + 1) for it in range(len(found.uris))]
 
 
+def place_of(uri: str, programme: Settings) -> str:
+    """Where the rendition of the `uri` is read that the master playlist of the `programme` names: a URL of the same origin, or a file of the
+    master playlist's folder if that is a file; raises Fault if it is another place."""
+    if " " in uri or not uri.isprintable():
+        raise Fault(f"a rendition's URI isn't one URL, for it has a space or a sign that isn't printed: {uri[:100]!r}")
+    first = programme.origin if programme.is_web() else programme.base
+    if programme.is_web() or uri.startswith("//") or urllib.parse.urlsplit(uri).scheme:
+        place = urllib.parse.urljoin(first, uri)
+        if why := strays(place, first, programme.redirects):
+            raise Fault(f"a rendition isn't read, {uri[:100]!r}: {why}")
+        return place
+    path = os.path.normpath(uri.partition("?")[0])
+    if os.path.isabs(path) or path.startswith(os.pardir):
+        raise Fault(f"a rendition isn't read, {uri[:100]!r}: it isn't in the master playlist's folder")
+    return os.path.join(os.path.dirname(programme.origin), path)
+
+
 def channels_of(found: Master, programme: Settings) -> list[Settings]:
     """A channel for each rendition of the master playlist `found`, by the settings of its `programme`; raises Fault."""
     channels = []
     for name, uri in zip(names_of(found, programme.names), found.uris):
         texts = {key: value.replace(settings.PLACE, name) if value else value for key, value in programme.texts.items()}
-        base = urllib.parse.urljoin(programme.base, uri)
-        is_url = programme.is_web() or uri.startswith(("http://", "https://"))
-        origin = urllib.parse.urljoin(programme.origin, uri) if is_url else os.path.join(os.path.dirname(programme.origin), uri.partition("?")[0])
-        one = settings.settings_of(f"{programme.name}-{name}", {**texts, "origin": origin, "base": base})
+        place, base = place_of(uri, programme), urllib.parse.urljoin(programme.base, uri)
+        one = settings.settings_of(f"{programme.name}-{name}", {**texts, "base": base}, (place, ""))
         channels.append(replace(one, programme=programme.name, group=found.groups.get(uri, "")))
     return channels
 
@@ -144,7 +159,7 @@ class Programme:
         try:
             if found.body is not None:
                 self.take(read(found.body, self.settings.base))
-        except (Fault, OSError) as fault:
+        except (Fault, OSError, ValueError) as fault:  # (a URI may have no host that reads)
             self.origin.forget()
             self.tell("Refused", f"{fault}; reads it again with growing pauses")
             return False
@@ -154,8 +169,8 @@ class Programme:
         """Begins to feed the renditions of `found` if that wasn't done, and writes the master playlist for viewers."""
         channels = channels_of(found, self.settings)
         if not self.uris:
-            self.uris = found.uris
             self.begin(channels)
+            self.uris = found.uris
         if found.uris != self.uris:
             self.tell("Changed", "the master playlist has other renditions than at first: start the feed anew to feed them")
             return

@@ -15,7 +15,7 @@ from .as_run import BEAT, KEYS, AsRun, Log
 from .journal import BEAT as BEAT_FILE
 from .kept import EVENTS, Kept
 from .masters import written_names
-from .numbers import repairs_kept
+from .standing import repairs_kept
 from .origins import NAMES
 from .reconcile import report
 from .watch import UNFILLABLE, WORDS, Watch
@@ -79,7 +79,8 @@ def watches_of(said: argparse.Namespace) -> list[Watch]:
     """A watch for each channel that the words `said` name; raises Fault."""
     channels = [(it, said.at, said.kept, True) for it in said.channel]
     if said.config is not None:
-        known = {name: (name, said.at or it.at, said.kept or it.keep, bool(it.decisions or it.texts.get("decisions"))) for it in told.read_file(said.config)
+        known = {name: (name, said.at or it.at, said.kept or it.keep, bool(it.decisions or it.texts.get("decisions")))
+                 for it in told.read_right(said.config, lambda name, text: Trouble(name).tell(f"{text}; goes on without it"))
                  for name in (written_names(it) if it.master else [it.name])}
         channels = [known[it] for it in said.channel or known if it in known]
         if missing := set(said.channel) - set(known):

@@ -7,11 +7,13 @@ from __future__ import annotations
 
 from collections.abc import Callable, Iterable
 from dataclasses import dataclass, field
+from functools import lru_cache
 from typing import NamedTuple
 
 from . import playlist
 from .spelling import Unread
 
+REMEMBERED = 4096  # dates and times that were read: those of a break stand in each list
 MOST_SEGMENTS = 10_000  # of a list that adsplice takes
 MOST_ATTRIBUTES = 64  # of a tag that adsplice takes
 EARLIEST, LATEST = -2_208_988_800 * playlist.SECOND, 7_258_118_400 * playlist.SECOND  # instants from 1900 on, before 2200
@@ -46,7 +48,8 @@ class InitSection(NamedTuple):
 class PackagedSegment:
     """A listed segment.
 
-    As the packager has it: its `uri`, its media number `own`, its `duration` in nanoseconds, its `byte_range` (length and offset;
+    As the packager has it: its `uri`, its media number `own`, its `duration` in nanoseconds, which is `said` otherwise if a later list
+    corrects it, its `byte_range` (length and offset;
     no offset if nothing says it), the `keys` and the `section` in force, the instant `stated` by its EXT-X-PROGRAM-DATE-TIME (in
     nanoseconds from 1970), how many EXT-X-DISCONTINUITY stand right before it (`discontinuities`), and its other lines (`tags`),
     of which EXTINF is one; whether it isn't there (`is_gap`), and how many such segments come right before it (`gaps`), of how many
@@ -70,6 +73,7 @@ class PackagedSegment:
     number: int = 0
     discontinuity: int = 0
     begins: int | None = None
+    said: int = 0
 
     def effective_keys(self) -> Keys:
         """Its keys. If the feed's number is another than the packager's, the packager's is the IV of a key that has the number as
@@ -87,7 +91,9 @@ class PackagedSegment:
 class PackagedList:
     """A media playlist: the values of its tags (RFC 8216, 4.3.3), none for those that it hasn't, its `segments`, and the
     lines after the last one: `tail_tags` and `tail_discontinuities`. `others` are the names of tags
-    that change what the list means, and of instants that don't read."""
+    that change what the list means, and of instants that don't read. `signals`: the EXT-X-DATERANGE lines in place of its own; none if
+    it keeps those. `marked`: the places of the segments before which its own stand, once these were looked for; `pieces`: the text
+    of each segment, once it was written."""
 
     version: int | None = None
     target: int | None = None
@@ -100,11 +106,21 @@ class PackagedList:
     tail_tags: list[str] = field(default_factory=list)
     tail_discontinuities: int = 0
     others: set[str] = field(default_factory=set)
+    signals: list[str] | None = None
+    marked: list[int] | None = None
+    pieces: list[bytes] | None = None
+
+    def own_ranges(self) -> list[tuple[int, int, str]]:
+        """The packager's EXT-X-DATERANGE lines: the place of the segment before which each stands (past the last one after it), its
+        place among the tags there, and the line."""
+        if self.marked is None:
+            self.marked = [place for place, it in enumerate(self.segments) if any(line.startswith(DATE_RANGE) for line in it.tags)]
+        tags = [(place, self.segments[place].tags) for place in self.marked] + [(len(self.segments), self.tail_tags)]
+        return [(place, at, line) for place, lines in tags for at, line in enumerate(lines) if line.startswith(DATE_RANGE)]
 
     def date_ranges(self) -> list[str]:
         """Its EXT-X-DATERANGE lines, those after the last segment, too."""
-        lines = [line for it in self.segments for line in it.tags] + self.tail_tags
-        return [line for line in lines if line.startswith(DATE_RANGE)]
+        return [line for _, _, line in self.own_ranges()] if self.signals is None else self.signals
 
 
 def attributes_of(text: str) -> dict[str, str]:
@@ -136,6 +152,7 @@ def decimal_of(text: str) -> int | None:
     return number if (number := int(text)) <= MOST_NUMBER else None
 
 
+@lru_cache(REMEMBERED)
 def instant_of(text: str) -> int | None:
     """The nanoseconds from 1970 of the date and time `text`; none if it isn't one of the years 1900 to 2199."""
     found = playlist.read_instant(text) if len(text) <= 40 else None
@@ -216,7 +233,7 @@ class Reader:
 
     def duration(self, line: str, rest: str) -> None:
         """EXTINF (4.3.2.1)."""
-        self.next.duration = duration_of(rest) or 0
+        self.next.duration = self.next.said = duration_of(rest) or 0
         self.next.tags.append(line)
 
     def gap(self, line: str, rest: str) -> None:
@@ -255,6 +272,18 @@ class Reader:
         segments.append(it)
         self.next = PackagedSegment("", 0)
 
+    def take(self, lines: Iterable[str]) -> None:
+        """Takes in the `lines` of a list, without their ends, blank lines and comments; raises Unread if there are too many segments."""
+        for line in lines:
+            if line[0] != "#":
+                self.segment(line)
+                continue
+            name, _, rest = line.partition(":")
+            if (tag := TAGS.get(name)) is None:
+                self.next.tags.append(line)
+            elif name not in WHOLE or self.is_placed(name):
+                tag(self, line, rest)
+
     def end(self) -> PackagedList:
         """What was found, once all lines were read. EXT-X-MEDIA-SEQUENCE counts wherever it stood."""
         found = self.found
@@ -284,46 +313,40 @@ TAGS: dict[str, Callable[[Reader, str, str], None]] = {
 
 
 def read(lines: Iterable[str]) -> PackagedList:
-    """What the `lines` of a list say, without their ends, blank lines and comments; raises Unread if there are too many segments."""
+    """What the `lines` of a list say; the rest as in Reader.take."""
     reader = Reader()
-    for line in lines:
-        if line[0] != "#":
-            reader.segment(line)
-            continue
-        name, _, rest = line.partition(":")
-        if (tag := TAGS.get(name)) is None:
-            reader.next.tags.append(line)
-        elif name not in WHOLE or reader.is_placed(name):
-            tag(reader, line, rest)
+    reader.take(lines)
     return reader.end()
 
 
 # ---- writing
 
-def write(found: PackagedList, signals: list[str] | None = None) -> bytes:
-    """The list `found` as text, with the feed's numbers and instants. `signals`: the EXT-X-DATERANGE lines that stand in its head
-    in place of those among its tags."""
+def write(found: PackagedList, ranges: list[str] | None = None) -> bytes:
+    """The list `found` as text, with the feed's numbers and instants. Its date ranges stand in its head; `ranges` are EXT-X-DATERANGE
+    lines in place of them."""
     first = found.segments[0]
     lines = ["#EXTM3U"] + ([f"#EXT-X-VERSION:{found.version}"] if found.version is not None else [])
     lines += [f"#EXT-X-TARGETDURATION:{found.target}", f"#EXT-X-MEDIA-SEQUENCE:{first.number}",
               f"#EXT-X-DISCONTINUITY-SEQUENCE:{first.discontinuity - first.discontinuities}"]
     lines += [f"#EXT-X-PLAYLIST-TYPE:{found.kind}"] if found.kind else []
-    lines += (["#EXT-X-INDEPENDENT-SEGMENTS"] if found.is_independent else []) + (signals or [])
-    keys: Keys = ()
-    section: InitSection | None = None
-    for it in found.segments:
-        lines += ["#EXT-X-DISCONTINUITY"] * it.discontinuities
-        if it.section is not None and it.section != section:
-            lines += [*changed_keys(keys, it.section.keys), f"#EXT-X-MAP:{it.section.text}"]
-            section, keys = it.section, it.section.keys
-        effective = it.effective_keys()
-        if effective != keys:
-            lines += changed_keys(keys, effective)
-            keys = effective
-        lines += media_lines(it, signals is not None)
-    lines += [line for line in found.tail_tags if line.startswith(DATE_RANGE)] if signals is None else []
-    lines += ["#EXT-X-ENDLIST"] if found.is_ended else []
-    return "".join(f"{line}\n" for line in lines).encode()
+    lines += (["#EXT-X-INDEPENDENT-SEGMENTS"] if found.is_independent else []) + (found.date_ranges() if ranges is None else ranges)
+    head = "".join(f"{line}\n" for line in lines).encode()
+    if found.pieces is None:
+        found.pieces = [piece_of(before, it) for before, it in zip((None, *found.segments), found.segments)]
+    return b"".join([head, piece_of(None, first), *found.pieces[1:], b"#EXT-X-ENDLIST\n" if found.is_ended else b""])
+
+
+def piece_of(before: PackagedSegment | None, it: PackagedSegment) -> bytes:
+    """The text of the segment `it` in a list in which it follows the segment `before`; none if it is the first one. Keys and
+    initialisation sections are stated where they change."""
+    lines = ["#EXT-X-DISCONTINUITY"] * it.discontinuities
+    keys, section = (before.effective_keys(), before.section) if before is not None else ((), None)
+    if it.section is not None and it.section != section:
+        lines += [*changed_keys(keys, it.section.keys), f"#EXT-X-MAP:{it.section.text}"]
+        keys = it.section.keys
+    if (effective := it.effective_keys()) != keys:
+        lines += changed_keys(keys, effective)
+    return "".join(f"{line}\n" for line in [*lines, *media_lines(it)]).encode()
 
 
 def changed_keys(old: Keys, new: Keys) -> list[str]:
@@ -333,10 +356,9 @@ def changed_keys(old: Keys, new: Keys) -> list[str]:
     return none + [f"#EXT-X-KEY:{it.text}" for it in new if is_ended or it not in old]
 
 
-def media_lines(it: PackagedSegment, is_signalled: bool) -> list[str]:
-    """The lines of the segment `it` from its tags to its URI; without its date ranges if `is_signalled` says that they stand in
-    the head."""
-    lines = [line for line in it.tags if not (is_signalled and line.startswith(DATE_RANGE))]
+def media_lines(it: PackagedSegment) -> list[str]:
+    """The lines of the segment `it` from its tags to its URI, without date ranges."""
+    lines = [line for line in it.tags if not line.startswith(DATE_RANGE)]
     if it.byte_range is not None:
         length, offset = it.byte_range
         lines.append(f"#EXT-X-BYTERANGE:{length}" + ("" if offset is None else f"@{offset}"))

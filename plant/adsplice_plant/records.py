@@ -9,7 +9,7 @@ import json
 from collections.abc import Mapping
 from pathlib import Path
 
-from .edits import edit_of, edited, lines_of
+from .edits import edit_of_lines, edited, lines_of
 from .journal import append
 from .whole_files import write_aside
 
@@ -40,7 +40,7 @@ class Record:
             write_aside(self.path, text.encode() + b"\n")
             self.since = 0
         else:
-            data = json.dumps({**beside, "edit": edit_of(before, now)}).encode() + b"\n"
+            data = json.dumps({**beside, "edit": edit_of_lines(before, now)}).encode() + b"\n"
             append(self.path, data)
             self.since += len(data)
         self.pieces = now

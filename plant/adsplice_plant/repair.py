@@ -5,12 +5,15 @@ which nothing is wrong stays as it came, byte for byte. What was listed before i
 """
 from __future__ import annotations
 
+from bisect import bisect_left
 from dataclasses import dataclass, field, replace
+from itertools import dropwhile
 
-from . import packaged, repairs, spelling
+from . import growth, packaged, repairs, spelling
+from .growth import Accepted
 from .packaged import PackagedList, PackagedSegment
 from .playlist import SECOND
-from .siblings import Siblings
+from .siblings import Siblings, middle_of
 from .spelling import Kinds, Unread
 from .succession import Place, is_same, lags, place_of
 
@@ -20,6 +23,7 @@ UNTAKEN = {"EXT-X-SKIP", "EXT-X-DEFINE"}  # without what they refer to, a list s
 OTHER_LISTS = {"EXT-X-I-FRAMES-ONLY", "EXT-X-STREAM-INF", "EXT-X-MEDIA", "EXT-X-I-FRAME-STREAM-INF", "EXT-X-SESSION-DATA", "EXT-X-SESSION-KEY"}
 NOTED = {"EXT-X-PROGRAM-DATE-TIME": "instants", packaged.MISPLACED: "sequence tags"}  # what the reader noted, and the repair
 MOST_PAST = 1_000  # segments that left the list and are remembered
+LEAST = 3  # target durations that a list lasts at least, if it did before (RFC 8216, 6.2.2)
 
 
 @dataclass(frozen=True)
@@ -40,11 +44,34 @@ class Head:
     kind: str | None
 
 
+@dataclass(frozen=True)
+class Lead:
+    """What stays listed in front of the list of a packager that began again. Segments from the media number `first` on were taken from
+    another rendition: they stay until the list has `count` segments. What was listed before stays until the list lasts `least` nanoseconds."""
+
+    first: int
+    count: int
+    least: int
+
+    def before(self, earlier: list[PackagedSegment], segments: list[PackagedSegment]) -> list[PackagedSegment]:
+        """Those of the segments that were listed `earlier` which stay in front of `segments`."""
+        place, lasts = len(earlier), lasting(segments)
+        while place and (lasts < self.least or (earlier[place - 1].number >= self.first and len(segments) + len(earlier) - place < self.count)):
+            place -= 1
+            lasts += earlier[place].duration
+        return [without_ranges(it) for it in earlier[place:]]
+
+    def is_over(self, segments: list[PackagedSegment]) -> bool:
+        """Whether nothing stays in front of `segments`."""
+        return len(segments) >= self.count and lasting(segments) >= self.least
+
+
 @dataclass
 class Repaired:
     """A list to be pushed: as data (`found`), and as it came, if nothing was wrong (`came`). `kinds` are the repairs with what is told
     of each. It is none of these if `why` says why nothing is pushed; `waits` if the same list may be taken later. `steps` are the
-    discontinuities that were added for other renditions; `lead` is the first segment taken from one, and how many are listed."""
+    discontinuities that were added for other renditions; `front` segments stay in front of the packager's own, by the `lead`. The next
+    list may go on from what is `accepted`, if this one is."""
 
     found: PackagedList | None = None
     head: Head | None = None
@@ -53,14 +80,16 @@ class Repaired:
     why: str = ""
     waits: bool = False
     steps: int = 0
-    lead: tuple[int, int] | None = None
+    lead: Lead | None = None
+    front: int = 0
+    accepted: Accepted | None = None
 
-    def body(self, signals: list[str] | None = None) -> bytes:
-        """The text to push. `signals`: the EXT-X-DATERANGE lines that stand in place of its own, if these were translated."""
-        if signals is None and self.came is not None:
+    def body(self) -> bytes:
+        """The text to push."""
+        if self.came is not None and (self.found is None or self.found.signals is None):
             return self.came
         assert self.found is not None
-        return packaged.write(self.found, signals)
+        return packaged.write(self.found)
 
 
 class Repairer:
@@ -76,13 +105,17 @@ class Repairer:
         self.held_since: float | None = None  # when the first list that didn't go on was seen
         self.moved = 0  # by how much its media numbers are greater than the programme's, since the channel was made anew
         self.owed = 0  # discontinuities that the next new segment has for other renditions
-        self.lead: tuple[int, int] | None = None  # the first segment that was taken from another rendition, and how many are listed with it
+        self.lead: Lead | None = None  # what stays in front of the packager's list, since it began again
+        self.front = 0  # segments of the last list that the packager's own hadn't
+        self.accepted: Accepted | None = None  # the last list, if the next one may go on from its text
 
     # ---- a list
 
     def take(self, body: bytes, now: float, clock: int) -> Repaired:
         """What is to be pushed of the list `body`. `now`: seconds of a clock that never goes back; `clock`: the time of day in
         nanoseconds from 1970. Nothing is kept of it before it is accepted, except how long lists have been held back."""
+        if (grown := self.grow(body)) is not None:
+            return grown
         kinds: Kinds = set()
         try:
             found = packaged.read(spelling.lines_of(body, kinds))
@@ -97,6 +130,7 @@ class Repairer:
     def follow(self, found: PackagedList, body: bytes, kinds: dict[str, str], now: float, clock: int) -> Repaired:
         """What is to be pushed of the list `found`, whose text `body` had repairs of `kinds`; the rest as in `take`."""
         kinds |= {kind: "" for name, kind in NOTED.items() if name in found.others}
+        said = growth.head_of(found)
         counted = (found.discontinuity_sequence, [it.discontinuities for it in found.segments])
         drop_gaps(found, kinds)
         if not found.segments:
@@ -105,19 +139,19 @@ class Repairer:
         is_untimed = not is_timed and self.choices.adds_times and found.kind != "VOD"
         intern(self.last, found.segments)
         has_instants = is_timed and not self.adds
-        place = place_of(self.last, found.segments, has_instants, self.held_since is not None) if self.last else None
+        own = self.last[self.front:]
+        place = place_of(own, found.segments, has_instants, self.held_since is not None) if own else None
         if self.last and len({it.section is None for it in (self.last[-1], *found.segments)}) > 1:
             return Repaired(why=repairs.SECTIONS)
-        lead = self.lead
+        lead, front = self.lead, 0
         if place is not None:
-            lead = self.go_on(found, place, kinds)
+            lead, front = self.go_on(found, place, kinds)
         elif not self.last:
             self.begin(found)
         elif (held := self.hold(found, has_instants, now, clock if is_untimed else None)) is not None:
             return held
         else:
-            kinds["began again"] = self.begin_again(found, kinds)
-            lead = (self.last[-1].number + 1, len(self.last)) if "other renditions" in kinds else None
+            lead, front = self.begin_again(found, kinds)
         steps = self.add_steps(found, kinds)
         self.set_times(found, False)
         if is_timed:
@@ -128,7 +162,31 @@ class Repairer:
             self.add_times(found.segments, clock)
         head = self.set_head(found, kinds)
         self.tell_numbers(found, counted, kinds)
-        return Repaired(found, head, None if kinds else body, kinds, steps=steps, lead=lead)
+        accepted = None if steps or lead or front else growth.accepted_of(body, said, found, counted[1], kinds)
+        return Repaired(found, head, None if kinds else body, kinds, steps=steps, lead=lead, front=front, accepted=accepted)
+
+    def grow(self, body: bytes) -> Repaired | None:
+        """What is to be pushed of the list `body` if its text goes on from the last one's; none if it has to be read as a whole."""
+        before, head = self.accepted, self.head
+        if before is None or head is None or self.owed or self.lead or self.held_since is not None:
+            return None
+        fresh = growth.fresh_of(before, body)
+        if fresh is None or any(rounded(it.duration) > head.target for it in fresh.new):
+            return None
+        kinds: dict[str, str] = {}
+        if fresh.new:
+            count_on(self.last[-1], fresh.new)
+            self.set_times(PackagedList(segments=fresh.new), False)
+            if "times" in before.repairs:
+                self.agree(fresh.new)
+            elif any(it.stated is None for it in fresh.new):
+                self.follow_clock(growth.kept_by(before, fresh) + fresh.new, kinds)
+        if any(it.begins is None for it in fresh.new):
+            return None
+        found = growth.grown(before, fresh)
+        kinds |= growth.repairs_after(before, fresh, found)
+        accepted = None if "clock" in kinds else Accepted(body, before.head, kinds, found)
+        return Repaired(found, head, None if kinds else body, kinds, accepted=accepted)
 
     def hold(self, found: PackagedList, has_instants: bool, now: float, clock: int | None) -> Repaired | None:
         """Why the list `found`, which doesn't go on, isn't taken now; none if it is to be taken as one that began again, and its
@@ -152,14 +210,17 @@ class Repairer:
         if (found := repaired.found) is None:
             return
         self.head, self.adds, self.held_since = repaired.head, "times" in repaired.kinds, None
-        self.owed, self.lead = max(0, self.owed - repaired.steps), repaired.lead
-        first = found.segments[0].number
-        self.past = [it for it in (*self.past, *self.last) if it.number < first][-MOST_PAST:]
+        self.owed, self.lead, self.front = max(0, self.owed - repaired.steps), repaired.lead, repaired.front
+        self.accepted = repaired.accepted
+        history = self.past + self.last
+        gone = bisect_left(history, found.segments[0].number, key=lambda it: it.number)
+        self.past = history[max(0, gone - MOST_PAST):gone]
         self.last = found.segments
 
     def renumber(self, media: int, discontinuity: int, listed: list[PackagedSegment]) -> None:
         """All numbers grow by `media` and `discontinuity`, those of the segments `listed`, too: a new channel begins with others."""
         self.moved += media
+        self.accepted = None
         for it in {id(it): it for it in (*self.past, *self.last, *listed)}.values():
             it.number, it.discontinuity = it.number + media, it.discontinuity + discontinuity
 
@@ -180,44 +241,60 @@ class Repairer:
             for it in found.segments:
                 it.number, it.discontinuity = it.number + media, it.discontinuity + steps
 
-    def begin_again(self, found: PackagedList, kinds: dict[str, str]) -> str:
-        """A list without a segment of the last one goes on after it, with a discontinuity; answers what is told of it. In a programme
-        of several renditions it goes on where these have its instant: what they have shown meanwhile is taken from one of them."""
+    def begin_again(self, found: PackagedList, kinds: dict[str, str]) -> tuple[Lead | None, int]:
+        """A list without a segment of the last one goes on after it, with a discontinuity. In a programme of several renditions it goes on
+        where the last one ended: what the others have shown meanwhile is taken from one of them. Answers what is to stay in front of
+        the lists after it, and how many segments do in front of this one."""
         last, first = self.last[-1], found.segments[0]
-        text = repairs.BEGAN_AGAIN.format(first.own, last.own, last.number + 1)
-        number = self.siblings.number_at(first.begins) if self.siblings else None
-        while self.siblings and number is not None and number <= last.number and len(found.segments) > 1:
-            found.segments = found.segments[1:]
-            first = found.segments[0]
-            number = self.siblings.number_at(first.begins)
-        first.discontinuities = max(1, first.discontinuities)
-        if self.siblings and number is not None and number > last.number + 1:
-            if borrowed := self.siblings.borrowed(last.number + 1, number):
-                kinds["other renditions"] = ""
-                borrowed[0].discontinuities = 1
-                found.segments = borrowed + found.segments
-        count_on(last, found.segments)
-        return text
+        kinds["began again"] = repairs.BEGAN_AGAIN.format(first.own, last.own, last.number + 1)
+        taken = self.taken_meanwhile(found, self.siblings) if self.siblings is not None else []
+        found.segments[0].discontinuities = max(1, found.segments[0].discontinuities)
+        if taken:
+            kinds["other renditions"] = ""
+            taken[0].discontinuities = 1
+        new = taken + found.segments
+        count_on(last, new)
+        least = LEAST * (self.head.target if self.head else 0) * SECOND
+        lead = Lead(new[0].number, len(self.last) if taken else 0, min(least, lasting(self.last)))
+        stays = lead.before(self.last, new)
+        if stays:
+            kinds["few segments"] = ""
+        stays += taken
+        is_over = lead.is_over(found.segments)
+        found.segments = stays + found.segments
+        return None if is_over else lead, len(stays)
 
-    def go_on(self, found: PackagedList, place: Place, kinds: dict[str, str]) -> tuple[int, int] | None:
-        """The list `found` goes on at `place`: what was listed stays what it was, and what is new is counted on. What was taken from
-        another rendition stays listed until the list is as long as it was; answers what of it is to stay (`lead`)."""
+    def taken_meanwhile(self, found: PackagedList, siblings: Siblings) -> list[PackagedSegment]:
+        """What other renditions have shown between the last list and `found`, which began again. Of that list what lies before the end of the
+        last one is left out, since viewers have seen it."""
+        last = self.last[-1]
+        if last.begins is None:
+            return []
+        end = last.begins + last.duration
+        found.segments = list(dropwhile(lambda it: it.begins is not None and middle_of(it) < end, found.segments)) or found.segments[-1:]
+        first = found.segments[0].begins
+        return siblings.between(end, first) if first is not None else []
+
+    def go_on(self, found: PackagedList, place: Place, kinds: dict[str, str]) -> tuple[Lead | None, int]:
+        """The list `found` goes on at `place`: what was listed stays what it was, and what is new is counted on. Answers the same as
+        `begin_again`."""
         if place.offset < 0:
             kinds["older segments"] = ""
             found.segments = found.segments[-place.offset:]
         if place.way == "segments":
             kinds["numbers"] = ""
-        offset = max(0, place.offset)
-        kept = self.last[offset: offset + len(found.segments)]
+        first = self.front + max(0, place.offset)
+        kept = self.last[first: first + len(found.segments)]
         for it, old in zip(found.segments, kept):
             keep(it, old, kinds)
         count_on(kept[-1] if kept else self.last[-1], found.segments[len(kept):])
-        if self.lead is None or len(found.segments) >= self.lead[1]:
-            return None
-        first, count = self.lead
-        before = [it for it in self.last[:offset] if it.number >= first]
-        found.segments = before[len(found.segments) - count:] + found.segments
-        return self.lead
+        if self.lead is None or self.lead.is_over(found.segments):
+            return None, 0
+        stays = self.lead.before(self.last[:first], found.segments)
+        for it in stays:
+            kinds["other renditions" if self.lead.count and it.number >= self.lead.first else "few segments"] = ""
+        found.segments = stays + found.segments
+        return self.lead, len(stays)
 
     def add_steps(self, found: PackagedList, kinds: dict[str, str]) -> int:
         """Adds the discontinuities that are owed for other renditions to the first new segment of `found`; answers how many."""
@@ -253,7 +330,7 @@ class Repairer:
         for it in segments:
             if it.begins is None:
                 it.begins = it.stated if it.stated is not None else (ended + it.gap if ended is not None else None)
-            ended = it.begins + it.duration if it.begins is not None and packaged.is_instant(it.begins) else None
+            ended = it.begins + it.said if it.begins is not None and packaged.is_instant(it.begins) else None  # (as it was corrected)
             it.begins = it.begins if ended is not None else None
         for before, it in zip(segments[-2::-1], segments[:0:-1]):
             if before.begins is None and it.begins is not None:
@@ -268,7 +345,7 @@ class Repairer:
             if it.number > self.last[-1].number and said is not None and it.begins is not None and abs(said - it.begins) > max(SECOND, it.duration):
                 kinds["clock"] = ""
                 it.stated = it.begins = said
-            ended = None if said is None else said + it.duration
+            ended = None if said is None else said + it.said
 
     def end_of(self, first: PackagedSegment) -> int | None:
         """The instant at which the segment before `first` ended, if that is the last one of the last list and its instant is known."""
@@ -279,9 +356,10 @@ class Repairer:
     def agree(self, segments: list[PackagedSegment]) -> None:
         """Gives the new ones of `segments`, which state no instant, those of the other renditions: a programme has one clock."""
         newest = self.last[-1].number if self.last else -1
+        begins = self.siblings.begins() if self.siblings is not None else {}
         ended: int | None = None  # of the segment before, if it has another rendition's instant
         for it in segments if self.siblings is not None else []:
-            known = self.siblings.begins(it.number) if self.siblings is not None and it.number > newest else None
+            known = begins.get(it.number) if it.number > newest else None
             if known is not None:
                 it.begins = known
             elif ended is not None and not it.discontinuities:
@@ -331,6 +409,17 @@ class Repairer:
 def rounded(duration: int) -> int:
     """The whole seconds nearest to `duration` nanoseconds, a half up (RFC 8216, 4.3.3.1)."""
     return (duration + SECOND // 2) // SECOND
+
+
+def lasting(segments: list[PackagedSegment]) -> int:
+    """The nanoseconds that `segments` last."""
+    return sum(it.duration for it in segments)
+
+
+def without_ranges(it: PackagedSegment) -> PackagedSegment:
+    """The segment `it` without date ranges: those of the newest list hold."""
+    is_bare = not any(line.startswith(packaged.DATE_RANGE) for line in it.tags)
+    return it if is_bare else replace(it, tags=[line for line in it.tags if not line.startswith(packaged.DATE_RANGE)])
 
 
 def count_on(before: PackagedSegment, segments: list[PackagedSegment]) -> None:

@@ -23,6 +23,7 @@ KINDS = {
     "own numbers": ("6.2.1", "media numbers go on from what viewers have; the packager's are others"),
     "changed segments": ("6.2.1", "a segment that was listed isn't what it was; it stays as it was"),
     "began again": ("6.2.1", "{}"),
+    "few segments": ("6.2.2", "the packager began again: what was listed before stays until the list lasts three target durations"),
     "older segments": ("6.2.2", "segments that had left the list came back; they stay away"),
     "queries": ("6.2.1", "a segment's URI changes in its query; it keeps the first one"),
     "keys": ("5.2", "a key without IV has the packager's number as IV, which is stated"),

@@ -3,7 +3,7 @@ import argparse
 import configparser
 import json
 from collections import Counter
-from collections.abc import Mapping
+from collections.abc import Callable, Mapping
 from dataclasses import dataclass, field, replace
 from pathlib import Path
 
@@ -121,11 +121,12 @@ def programme_of(name: str, said: Mapping[str, str | None], renditions: list[str
     return replace(settings_of(name, plain), master=master, viewers=viewers, names=renditions, texts=dict(said))
 
 
-def settings_of(name: str, said: Mapping[str, str | None]) -> Settings:
-    """The settings of the channel `name` from texts by the names of NAMES; raises Fault if they don't go together."""
+def settings_of(name: str, said: Mapping[str, str | None], places: tuple[str, str] | None = None) -> Settings:
+    """The settings of the channel `name` from texts by the names of NAMES; raises Fault if they don't go together. `places`: its first
+    and its second origin, if a list names them: what a list says is no text of settings."""
     try:
         words.channel_name(name)
-        origin, second = origins_of(said.get("origin") or "")
+        origin, second = origins_of(said.get("origin") or "") if places is None else places
         at = words.web_address(said.get("at") or "")
         is_web = origin.startswith(("http://", "https://"))
         base = said.get("base") or (origin if is_web else "")
@@ -136,8 +137,6 @@ def settings_of(name: str, said: Mapping[str, str | None]) -> Settings:
     except (argparse.ArgumentTypeError, Fault) as fault:
         raise Fault(f"channel {name}: {fault}") from None
     paths = {it: Path(text) if (text := said.get(it)) else None for it in ("decisions", "fallback", "keep")}
-    if (path := paths["fallback"]) and not path.is_file():
-        raise Fault(f"channel {name}: fallback: there is no file {path}")
     target = said.get("target") or ""
     if target and not (target.isascii() and target.isdigit() and 1 <= len(target) <= 5 and int(target)):
         raise Fault(f"channel {name}: target is a whole number of seconds, and not {target}")
@@ -156,7 +155,8 @@ def with_bounds(found: Settings, said: Mapping[str, str | None]) -> Settings:
     if not (line.isascii() and line.isdigit() and len(line) <= 7 and 256 <= int(line)):
         raise Fault(f"channel {found.name}: line is a number of bytes of at least 256, and not {line}")
     idle = [f"`{name}` has no effect {why}" for is_so, why, names in (
-        (not any(it.startswith(("http://", "https://")) for it in (found.origin, found.second)), "on an origin that is a file", ("redirects",)),
+        (not said.get("master") and not any(it.startswith(("http://", "https://")) for it in (found.origin, found.second)),
+         "on an origin that is a file", ("redirects",)),
         (not found.repair, "without repair", ("target", "endless", "times")),
         (not found.signals, "without signals", ("nearest",)), (not found.ask, "without ask", ("hold",))) if is_so for name in names if said.get(name)]
     return replace(found, redirects=is_yes(found.name, "redirects", said, "no"), line=int(line), idle=tuple(idle))
@@ -228,25 +228,41 @@ def read_file(path: Path, faults: list[tuple[str, str]] | None = None) -> list[S
     except (OSError, UnicodeDecodeError, configparser.Error) as fault:
         text = fault.strerror if isinstance(fault, OSError) else " ".join(str(fault).split())
         raise Fault(f"{path}: {text}") from None
-    channels = []
+    channels: list[Settings] = []
     for name in found.sections():
         try:
             unknown = set(found[name]) - set(NAMES)
             if unknown:
                 raise Fault(f"{path}: channel {name}: there is no setting {min(unknown)}; there are {', '.join(NAMES)}")
-            channels += ladder_of(name, dict(found[name]))
+            own = ladder_of(name, dict(found[name]))
+            each_once(path, [*channels, *own])
+            channels += own
         except Fault as fault:
             if faults is None:
                 raise
             faults.append((name, str(fault)))
     if not channels and not faults:
         raise Fault(f"{path}: it has no channel: a section such as [news]")
-    each_once(path, "name", [it.name for it in channels])
-    each_once(path, "folder of decisions", [str(it.decisions.resolve()) for it in channels if it.decisions])
     return channels
 
 
-def each_once(path: Path, what: str, values: list[str]) -> None:
-    """Raises Fault if one of `values`, which are the channels' `what` in the file `path`, comes twice: two feeds would do harm."""
-    if twice := [it for it, count in Counter(values).items() if count > 1]:
-        raise Fault(f"{path}: two channels have the {what} {twice[0]}")
+def read_right(path: Path, say: Callable[[str, str], None]) -> list[Settings]:
+    """The channels of the right sections of the file `path`. `say` is given each wrong one, by its name and why. Raises Fault if none is right."""
+    faults: list[tuple[str, str]] = []
+    found = read_file(path, faults)
+    if not found:
+        raise Fault(faults[0][1])
+    for name, text in faults:
+        say(name, text)
+    return found
+
+
+def each_once(path: Path, channels: list[Settings]) -> None:
+    """Raises Fault if two of the `channels` of the file `path` have one name, or one folder of decisions: two feeds would do harm."""
+    try:
+        folders = [str(it.decisions.resolve()) for it in channels if it.decisions]
+    except (OSError, RuntimeError) as fault:  # (a link that leads to itself)
+        raise Fault(f"{path}: a folder of decisions: {fault}") from None
+    for what, values in (("name", [it.name for it in channels]), ("folder of decisions", folders)):
+        if twice := [it for it, count in Counter(values).items() if count > 1]:
+            raise Fault(f"{path}: two channels have the {what} {twice[0]}")

@@ -6,7 +6,7 @@ from collections.abc import Callable, Iterable
 from dataclasses import replace
 from typing import NamedTuple
 
-from . import packaged
+from . import packaged, playlist
 from .packaged import InitSection, Key, PackagedSegment
 
 MOST_BORROWED = 100  # segments that a rendition takes from another one at a time
@@ -24,6 +24,29 @@ class Sibling(NamedTuple):
     moved: Callable[[], int] = lambda: 0
 
 
+class Reach(NamedTuple):
+    """How far a list goes: the `instant` at which it ends, if it states one; the media `number` after its last segment; and how long that segment
+    is (`last`), in nanoseconds."""
+
+    instant: int | None
+    number: int
+    last: int
+
+    def covers(self, other: Reach) -> bool:
+        """Whether this list goes as far as the `other`, which may be cut at other times: by instants if both are stated, else by numbers."""
+        if self.instant is not None and other.instant is not None:
+            return self.instant + other.last // 2 >= other.instant
+        return self.number >= other.number
+
+
+def reach_of(body: bytes) -> Reach:
+    """How far the list `body` goes. It is read from the last instant on that it states."""
+    first = body.partition(b"#EXT-X-MEDIA-SEQUENCE:")[2].partition(b"\n")[0].strip()
+    tail = playlist.read(body[max(0, body.rfind(b"#EXT-X-PROGRAM-DATE-TIME:")):])
+    number = (int(first) if first.isdigit() and len(first) <= 20 else 0) + body.count(b"#EXTINF:")
+    return Reach(tail.end(), number, tail.segments[-1].duration if tail.segments else 0)
+
+
 class Siblings:
     """The other renditions that `found` answers, those first that were there first. Numbers are those of the rendition that sees them, which
     has `moved` its own by so much."""
@@ -31,25 +54,13 @@ class Siblings:
     def __init__(self, found: Callable[[], Iterable[Sibling]], moved: Callable[[], int] = lambda: 0) -> None:
         self.found, self.moved = found, moved
 
-    def begins(self, number: int) -> int | None:
-        """The instant at which the segment of the media number `number` begins; none if none of them has it."""
-        base = number - self.moved()
-        return next((it.begins for one in self.found() for it in reversed(one.segments()) if it.number - one.moved() == base and it.begins is not None), None)
-
-    def number_at(self, instant: int | None) -> int | None:
-        """The media number of the segment that begins nearest to `instant`, or of the one that comes next if all end before it; none
-        if no instant is known."""
-        known = [(it.begins, it.number + self.ahead_of(one)) for one in self.found() for it in one.segments() if it.begins is not None]
-        ends = [((it.begins or 0) + it.duration, it.number + 1 + self.ahead_of(one)) for one in self.found() for it in one.segments()[-1:] if it.begins is not None]
-        if instant is None or not known:
-            return None
-        if instant >= max(end for end, _ in ends):
-            return max(number for _, number in ends)
-        return min((abs(begins - instant), number) for begins, number in known + ends)[1]
-
-    def ahead_of(self, one: Sibling) -> int:
-        """By how much the numbers here are greater than those of the rendition `one`."""
-        return self.moved() - one.moved()
+    def begins(self) -> dict[int, int]:
+        """The instants at which segments begin, by their media numbers here; of two renditions' the one's that was there first."""
+        found: dict[int, int] = {}
+        for one in self.found():
+            ahead = self.moved() - one.moved()
+            found = {it.number + ahead: it.begins for it in one.segments() if it.begins is not None} | found
+        return found
 
     def place_at(self, instant: int | None) -> tuple[int, int, int] | None:
         """Another rendition's own media number and discontinuity number at `instant`, by the segment that begins nearest to it, and by how
@@ -63,16 +74,21 @@ class Siblings:
         ends = [(it.begins or 0) + it.duration for one in self.found() if not one.is_held() for it in one.segments()[-1:] if it.begins is not None]
         return instant is not None and any(end < instant - duration // 2 for end in ends)
 
-    def borrowed(self, first: int, end: int) -> list[PackagedSegment]:
-        """The segments of the media numbers `first` to `end` - 1 of one of them, with references that hold for another rendition,
-        too; none if none of them has all."""
-        if end - first > MOST_BORROWED:
-            return []
+    def between(self, start: int, end: int) -> list[PackagedSegment]:
+        """The segments of one of them whose middles lie in the time from `start` to before `end`: of the one that has most of them. Their
+        references hold for another rendition, too. None if they are more than MOST_BORROWED."""
+        found: list[PackagedSegment] = []
+        base = ""
         for one in (it for it in self.found() if it.lends):
-            there = {it.number + self.ahead_of(one): it for it in one.segments()}
-            if all(it in there for it in range(first, end)):
-                return [moved(there[it], one.base) for it in range(first, end)]
-        return []
+            there = [it for it in one.segments() if it.begins is not None and start <= middle_of(it) < end]
+            if len(there) > len(found):
+                found, base = there, one.base
+        return [moved(it, base) for it in found] if len(found) <= MOST_BORROWED else []
+
+
+def middle_of(it: PackagedSegment) -> int:
+    """The instant in the middle of the segment `it`, whose begin is known."""
+    return (it.begins or 0) + it.duration // 2
 
 
 def moved(it: PackagedSegment, base: str) -> PackagedSegment:

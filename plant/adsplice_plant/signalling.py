@@ -10,9 +10,9 @@ from . import playlist
 from .asking import Asker
 from .breaks import TOLERANCE
 from .decisions import Folder
-from .packaged import DATE_RANGE, PackagedList
+from .packaged import PackagedList, PackagedSegment
 from .settings import Settings
-from .translator import Translator
+from .translator import Mark, Translator
 from .web import Client
 from .whole_files import write_aside
 from .words import now_text
@@ -30,7 +30,9 @@ class Signalling:
         self.translator = Translator(settings.types, settings.nearest, tolerance or 0)
         self.is_on = settings.signals
         self.path: Path | None = settings.keep / f"{name}.signals" if settings.keep and self.is_on else None
-        self.saved, self.is_kept = "", True
+        self.saved: dict[str, object] | None = None  # what was kept last
+        self.kept_elsewhere = {"done"} if settings.repair else set()  # (which segments were looked at: the numbers' file has the newest one)
+        self.is_kept = True
         self.asker = Asker(name, settings.ask, settings.hold, client, self.tell, answered) if settings.ask else None
         self.end: dict[str, int] = {}  # the instant at which each rendition's newest list ends
         self.target: int | None = None
@@ -60,15 +62,24 @@ class Signalling:
         except (ValueError, KeyError, TypeError, AttributeError, RecursionError):
             self.tell("signals", "-", "Broken", f"{self.path} isn't what a feed has written; begins anew")
 
+    def go_on(self, rendition: str, newest: PackagedSegment) -> None:
+        """The `rendition` has listed the segments up to the `newest`, as is kept with its numbers: their signals were looked at."""
+        done = self.translator.done.get(rendition)
+        if done is not None and newest.begins is not None and newest.number > done.number:
+            self.translator.done[rendition] = Mark(newest.number, newest.uri, newest.begins)
+
     def save(self) -> None:
         """Keeps what is known of the signals, if that has changed."""
-        if self.path is None or (text := json.dumps(self.translator.kept())) == self.saved:
+        if self.path is None:
+            return
+        kept = self.translator.kept()
+        if (said := {name: it for name, it in kept.items() if name not in self.kept_elsewhere}) == self.saved:
             return
         try:
-            write_aside(self.path, text.encode())
+            write_aside(self.path, json.dumps(kept).encode())
             if not self.is_kept:
                 self.tell("signals", "-", "-", f"{self.path}: they are kept again")
-            self.saved, self.is_kept = text, True
+            self.saved, self.is_kept = said, True
         except OSError as fault:
             if self.is_kept:
                 self.tell("signals", "-", "Unkept", f"{self.path}: {fault.strerror}; after a new start of the feed breaks may have other IDs")
@@ -87,8 +98,7 @@ class Signalling:
                 self.tell(it.who, "-", it.word, it.text)
             last = found.segments[-1]
             self.end[rendition], self.target = (last.begins or 0) + last.duration, found.target
-            if said.ranges is not None:
-                put_ranges(found, said.ranges)
+            found.signals = said.ranges
             self.save()
             if self.asker is not None and said.known:
                 self.asker.ask(said.known, found.target, self.end[rendition])
@@ -104,14 +114,6 @@ class Signalling:
         with self.lock:
             for it in self.translator.breaks.known:
                 it.is_in_step = False
-
-
-def put_ranges(found: PackagedList, ranges: list[str]) -> None:
-    """Puts the EXT-X-DATERANGE lines `ranges` in front of the first segment of the list `found`, in place of its own."""
-    for it in found.segments:
-        it.tags = [line for line in it.tags if not line.startswith(DATE_RANGE)]
-    found.tail_tags = [line for line in found.tail_tags if not line.startswith(DATE_RANGE)]
-    found.segments[0].tags = ranges + found.segments[0].tags
 
 
 def as_listed(found: PackagedList) -> PackagedList:

@@ -32,6 +32,10 @@ class Signal:
     is_cue: bool = False
     elapsed: int | None = None
 
+    def is_bare(self) -> bool:
+        """Whether a tag says by itself, with no section and no event, that a break begins here."""
+        return self.is_cue and self.message.type is None and not self.message.event
+
 
 @dataclass
 class Read:

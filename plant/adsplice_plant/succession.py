@@ -2,7 +2,8 @@
 
 A segment is known by what it is: its URI, byte range, duration, keys and initialisation section, and by the instant that it
 states. Where a list goes on is told by the packager's numbers if these are true, else by what the segments are, else (a token
-that changes) by their paths.
+that changes) by their paths. Where the numbers are true, a segment's name is enough: its host, its folder, its keys and its section may
+be spelled otherwise in each list.
 """
 from __future__ import annotations
 
@@ -23,7 +24,7 @@ Way = Callable[[PackagedSegment, PackagedSegment], bool]
 @dataclass(frozen=True)
 class Place:
     """Where a list goes on: its segment i is the one at `offset` + i of the last list. `way`: how that was found: `numbers`,
-    `segments`, `queries`, or `newest`, if the newest segment alone is what it was."""
+    `segments`, `names`, `queries`, or `newest`, if the newest segment alone is what it was."""
 
     offset: int
     way: str
@@ -43,6 +44,27 @@ def is_alike(one: PackagedSegment, other: PackagedSegment) -> bool:
 def path_of(it: PackagedSegment) -> str:
     """The URI of `it` without its query."""
     return it.uri.partition("?")[0]
+
+
+def name_of(it: PackagedSegment) -> str:
+    """The last part of the path of `it`."""
+    return path_of(it).rpartition("/")[2]
+
+
+def is_named(one: PackagedSegment, other: PackagedSegment) -> bool:
+    """Whether they have one name and one range."""
+    return name_of(one) == name_of(other) and one.byte_range == other.byte_range
+
+
+def is_as_long(one: PackagedSegment, other: PackagedSegment) -> bool:
+    """Whether `one` has the duration that the packager stated last of `other`. If it states the instant of that, a packager may have
+    corrected the duration."""
+    return one.said == other.said or one.stated is not None and other.begins is not None and is_in_time(one, other)
+
+
+def is_numbered(one: PackagedSegment, other: PackagedSegment) -> bool:
+    """Whether they have one number of the packager's, one name, one range and one duration."""
+    return one.own == other.own and is_named(one, other) and is_as_long(one, other)
 
 
 def is_in_time(one: PackagedSegment, other: PackagedSegment) -> bool:
@@ -80,6 +102,8 @@ def place_of(last: Segments, new: Segments, has_instants: bool, is_held: bool) -
             return Place(it, "segments")
     if offset is not None and not is_held and len(overlap(offset, last, new)) > 1 and goes_on(offset, last, new, is_same):
         return Place(offset, "numbers")  # (a packager that set its clock)
+    if offset is not None and (has_instants or not is_held) and goes_on_by_names(offset, last, new, has_instants):
+        return Place(offset, "names")
     return place_by_paths(last, new, has_instants, offset, is_held) or place_by_newest(last, new, places)
 
 
@@ -90,6 +114,18 @@ def offset_by_numbers(last: Segments, new: Segments) -> int | None:
     if new[0].own >= last[0].own:
         return next((place for place, it in enumerate(last) if it.own == new[0].own), None)
     return next((-place for place, it in enumerate(new) if it.own == last[0].own), None)
+
+
+def goes_on_by_names(offset: int, last: Segments, new: Segments, has_instants: bool) -> bool:
+    """Whether `new` goes on at `offset`, where its numbers say, by the names of what both list; the newest one of `last` may have been
+    listed before it was whole. Without instants one name says too little, and so do names that are equal."""
+    shared = overlap(offset, last, new)
+    names = {(name_of(new[it]), new[it].byte_range) for it in shared}
+    if not shared or not has_instants and not 2 <= len(shared) == len(names):
+        return False
+    newest = new[len(last) - 1 - offset] if 0 <= len(last) - 1 - offset < len(new) else None
+    named = in_time(lambda one, other: is_named(one, other) and (one is newest or is_as_long(one, other)), has_instants)
+    return goes_on(offset, last, new, named)
 
 
 def place_by_paths(last: Segments, new: Segments, has_instants: bool, offset: int | None, is_held: bool) -> Place | None:
@@ -124,7 +160,9 @@ def lags(past: Segments, last: Segments, new: Segments, has_instants: bool, targ
     newest. If it reaches into `last`, what it has from before needn't have been listed: lists may have been lost. Without instants it may
     also be of a packager that began again with the same URIs: then it lags if it ends at most LAG seconds, or LAG_TARGETS target
     durations (`target`, in seconds), earlier."""
-    same = in_time(is_alike if any("?" in it.uri for it in new) else is_same, has_instants)
+    known = is_alike if any("?" in it.uri for it in new) else is_same
+    has_names = has_instants or len(new) >= len(last)  # (a run that begins again with the same names and numbers has few segments at first)
+    same = in_time(lambda one, other: known(one, other) or has_names and is_numbered(one, other), has_instants)
     history = [*past, *last]
     places = [it for it in range(len(history) - 2, -1, -1) if same(new[-1], history[it])][:MOST_PLACES]
     for end in places:

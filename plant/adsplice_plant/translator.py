@@ -8,7 +8,7 @@ from dataclasses import dataclass, field
 from typing import Any, NamedTuple
 
 from . import packaged, signals, splice
-from .breaks import AUTO, TOLERANCE, Break, Breaks, Line, Placed, Timeline
+from .breaks import AUTO, TOLERANCE, Break, Breaks, Line, Order, Placed, Timeline
 from .date_ranges import STATED, DateRange, RangeReader, is_leaving, is_same, ranges_of
 from .packaged import DATE_RANGE, PackagedList
 from .playlist import instant_text, seconds_text
@@ -48,6 +48,7 @@ class Translator:
         self.firsts: dict[str, int] = {}  # the instant of the first one
         self.seen: dict[str, dict[str, set[str]]] = {}  # of each rendition's listed date ranges the attributes that were looked at
         self.stated: dict[str, dict[str, int]] = {}  # of each rendition's listed date ranges the START-DATE
+        self.cuts: dict[str, dict[str, list[int | None]]] = {}  # where each rendition's list has begun and ended breaks
         self.styles: set[str] = set()  # that were told as not translated
 
     # ---- what a list says
@@ -57,8 +58,9 @@ class Translator:
         if not found.segments:
             return Translated()
         ranges, fresh = ranges_of(found), self.first_new(found, rendition)
-        self.look_for_styles(found, ranges, fresh)
-        if any(it.begins is None for it in found.segments):
+        is_untimed = None in [it.begins for it in found.segments]
+        self.look_for_styles(found, ranges, fresh, is_untimed)
+        if is_untimed:
             return Translated(None, self.tellings())
         line, before = Timeline(found.segments, self.aligns, moved), {it.id for it in self.breaks.known}
         self.restate(ranges, line, fresh, rendition)
@@ -70,9 +72,10 @@ class Translator:
         self.firsts[rendition], self.breaks.is_first = line.first, False
         self.breaks.forget(min(self.firsts.values()))
         listed = [it for it in self.breaks.known if self.is_listed(it, line)]
-        is_known = self.passes(ranges, listed, line)
+        self.cut(line, rendition)
+        is_known = self.passes(ranges, listed, line, rendition)
         others = [it.line for it in ranges if not it.is_translated() and self.breaks.named(it.id) is None]
-        lines = None if is_known else others + [self.written(it, line) for it in listed]
+        lines = None if is_known else others + [self.written(it, line, rendition) for it in listed]
         return Translated(lines, self.tellings(), [it for it in self.breaks.known if it.id not in before])
 
     def restate(self, ranges: list[DateRange], line: Timeline, fresh: int, rendition: str) -> None:
@@ -86,8 +89,13 @@ class Translator:
             self.breaks.turn_clock(at, by, number, names)
         for name, start in moved.items():
             one = self.breaks.named(name)
-            if one is not None and abs(one.start - start) > line.half(start) and not self.breaks.move(one, start, line, fresh):
+            if one is None or abs(one.start - start) <= line.half(start):
+                continue
+            if not self.breaks.move(one, start, line, fresh):
                 self.stated[rendition][name] = before[name]  # (the segments of the new clock are still to come)
+                continue
+            for cuts in self.cuts.values():
+                cuts.pop(name, None)
 
     def first_new(self, found: PackagedList, rendition: str) -> int:
         """The place of the first segment of the list `found` that the `rendition` hasn't listed before; past the last one if none is."""
@@ -103,7 +111,7 @@ class Translator:
     def count(self, placed: list[Placed], line: Timeline) -> None:
         """Takes in the signals that are `placed` on `line`: a cancellation first of all for the breaks that were known, and at the
         end for those that came before it in the same list."""
-        begun: dict[str, int] = {}
+        begun: dict[str, Order] = {}
         cancels = [it for it in placed if it.signal.message.kind == Kind.CANCEL]
         for it in cancels:
             self.breaks.cancel(it, list(self.breaks.known))
@@ -115,22 +123,21 @@ class Translator:
             elif it.signal.message.kind == Kind.BEGIN:
                 goes_on = it.signal.elapsed is not None
                 new = self.breaks.goes_on(it, line, bool(begun)) if goes_on else self.breaks.begin(it, line)
-                begun |= {new.id: it.order} if new else {"": -1} if not goes_on else {}
+                begun |= {new.id: it.order} if new else {"": (-1, 0)} if not goes_on else {}
         for it in cancels:
             self.breaks.cancel(it, [one for one in self.breaks.known if begun.get(one.id, it.order) < it.order])
 
     def of_segments(self, found: PackagedList, fresh: int) -> list[Placed]:
         """The signals of the tags before the segments from the place `fresh` on, which weren't listed before."""
-        placed, order = list[Placed](), sum(len(it.tags) for it in found.segments[:fresh])
-        for it in found.segments[fresh:]:
-            order += len(it.tags)
+        placed = list[Placed]()
+        for place, it in enumerate(found.segments[fresh:], fresh):
             if len(placed) >= MOST_SIGNALS:
                 self.breaks.too_many()
                 break
             said = signals.of_segment(it.tags)
             for text in said.unread:
                 self.breaks.tell("signals", "Unread", f"segment {it.number}: {text}")
-            placed += [Placed(one, it.begins or 0, it.number, order) for one in said.signals]
+            placed += [Placed(one, it.begins or 0, it.number, (place, len(it.tags))) for one in said.signals]
         return placed
 
     def of_ranges(self, ranges: list[DateRange], line: Timeline, fresh: int, rendition: str) -> list[Placed]:
@@ -157,11 +164,11 @@ class Translator:
             placed += reader.stated() if not new & set(SPLICES) else []
         return placed
 
-    def look_for_styles(self, found: PackagedList, ranges: list[DateRange], fresh: int) -> None:
-        """Tells, once for each, of the styles of the list `found` that aren't translated, and of signals without instants. `fresh`: the
-        place of its first new segment."""
+    def look_for_styles(self, found: PackagedList, ranges: list[DateRange], fresh: int, is_untimed: bool) -> None:
+        """Tells, once for each, of the styles of the list `found` that aren't translated, and of signals without instants (`is_untimed`).
+        `fresh`: the place of its first new segment."""
         names = {signals.style_of(line) for it in found.segments[fresh:] for line in it.tags if not line.startswith(DATE_RANGE)} - {""}
-        if any(it.begins is None for it in found.segments) and (names or any(it.is_splice() for it in ranges)):
+        if is_untimed and (names or any(it.is_splice() for it in ranges)):
             self.breaks.tell("signals", "NoTimes", "no segment has an instant, so no break of this list is entered")
         for it in sorted(names - self.styles):
             if not signals.is_translated(it) and len(self.styles) < MOST_STYLES:
@@ -180,43 +187,76 @@ class Translator:
 
     def is_listed(self, one: Break, line: Timeline) -> bool:
         """Whether the break `one` is written in the list of `line`: a segment of it is listed, or is to come. One without an end is
-        written as long as its first segment is listed; one that may yet be put on a segment isn't written before that is listed."""
-        if not one.is_settled and not line.will_begin(one.start):
+        written as long as its first segment is listed; one that may yet be put on a segment isn't written before that is listed, also if
+        another rendition has come to it."""
+        if line.aligns and not line.is_reached(one.start) and not line.will_begin(one.start):
             return False
         end = one.end()
         return end > line.first if end is not None else one.start >= line.first - TOLERANCE
 
-    def passes(self, ranges: list[DateRange], listed: list[Break], line: Timeline) -> bool:
-        """Whether adsplice by itself makes of the date ranges `ranges` just the breaks that are `listed`. It keeps the first value of
-        each attribute, so one of a break that was cancelled, or isn't written yet, may not pass."""
+    def cut(self, line: Timeline, rendition: str) -> None:
+        """Takes in where the breaks begin and end in the `rendition`, whose list is that of `line`, once it has come there: at its own nearest
+        segment, if it is cut elsewhere than the rendition that showed the signal. That stays, since it is written then."""
+        cuts = self.cuts.get(rendition, {})
+        self.cuts[rendition] = {it.id: cuts.get(it.id, [None, None]) for it in self.breaks.known}
+        for it in self.breaks.known:
+            found = self.cuts[rendition][it.id]
+            for place, instant in enumerate((it.start if it.said is None else it.said, it.until)):
+                if instant is not None and found[place] is None and line.is_reached(instant):
+                    own = line.aligned(instant) if it.clock is None else instant
+                    found[place] = own if abs(own - instant) > self.tolerance else instant
+
+    def is_cut_elsewhere(self, one: Break, rendition: str) -> bool:
+        """Whether the break `one` begins or ends elsewhere in the `rendition` than where its signal was shown."""
+        start, until = self.cuts[rendition][one.id]
+        return start not in (None, one.start) or until not in (None, one.until)
+
+    def passes(self, ranges: list[DateRange], listed: list[Break], line: Timeline, rendition: str) -> bool:
+        """Whether adsplice by itself makes of the date ranges `ranges` just the breaks that are `listed` in the `rendition`. It keeps the first
+        value of each attribute, so one of a break that was cancelled, or isn't written yet, may not pass."""
         said: dict[str, dict[str, str]] = {}
         for it in ranges:
             said[it.id] = it.said | said.get(it.id, {})
         if said.keys() & (self.breaks.cancelled | {it.id for it in self.breaks.known if not it.is_settled and it not in listed}):
             return False
-        if any(it.said is not None for it in listed):
+        if any(it.said is not None or self.is_cut_elsewhere(it, rendition) for it in listed):
             return False
         earliest = line.first - TOLERANCE
         begun = {name for name, it in said.items() if is_leaving(it) and (packaged.instant_of(it["START-DATE"]) or 0) >= earliest}
         is_known = begun <= {it.id for it in listed} and all(it.id in said for it in listed)
         return is_known and all(is_leaving(said[it.id]) and is_same(it, said[it.id], self.tolerance) for it in listed)
 
-    def written(self, one: Break, line: Timeline) -> str:
-        """The EXT-X-DATERANGE of the break `one` in the list of `line`, which may be one from before the packager's clock changed."""
+    def written(self, one: Break, line: Timeline, rendition: str) -> str:
+        """The EXT-X-DATERANGE of the break `one` in the list of `line` of the `rendition`, which may be one from before the packager's clock
+        changed."""
         end = one.end()
         planned = None if end is None else one.planned if one.planned is not None else end - one.start
-        text = f'ID="{one.id}",START-DATE="{instant_text(one.start if one.said is None else one.said)}"' + one.others
-        is_ended = one.is_ended and (one.clock is None or line.last > one.clock)
-        text += f',END-DATE="{instant_text(one.until)}"' if is_ended and one.until is not None else ""
+        start, until = self.cuts[rendition][one.id]
+        start = start if start is not None else one.start if one.said is None else one.said
+        text = f'ID="{one.id}",START-DATE="{instant_text(start)}"' + one.others
+        if one.until is not None and self.is_ended(one, line):
+            until = until if until is not None else one.until if one.clock is not None else line.expected(one.until)
+            text += f',END-DATE="{instant_text(until)}"'
         text += f",PLANNED-DURATION={seconds_text(planned)}" if planned is not None else ""
         return f"{DATE_RANGE}{text},SCTE35-OUT={splice.insert_text((one.event or one.number) % 2**32, planned)}"
+
+    @staticmethod
+    def is_ended(one: Break, line: Timeline) -> bool:
+        """Whether the list of `line` says where the break `one` ends: once it has come there, or to the planned end of one that is extended;
+        and by the packager's new clock, if that has changed, once the list has segments of it."""
+        if one.clock is not None:
+            return one.is_ended and line.last > one.clock
+        is_at_end = one.until is not None and one.is_ended and line.is_reached(one.until)
+        return is_at_end or one.is_extended() and line.is_reached(one.start + (one.planned or 0))
 
     # ---- what is kept
 
     def kept(self) -> dict[str, Any]:
         """The state as JSON."""
         return {"breaks": self.breaks.kept(), "done": self.done, "cancelled": sorted(self.breaks.cancelled), "styles": sorted(self.styles),
-                "stated": self.stated, "seen": {name: {id_: sorted(said) for id_, said in it.items()} for name, it in self.seen.items()}}
+                "stated": {name: dict(it) for name, it in self.stated.items()},
+                "cuts": {name: {id_: [*cut] for id_, cut in it.items()} for name, it in self.cuts.items()},
+                "seen": {name: {id_: sorted(said) for id_, said in it.items()} for name, it in self.seen.items()}}
 
     def resume(self, kept: dict[str, Any]) -> None:
         """Goes on from the state that `kept` answered; raises if that isn't one (KeyError, TypeError, ValueError)."""
@@ -224,4 +264,5 @@ class Translator:
         self.done = {name: Mark(*it) for name, it in kept["done"].items()}
         self.seen = {name: {id_: set(said) for id_, said in it.items()} for name, it in kept["seen"].items()}
         self.stated = {name: {id_: int(start) for id_, start in it.items()} for name, it in kept.get("stated", {}).items()}
+        self.cuts = {name: {id_: [*cut] for id_, cut in it.items()} for name, it in kept.get("cuts", {}).items()}
         self.breaks.cancelled, self.styles, self.breaks.is_first = set(kept["cancelled"]), set(kept["styles"]), not self.done

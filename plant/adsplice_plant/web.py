@@ -1,4 +1,4 @@
-"""Requests whose answers are bounded, by connections that are kept (httpcore and httpx, Debian's python3-httpx).
+"""Requests whose answers are bounded, by connections that are kept (http.client; URLs are read by httpx, Debian's python3-httpx).
 
 Whatever a server sends, an answer takes no more than its time, bytes and pieces: from the first byte asked to the last one read
 there is one limit of time, and one of bytes on the wire. No content coding is asked for, no cookie is kept, no proxy is used for
@@ -8,8 +8,11 @@ from __future__ import annotations
 
 import base64
 import functools
+import http.client
+import io
 import ipaddress
 import re
+import select
 import socket
 import ssl
 import threading
@@ -17,10 +20,9 @@ import time
 import urllib.request
 from collections.abc import Mapping
 from dataclasses import dataclass, field
+from typing import Any
 
-import httpcore
 import httpx
-from httpcore.backends.sync import SyncBackend, SyncStream
 
 MAX_BYTES = 4_194_304  # of an answer: adsplice takes no longer playlist
 MAX_HEAD = 65_536
@@ -28,19 +30,21 @@ LEAST_PIECE, FREE_PIECES = 16, 2000  # bytes of a piece (RFC 9112, 7.1) on the a
 REDIRECTS = (301, 302, 303, 307, 308)
 MOST_REDIRECTS = 5
 CONNECT, KEPT = 3.0, 5.0  # seconds for a connection, and for which one is kept
-FIELDS = [(b"Accept", b"*/*"), (b"Accept-Encoding", b"identity"), (b"User-Agent", b"adsplice-plant")]
+PIECE = 65_536  # bytes that are read at a time
+FIELDS = {"Accept": "*/*", "User-Agent": "adsplice-plant"}  # (http.client adds Accept-Encoding: identity)
 CODED = "the answer has a content coding, which wasn't asked for"
 
 
 @dataclass(frozen=True)
 class Answer:
-    """What was answered: `status` 0 if no whole answer came, and `why` then says why."""
+    """What was answered: `status` 0 if no whole answer came, and `why` then says why. `is_whole`: its connection may be used again."""
 
     status: int
     body: bytes = b""
     fields: Mapping[str, str] = field(default_factory=dict)
     why: str = ""
     url: str = ""
+    is_whole: bool = False
 
     def line(self) -> str:
         """The first line of the body, for a fault's text; none for a page of a server in front."""
@@ -48,62 +52,121 @@ class Answer:
         return "" if text.startswith("<") else text.partition("\n")[0]
 
 
-class Bounds(threading.local):
-    """What is left of the time and the bytes of the answer that a thread waits for."""
+class Bounds:
+    """What is left of the time and of the bytes of an answer, which may take `limit` seconds from now on."""
 
-    def __init__(self) -> None:
-        """Nothing is asked yet."""
-        self.until, self.left = 0.0, 0
+    def __init__(self, limit: float) -> None:
+        self.until, self.left = time.monotonic() + limit, 2 * MAX_BYTES + MAX_HEAD
         self.has_begun = False  # whether the head of the answer has come
 
-    def begin(self, limit: float) -> None:
-        """An answer may take `limit` seconds from now on."""
-        self.until, self.left, self.has_begun = time.monotonic() + limit, 2 * MAX_BYTES + MAX_HEAD, False
-
-    def time(self, most: float | None) -> float:
-        """The seconds that a step may take, of at most `most`."""
-        left = self.until - time.monotonic()
-        if left <= 0:
-            raise httpcore.ReadTimeout()
-        return left if most is None else min(left, most)
+    def time(self) -> float:
+        """The seconds that a step may take; raises TimeoutError if none are left."""
+        if (left := self.until - time.monotonic()) <= 0:
+            raise TimeoutError
+        return left
 
 
-class Stream(SyncStream):
-    """A connection of which each step is within `bounds`."""
+class Reading(io.RawIOBase):
+    """The bytes that come over a `wire`."""
+
+    def __init__(self, wire: Wire) -> None:
+        self.wire = wire
+
+    def readable(self) -> bool:
+        """It is read."""
+        return True
+
+    def readinto(self, buffer: Any) -> int:
+        """Reads into `buffer`; answers how many bytes, and 0 at the end. Raises OSError."""
+        bounds = self.wire.bounds
+        self.wire.sock.settimeout(bounds.time())
+        count = self.wire.sock.recv_into(buffer)
+        bounds.left -= count
+        if bounds.left < 0:
+            raise OSError(f"an answer of more than {2 * MAX_BYTES} bytes")
+        return count
+
+    def close(self) -> None:
+        """No more is read."""
+        if not self.closed:
+            super().close()
+            self.wire.let_go()
+
+
+class Wire:
+    """The connected socket `sock` of which each step is within `bounds`: what http.client asks of a socket."""
 
     def __init__(self, sock: socket.socket, bounds: Bounds) -> None:
-        super().__init__(sock)
-        self.bounds = bounds
+        self.sock, self.bounds = sock, bounds
+        self.users = 1  # the connection, and an answer that is read: the socket is closed once both have let it go
 
-    def read(self, max_bytes: int, timeout: float | None = None) -> bytes:
-        """The next bytes."""
-        data: bytes = super().read(max_bytes, self.bounds.time(timeout))
-        self.bounds.left -= len(data)
-        if self.bounds.left < 0:
-            raise httpcore.ReadError(f"an answer of more than {2 * MAX_BYTES} bytes")
-        return data
+    def sendall(self, data: bytes) -> None:
+        """Sends `data`."""
+        self.sock.settimeout(self.bounds.time())
+        self.sock.sendall(data)
 
-    def write(self, buffer: bytes, timeout: float | None = None) -> None:
-        """Sends `buffer`."""
-        super().write(buffer, self.bounds.time(timeout))
+    def makefile(self, mode: str) -> io.BufferedReader:
+        """What comes, as a file."""
+        self.users += 1
+        return io.BufferedReader(Reading(self))
 
-    def start_tls(self, ssl_context: ssl.SSLContext, server_hostname: str | None = None, timeout: float | None = None) -> Stream:
-        """The connection under TLS."""
-        return Stream(super().start_tls(ssl_context, server_hostname, self.bounds.time(timeout)).get_extra_info("socket"), self.bounds)
+    def setsockopt(self, *option: int) -> None:
+        """Sets an option of the socket."""
+        self.sock.setsockopt(*option)
+
+    def is_quiet(self) -> bool:
+        """Whether nothing has come, the end neither: then the server waits for the next request."""
+        poll = select.poll()
+        poll.register(self.sock, select.POLLIN)
+        return not poll.poll(0)
+
+    def close(self) -> None:
+        """The connection lets it go."""
+        self.let_go()
+
+    def let_go(self) -> None:
+        """One that used the socket has done with it."""
+        self.users -= 1
+        if not self.users:
+            self.sock.close()
 
 
-class Backend(SyncBackend):
-    """Makes connections within `bounds`."""
+class Connection(http.client.HTTPConnection):
+    """A connection to the server of a URL, by a `proxy` if there is one, under TLS if the URL's scheme says so. `bounds` are those of the request
+    that it is made for."""
 
-    def __init__(self, bounds: Bounds) -> None:
-        self.bounds = bounds
+    sock: Any
 
-    def connect_tcp(self, host: str, port: int, timeout: float | None = None, local_address: str | None = None) -> Stream:
-        """A connection to `port` of `host`. (A body is sent beside its head: else it waits for the head's acknowledgement, which a kept
-        connection delays by 40 ms.)"""
-        made = super().connect_tcp(host, port, self.bounds.time(timeout), local_address).get_extra_info("socket")
-        made.setsockopt(socket.IPPROTO_TCP, socket.TCP_NODELAY, 1)
-        return Stream(made, self.bounds)
+    def __init__(self, url: httpx.URL, proxy: str | None, bounds: Bounds) -> None:
+        to = url if proxy is None else url_of(proxy)
+        super().__init__(to.raw_host.decode(), to.port or (443 if to.scheme == "https" else 80))
+        self.bounds, self.name = bounds, url.raw_host.decode()
+        self.is_secure, self.kept_at = url.scheme == "https", 0.0
+        self.sends_whole_url = proxy is not None and not self.is_secure
+        self.fields = dict(password_of(to)) if proxy is not None else {}  # for the proxy
+        if proxy is not None and self.is_secure:
+            self.set_tunnel(self.name, url.port or 443, {"Proxy-Authorization": it for it in self.fields.values()})
+        self._create_connection = self.connected
+
+    def connected(self, address: tuple[str, int], *_: object) -> Wire:
+        """A socket that is connected to `address`."""
+        return Wire(socket.create_connection(address, min(CONNECT, self.bounds.time())), self.bounds)
+
+    def connect(self) -> None:
+        """Connects. (Without a delay in TCP a body doesn't wait until its head is acknowledged.)"""
+        super().connect()
+        if self.is_secure:
+            plain = self.sock.sock
+            plain.settimeout(self.bounds.time())
+            self.sock = Wire(certificates().wrap_socket(plain, server_hostname=self.name), self.bounds)
+
+    def begin(self, bounds: Bounds) -> None:
+        """Another request is made, within `bounds`."""
+        self.bounds = self.sock.bounds = bounds
+
+    def is_ready(self) -> bool:
+        """Whether it may be used for another request."""
+        return self.sock is not None and time.monotonic() - self.kept_at < KEPT and bool(self.sock.is_quiet())
 
 
 @functools.cache
@@ -112,35 +175,49 @@ def certificates() -> ssl.SSLContext:
     return httpx.create_ssl_context()
 
 
-def pool_of(bounds: Bounds, proxy: str | None) -> httpcore.ConnectionPool:
-    """Connections within `bounds`, by the `proxy` if there is one."""
-    backend = Backend(bounds)
-    if proxy:
-        return httpcore.HTTPProxy(proxy, ssl_context=certificates(), keepalive_expiry=KEPT, network_backend=backend)
-    return httpcore.ConnectionPool(certificates(), keepalive_expiry=KEPT, network_backend=backend)
-
-
 @functools.lru_cache(1024)
 def url_of(text: str) -> httpx.URL:
     """The URL `text`; raises what httpx does."""
     return httpx.URL(text)
 
 
-def password_of(url: httpx.URL) -> list[tuple[bytes, bytes]]:
+def password_of(url: httpx.URL) -> dict[str, str]:
     """The field by which the user and the password in `url` are told (RFC 7617); none if it has none."""
     if not url.userinfo:
-        return []
-    return [(b"Authorization", b"Basic " + base64.b64encode(f"{url.username}:{url.password}".encode()))]
+        return {}
+    return {"Authorization": f"Basic {base64.b64encode(f'{url.username}:{url.password}'.encode()).decode()}"}
 
 
 def is_of_this_machine(host: str) -> bool:
-    """Whether `host` is a loopback address or its name."""
+    """Whether `host` is an address of this machine in any spelling that connects to it (`127.1`, `0x7f000001`, `0.0.0.0`), or its name."""
     try:
-        return ipaddress.ip_address(host.strip("[]")).is_loopback
+        found = ipaddress.ip_address(host.strip("[]"))
     except ValueError:
-        return host == "localhost" or host.endswith(".localhost")
+        try:
+            found = ipaddress.ip_address(socket.inet_aton(host))
+        except (OSError, UnicodeError):
+            return host == "localhost" or host.endswith(".localhost")
+    found = getattr(found, "ipv4_mapped", None) or found
+    return found.is_loopback or found.is_unspecified
 
 
+def strays(text: str, first: str, redirects: bool) -> str:
+    """Why the URL `text`, which a list of the URL `first` names, isn't read; empty if it may be. It has the scheme, the host and the
+    port of `first` (RFC 6454, 4), unless `redirects` says that other hosts are followed; none leads from outside to this machine."""
+    try:
+        one, other = url_of(text), url_of(first)
+    except (httpx.InvalidURL, ValueError) as fault:
+        return f"it isn't a URL: {str(fault)[:100]}"
+    if one.scheme not in ("http", "https") or not one.host:
+        return "it isn't a URL that begins with http:// or https://"
+    if (one.scheme, one.host, one.port) != (other.scheme, other.host, other.port) and not redirects:
+        return "it is of another host, port or scheme than the list: `redirects = yes` has it read"
+    if is_of_this_machine(one.host) and not is_of_this_machine(other.host):
+        return f"{one.host} is an address of this machine"
+    return ""
+
+
+@functools.lru_cache(1024)
 def proxy_for(url: httpx.URL) -> str | None:
     """The proxy of the environment for `url`; none for this machine."""
     if is_of_this_machine(url.host) or urllib.request.proxy_bypass(url.host):
@@ -148,29 +225,32 @@ def proxy_for(url: httpx.URL) -> str | None:
     return urllib.request.getproxies().get(url.scheme)
 
 
+def why_of(fault: Exception) -> str:
+    """What is told of a request that failed by `fault`."""
+    if isinstance(fault, http.client.IncompleteRead):
+        return "peer closed connection without sending complete message body"
+    if isinstance(fault, http.client.RemoteDisconnected):
+        return "Server disconnected without sending a response."
+    if isinstance(fault, http.client.BadStatusLine):
+        return "the answer isn't one of HTTP"
+    return re.sub(r"^\[Errno -?[0-9]{1,5}\] ", "", str(fault)[:200].partition("\n")[0]) or type(fault).__name__
+
+
 class Client:
     """Asks by connections of its own, each request within a bound of `limit` seconds from its begin to its last byte. A redirect
     to another host is followed if `redirects` says so. Several threads may ask at a time."""
 
     def __init__(self, limit: float, redirects: bool = False) -> None:
-        self.limit, self.redirects, self.bounds, self.lock = limit, redirects, Bounds(), threading.Lock()
-        self.pools: dict[str | None, httpcore.ConnectionPool] = {}  # by their proxies
-        self.limits = {"connect": min(limit, CONNECT), "read": limit, "write": limit, "pool": limit}
-
-    def pool(self, proxy: str | None) -> httpcore.ConnectionPool:
-        """The connections by `proxy`."""
-        with self.lock:
-            if proxy not in self.pools:
-                self.pools[proxy] = pool_of(self.bounds, proxy)
-            return self.pools[proxy]
+        self.limit, self.redirects, self.lock = limit, redirects, threading.Lock()
+        self.idle: dict[tuple[str, bytes, int | None, str | None], list[Connection]] = {}  # by scheme, host and port, and the proxy
 
     def ask(self, method: str, url: str, body: bytes | None = None, fields: Mapping[str, str] | None = None) -> Answer:
         """The answer to a request of `method` for `url`, with the bytes `body` and the header fields `fields`."""
-        self.bounds.begin(self.limit)
+        bounds = Bounds(self.limit)
         try:
             first = at = url_of(url)
             for _ in range(MOST_REDIRECTS):
-                answer = self.once(method, at, body, dict(fields or {}))
+                answer = self.once(method, at, body, fields or {}, bounds)
                 if method != "GET" or answer.status not in REDIRECTS or "location" not in answer.fields:
                     return answer
                 at = at.join(answer.fields["location"])
@@ -179,34 +259,86 @@ class Client:
                 if is_of_this_machine(at.host) and not is_of_this_machine(first.host):
                     return Answer(0, why=f"a redirect to {at.host}, an address of this machine")
             return Answer(0, why=f"more than {MOST_REDIRECTS} redirects")
-        except httpcore.TimeoutException:
-            return Answer(0, why=f"no {'whole ' if self.bounds.has_begun else ''}answer within {self.limit:g} s")
-        except (httpx.InvalidURL, httpcore.UnsupportedProtocol, httpcore.ProtocolError, httpcore.ProxyError, httpcore.NetworkError, OSError, ValueError) as fault:
-            return Answer(0, why=re.sub(r"^\[Errno -?[0-9]{1,5}\] ", "", str(fault)[:200].partition("\n")[0]) or type(fault).__name__)
+        except TimeoutError:
+            return Answer(0, why=f"no {'whole ' if bounds.has_begun else ''}answer within {self.limit:g} s")
+        except (httpx.InvalidURL, http.client.HTTPException, OSError, ValueError) as fault:
+            return Answer(0, why=why_of(fault))
 
-    def once(self, method: str, url: httpx.URL, body: bytes | None, fields: dict[str, str]) -> Answer:
-        """The answer to one request; raises what httpcore does."""
-        to = httpcore.URL(scheme=url.raw_scheme, host=url.raw_host, port=url.port, target=url.raw_path)
-        sent = [*FIELDS, *password_of(url), *((name.encode(), value.encode()) for name, value in fields.items())]
-        with self.pool(proxy_for(url)).stream(method, to, headers=sent, content=body, extensions={"timeout": self.limits}) as reply:
-            self.bounds.has_begun = True
-            said: dict[str, str] = {}
-            for name, value in ((name.decode("latin-1").lower(), value.decode("latin-1")) for name, value in reply.headers):
-                said[name] = f"{said[name]}, {value}" if name in said else value
-            if said.get("content-encoding", "identity").strip().lower() not in ("", "identity"):
-                return Answer(0, why=CODED)
-            held, pieces = bytearray(), 0
-            for piece in reply.iter_stream():
-                held += piece
-                pieces += 1
-                if len(held) > MAX_BYTES:
-                    return Answer(0, why=f"an answer of more than {MAX_BYTES} bytes")
-                if pieces > FREE_PIECES + len(held) // LEAST_PIECE:
-                    return Answer(0, why="an answer in pieces of a few bytes")
-                self.bounds.time(None)
-            return Answer(reply.status, bytes(held), said, url=str(url))
+    def once(self, method: str, url: httpx.URL, body: bytes | None, fields: Mapping[str, str], bounds: Bounds) -> Answer:
+        """The answer to one request, within `bounds`; raises HTTPException, OSError or ValueError."""
+        if url.scheme not in ("http", "https") or not url.host:
+            raise ValueError(f"{str(url)[:100]!r} isn't a URL that begins with http:// or https://")
+        key = url.scheme, url.raw_host, url.port, proxy_for(url)
+        it = self.connection(key, url, bounds)
+        try:
+            send(it, method, url, body, fields)
+            with it.getresponse() as reply:
+                answer = read(reply, url, bounds)
+        except BaseException:
+            it.close()
+            raise
+        if it.sock is not None and answer.is_whole:
+            it.kept_at = time.monotonic()
+            with self.lock:
+                self.idle.setdefault(key, []).append(it)
+        else:
+            it.close()
+        return answer
+
+    def connection(self, key: tuple[str, bytes, int | None, str | None], url: httpx.URL, bounds: Bounds) -> Connection:
+        """A connection to the server of `url`: one of those that are kept under `key`, or a new one."""
+        while True:
+            with self.lock:
+                its = self.idle.get(key)
+                it = its.pop() if its else None
+            if it is None:
+                return Connection(url, key[3], bounds)
+            if it.is_ready():
+                it.begin(bounds)
+                return it
+            it.close()
 
     def close(self) -> None:
         """Closes its connections."""
-        for it in self.pools.values():
+        with self.lock:
+            its, self.idle = [it for one in self.idle.values() for it in one], {}
+        for it in its:
             it.close()
+
+
+def send(it: Connection, method: str, url: httpx.URL, body: bytes | None, fields: Mapping[str, str]) -> None:
+    """Sends a request over the connection `it`. Raises OSError."""
+    path = url.raw_path.decode()
+    it.putrequest(method, f"{url.scheme}://{url.netloc.decode()}{path}" if it.sends_whole_url else path)
+    proxy = {"Proxy-Authorization": value for value in it.fields.values()} if it.sends_whole_url else {}
+    for name, value in {**FIELDS, **password_of(url), **proxy, **fields}.items():
+        it.putheader(name, value)
+    if body is not None:
+        it.putheader("Content-Length", str(len(body)))
+    it.endheaders(body)
+
+
+def read(reply: http.client.HTTPResponse, url: httpx.URL, bounds: Bounds) -> Answer:
+    """The answer `reply` of the server of `url`, within `bounds`; raises HTTPException or OSError."""
+    bounds.has_begun = True
+    said: dict[str, str] = {}
+    for name, value in ((name.lower(), value) for name, value in reply.headers.items()):
+        said[name] = f"{said[name]}, {value}" if name in said else value
+    lengths = set(reply.headers.get_all("content-length", []))
+    if len(lengths) > 1 or any(not (it.isascii() and it.strip().isdigit()) for it in lengths):
+        raise http.client.HTTPException("Content-Length isn't one number")
+    if said.get("content-encoding", "identity").strip().lower() not in ("", "identity"):
+        return Answer(0, why=CODED)
+    held, pieces = bytearray(), 0
+    while piece := reply.read1(PIECE):
+        held += piece
+        pieces += 1
+        if len(held) > MAX_BYTES:
+            return Answer(0, why=f"an answer of more than {MAX_BYTES} bytes")
+        if pieces > FREE_PIECES + len(held) // LEAST_PIECE:
+            return Answer(0, why="an answer in pieces of a few bytes")
+        bounds.time()
+    if reply.length:
+        raise http.client.IncompleteRead(b"")
+    reply.read()  # (nothing is left; the connection is free then)
+    return Answer(reply.status, bytes(held), said, url=str(url), is_whole=reply.isclosed() and not reply.will_close)

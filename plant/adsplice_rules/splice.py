@@ -3,6 +3,7 @@ from __future__ import annotations
 
 import re
 from dataclasses import dataclass
+from functools import lru_cache
 
 from .values import Fault
 
@@ -140,6 +141,7 @@ def crc_of(given: bytes) -> int:
     return rest
 
 
+@lru_cache(256)
 def insert_said(text: str | None) -> Insert | None:
     """9.7.3: the splice_insert of a section, unless that doesn't read, has another command, or is cancelled."""
     try:

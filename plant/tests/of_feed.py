@@ -9,7 +9,7 @@ import time
 import urllib.request
 from pathlib import Path
 
-from tools import FALLBACK, PLANT, PYTHON, FakeController, FakeOrigin, RulesController, SlowController, decided, free_port, get, instant, listed, until
+from tools import FALLBACK, PLANT, PYTHON, FakeController, FakeOrigin, RulesController, SlowController, Viewers, decided, free_port, get, instant, listed, put, until
 
 sys.path.insert(0, PLANT)
 from adsplice_plant.kept import Kept  # noqa: E402
@@ -169,6 +169,16 @@ def test_away_controller_is_tried_with_growing_pauses(room):
     assert controller.puts("origin")[-1] == origin.text.encode()
 
 
+def test_numbers_that_follow_from_somebody_elses_decision_are_told_and_hold(room):
+    controller, origin = room.server(RulesController()), room.server(FakeOrigin(listed(0, 5, [("b1", 14, 4)])))
+    feed = room.feed("--channel", "news", "--origin", origin.url, "--at", controller.url)
+    feed.sees("news adsplice 204 -: the list is taken")
+    assert put(f"{controller.url}/channels/news/decisions", decided(("b1", 4), seconds="1").encode()) == 204  # (4 segments for the break's 2)
+    origin.text = listed(2, 7, [("b1", 14, 4)])
+    # (of the pod as much is written as the break has lasted: two segments of 1 s, with the media numbers 7 and 8 after one discontinuity)
+    feed.sees("news written - Others: adsplice's list ends with media number 8 and discontinuity number 1, ")
+
+
 def test_404_makes_the_channel_with_what_is_open(room):
     room.write("decisions/one.json", decided(("b1", 2)))
     text = listed(0, 5, [("b1", 20, 4)])
@@ -179,7 +189,7 @@ def test_404_makes_the_channel_with_what_is_open(room):
     after = feed.sees("news adsplice 201 -: makes the channel", 20, after)
     feed.sees("news adsplice 204 -: the list is taken", 20, after)
     assert [it.decode() for it in controller.puts("decisions")] == [decided(("b1", 2))] * 2
-    assert controller.puts("origin")[-1] == origin.text.encode()
+    until(lambda: controller.puts("origin")[-1] == origin.text.encode(), 20, "the newest list, after the one that a new channel begins with")
 
 
 def test_decision_file_stays_while_its_break_is_listed(room):
@@ -671,12 +681,28 @@ def test_wrong_words_are_one_line_and_a_status(room):
             (["--config", path], 1, "there is no setting falback"), (["--config", f"{room.path}/no.ini"], 1, "No such file"),
             (["--channel", "News", "--origin", "a", "--at", "http://h"], 2, "isn't 1 to 32 of"), (["--channel", "news"], 2, "are needed"),
             (["--channel", "n", "--origin", "x.m3u8", "--at", "http://h"], 1, "needs base"), (["--channel", "n", "--origin", "http://h", "--at", "h"], 2, "isn't a URL"),
-            (["--channel", "n", "--origin", "http://h/", "--at", "http://h", "--fallback", "no.json"], 1, "there is no file no.json"),
             (["--channel", "n", "--origin", "http://h/", "--at", "http://h", "--decisions", f"{path}/d"], 1, "Not a directory"),
             (["--channel", "n", "--origin", "http://h/", "--at", "http://h:99999"], 2, "its port")):
         found, out, err = room.run("adsplice-feed", *words)
         assert (found, out) == (status, "") and text in err and "Traceback" not in err, (words, found, err)
         assert status == 2 or err.count("\n") == 1, err
+
+
+def test_numbers_go_on_though_the_answer_to_the_making_is_lost(room):
+    controller, viewers, breaks = room.server(RulesController()), Viewers(), [("b1", 8, 4)]
+    room.write("decisions/one.json", decided(("b1", 2)))
+    playlist = room.write("index.m3u8", listed(0, 3, breaks))
+    feed = room.feed("--channel", "news", "--origin", playlist, "--base", "http://origin.example/ch/index.m3u8", "--at", controller.url, "--decisions", f"{room.path}/decisions",
+                     "--timeout", "1", "--longest-pause", "1")
+    after = feed.sees("204 -: the list is taken")
+    for newest in range(6, 20):
+        if newest == 16:  # (the break has left the list, and with it two discontinuities)
+            controller.kill()
+            controller.lost = "/channels/news"
+        room.write("index.m3u8", listed(max(0, newest - 7), newest, breaks if newest < 13 else ()))
+        until(lambda newest=newest: f"s{newest}.ts" in controller.shown("news"), 20, f"segment {newest}")
+        viewers.see(controller.shown("news"))
+    assert feed.sees("news adsplice 409 -: the channel is there already", 5, after) and viewers.had[19] == ("http://origin.example/ch/s19.ts", 2), viewers.had[19]
 
 
 @needs(*PROGRAM)

@@ -9,6 +9,7 @@ import subprocess
 import sys
 import threading
 import time
+import urllib.request
 
 from tools import PLANT, PYTHON, decided, free_port, get, listed, put, until
 
@@ -16,7 +17,7 @@ sys.path.insert(0, PLANT)
 
 NEEDS = ("program", "nginx")
 LIVE = f"{PLANT}/../examples/live"
-CONF = f"{LIVE}/nginx.conf"
+CONF, FRONT = f"{LIVE}/nginx.conf", f"{LIVE}/nginx-front.conf"
 NGINX = shutil.which("nginx") or "/usr/sbin/nginx"
 TYPED = ("browser", "configured_lists", "day_faults", "day_measures", "day_plant", "day_table", "media", "plant", "relay", "stories", "tools", "viewers")
 TYPED_SCRIPTS = ("check_day", "hand_over", "measure_refreshes")
@@ -32,11 +33,25 @@ def front(room, moved="", has_workers=False):
     ports = [free_port() for _ in range(4)]
     for it in ports[:2]:
         room.adsplice(it)
-    with open(CONF, encoding="utf-8") as it:
+    return by_nginx(room, CONF, *ports[2:], has_workers, (("127.0.0.1:8081", f"127.0.0.1:{ports[0]}"), ("127.0.0.1:8082", f"127.0.0.1:{ports[1]}"),
+                                                          ("/etc/nginx/adsplice.d", moved or f"{room.path}/none")))
+
+
+def front_of_machines(room):
+    """Starts nginx as a front of three machines, of which each is one process of adsplice; answers the viewers' port and the operators'."""
+    machines = [free_port() for _ in range(3)]
+    for it in machines:
+        room.adsplice(it)
+    changed = ((f"10.0.0.{number}:8090 max_fails", f"127.0.0.1:{port} max_fails") for number, port in enumerate(machines, 1))
+    return by_nginx(room, FRONT, free_port(), free_port(), False, changed)
+
+
+def by_nginx(room, conf, viewers, operators, has_workers, changed):
+    """Starts nginx by the file `conf` with two ports, in which each pair of `changed` texts is another; answers the two ports."""
+    with open(conf, encoding="utf-8") as it:
         text = it.read()
-    for old, new in (("127.0.0.1:8081", f"127.0.0.1:{ports[0]}"), ("127.0.0.1:8082", f"127.0.0.1:{ports[1]}"), ("listen 8080", f"listen 127.0.0.1:{ports[2]}"),
-                     ("127.0.0.1:8090", f"127.0.0.1:{ports[3]}"), ("/var/log/nginx", room.path), ("/var/cache/adsplice", f"{room.path}/cache"),
-                     ("/etc/nginx/adsplice.d", moved or f"{room.path}/none")):
+    for old, new in (*changed, ("listen 8080", f"listen 127.0.0.1:{viewers}"), ("listen 127.0.0.1:8090", f"listen 127.0.0.1:{operators}"),
+                     ("/var/log/nginx", room.path), ("/var/cache/adsplice", f"{room.path}/cache")):
         assert old in text, old
         text = text.replace(old, new)
     rooms = "".join(f"{it}_temp_path {room.path}/{it};\n" for it in ("client_body", "proxy", "fastcgi", "scgi", "uwsgi"))
@@ -44,12 +59,42 @@ def front(room, moved="", has_workers=False):
     os.chmod(room.path, 0o755)
     words = "daemon off;" if has_workers else "daemon off; master_process off;"
     room.running.append(subprocess.Popen([NGINX, "-p", room.path, "-c", path, "-g", words], stdout=subprocess.DEVNULL, stderr=subprocess.DEVNULL))
-    until(lambda: get(f"http://127.0.0.1:{ports[2]}/")[0] == 404, 10, "nginx")
-    return ports[2], ports[3]
+    until(lambda: get(f"http://127.0.0.1:{viewers}/")[0] == 404, 10, "nginx")
+    return viewers, operators
 
 
 def test_another_spelling_of_a_path_is_the_same_channel(room):
-    viewers, operators = front(room)
+    spelled_otherwise(*front(room))
+
+
+def test_another_spelling_of_a_path_is_the_same_channel_at_a_front_of_machines(room):
+    spelled_otherwise(*front_of_machines(room))
+
+
+def test_fields_of_one_viewer_hold_up_no_other(room):
+    held_by_fields(*front(room))
+
+
+def test_fields_of_one_viewer_hold_up_no_other_at_a_front_of_machines(room):
+    held_by_fields(*front_of_machines(room))
+
+
+def held_by_fields(viewers, operators):
+    """A viewer who sends more fields than adsplice takes (64), and a body, gets the newest list, and so does who comes after."""
+    url, seen = f"http://127.0.0.1:{operators}/channels/news", f"http://127.0.0.1:{viewers}/channels/news/live.m3u8"
+    assert put(url, b'{"base":"http://h/i.m3u8"}') == 201 and put(f"{url}/origin", listed(0, 5).encode()) == 204
+    harmful = urllib.request.Request(seen, b"a body", {f"X-Field-{number}": "1" for number in range(90)}, method="GET")
+    with urllib.request.urlopen(harmful, timeout=10) as it:
+        assert "s5.ts" in it.read().decode()  # (it is the first one, and waits for adsplice's answer)
+    assert put(f"{url}/origin", listed(1, 6).encode()) == 204
+    time.sleep(2.2)  # (the cache's second, which nginx counts in whole ones)
+    urllib.request.urlopen(harmful, timeout=10).close()  # (whoever asks first is answered from the cache, and has it refreshed)
+    time.sleep(0.5)
+    assert "s6.ts" in get(seen)[1]
+
+
+def spelled_otherwise(viewers, operators):
+    """Another spelling of a channel's path is answered as the usual one, also before that is in the cache."""
     assert put(f"http://127.0.0.1:{operators}/channels/news", b'{"base":"http://h/i.m3u8"}') == 201
     assert put(f"http://127.0.0.1:{operators}/channels/news/origin", listed(0, 5).encode()) == 204
     for name in ("%6eews", "n%65ws", "news"):  # (the first one is answered before the good spelling is in the cache)

@@ -5,6 +5,7 @@ import re
 import resource
 import shutil
 import signal
+import socket
 import subprocess
 import sys
 import threading
@@ -274,11 +275,9 @@ def test_what_is_passed_over_is_told(room):
     feed.sees("settings 409 Other: the channel was made with .*, and the settings say .*other.example")
 
 
-def test_channels_that_harm_each_other_are_refused(room):
+def test_bounds_that_do_not_read_are_refused(room):
     one = "[DEFAULT]\nat = http://127.0.0.1:9\norigin = http://h/{}.m3u8\n[news-1080]\n"
-    for text, owed in ((f"{one}[news]\nrenditions = 1080 720\n", "two channels have the name news-1080"),
-                       (f"{one}decisions = {room.path}/d\n[sport]\ndecisions = {room.path}/../{os.path.basename(room.path)}/d\n", "two channels have the folder of decisions"),
-                       (f"{one}line = 5\n", "line is a number of bytes of at least 256"), (f"{one}redirects = maybe\n", "redirects is yes or no")):
+    for text, owed in ((f"{one}line = 5\n", "line is a number of bytes of at least 256"), (f"{one}redirects = maybe\n", "redirects is yes or no")):
         status, out, err = room.run("adsplice-feed", "--config", room.write("feed.ini", text))
         assert (status, out, err.count("\n")) == (1, "", 1) and owed in err, (text, status, err)
 
@@ -330,6 +329,58 @@ def test_readers_take_time_by_their_bytes(room):
     assert (done.returncode, done.stdout) == (0, ""), (done.stdout, done.stderr[-500:])
 
 
+def test_answers_of_odd_servers(room):
+    from adsplice_plant.web import Client
+    head = b"HTTP/1.1 200 OK\r\n"
+    for sent, status, body, why in (
+            (head + b"Content-Length: 3\r\n\r\nabc", 200, b"abc", ""), (head + b"\r\nabc", 200, b"abc", ""), (b"HTTP/1.0 200 OK\r\n\r\nabc", 200, b"abc", ""),
+            (head + b"Transfer-Encoding: chunked\r\n\r\n3\r\nabc\r\n1\r\nd\r\n0\r\n\r\n", 200, b"abcd", ""),
+            (b"HTTP/1.1 100 Continue\r\n\r\n" + head + b"Content-Length: 1\r\n\r\na", 200, b"a", ""),
+            (head + b"Content-Length: 9\r\n\r\nabc", 0, b"", "peer closed connection without sending complete message body"),
+            (head + b"Transfer-Encoding: chunked\r\n\r\n9\r\nabc", 0, b"", "peer closed connection without sending complete message body"),
+            (head + b"Content-Length: 3\r\nContent-Length: 5\r\n\r\nabcde", 0, b"", "Content-Length isn't one number"),
+            (head + b"Content-Length: -3\r\n\r\nabc", 0, b"", "Content-Length isn't one number"),
+            (head + b"Content-Encoding: gzip\r\nContent-Length: 1\r\n\r\na", 0, b"", "the answer has a content coding, which wasn't asked for"),
+            (b"SSH-2.0-x\r\n", 0, b"", "the answer isn't one of HTTP"), (b"", 0, b"", "Server disconnected without sending a response.")):
+        with socket.create_server(("127.0.0.1", 0)) as server:
+            def serve(server=server, sent=sent):
+                with server.accept()[0] as it:
+                    it.recv(65_536)
+                    it.sendall(sent)
+            thread = threading.Thread(target=serve)
+            thread.start()
+            client = Client(5.0)
+            found = client.ask("GET", f"http://127.0.0.1:{server.getsockname()[1]}/a?b")
+            thread.join()
+            client.close()
+        assert (found.status, found.body, found.why) == (status, body, why), (sent, found)
+
+
+def test_a_connection_is_used_for_the_next_request_unless_its_server_has_ended_it(room):
+    from adsplice_plant.web import Client
+    asked, ended, answers = [], threading.Event(), [b"HTTP/1.1 204 No Content\r\n\r\n", b"HTTP/1.1 200 OK\r\nContent-Length: 2\r\n\r\nok"]
+    with socket.create_server(("127.0.0.1", 0)) as server:
+        def serve():
+            for place in range(2):  # (the first connection has two requests, and then ends; the second one has one)
+                with server.accept()[0] as it:
+                    for answer in answers[place:]:
+                        got = b""
+                        while not got.endswith(b"\r\n\r\nbody" if got.startswith(b"PUT") else b"\r\n\r\n"):  # (head and body may come apart)
+                            got += it.recv(65_536)
+                        asked.append((place, got))
+                        it.sendall(answer)
+                ended.set()
+        thread = threading.Thread(target=serve)
+        thread.start()
+        client, url = Client(5.0), f"http://127.0.0.1:{server.getsockname()[1]}"
+        assert client.ask("PUT", f"{url}/one", b"body").status == 204 and client.ask("GET", f"{url}/two").body == b"ok"
+        assert ended.wait(20)
+        assert client.ask("GET", f"{url}/three").body == b"ok"
+        thread.join()
+        client.close()
+    assert [(place, it.split(b" HTTP")[0]) for place, it in asked] == [(0, b"PUT /one"), (0, b"GET /two"), (1, b"GET /three")], asked
+
+
 def test_readers_end_with_any_text(room):
     from hypothesis import given, settings
     from hypothesis import strategies as some
@@ -348,8 +399,9 @@ def test_readers_end_with_any_text(room):
         excerpt.event_in(one)
         journal.Reader().event(one.decode("utf-8", "replace"))
         assert words.plain(one.decode("utf-8", "surrogateescape")).isprintable()
-        old, new = edits.lines_of(journal.text_of(one)), edits.lines_of(journal.text_of(other))
-        assert edits.edited(old, json.loads(json.dumps(edits.edit_of(old, new)))) == new and "".join(new).encode("utf-8", "surrogateescape") == other
+        old, new = journal.text_of(one), journal.text_of(other)
+        made = "".join(edits.edited(edits.lines_of(old), json.loads(json.dumps(edits.edit_of(old, new)))))
+        assert made == new and made.encode("utf-8", "surrogateescape") == other
         assert bool(origin.over_bound(one, 20)) == any(len(line) > 20 for line in one.split(b"\n"))
 
     holds()

@@ -11,7 +11,7 @@ from tools import FALLBACK, OUT, PLANT, PYTHON, apart, decided, instant, listed
 sys.path.insert(0, PLANT)
 from adsplice_plant import journal  # noqa: E402
 from adsplice_plant.causes import Explainer  # noqa: E402
-from adsplice_plant.edits import edit_of, edited, lines_of  # noqa: E402
+from adsplice_plant.edits import common_end, edit_of, edit_of_lines, edited, lines_of  # noqa: E402
 from adsplice_plant.excerpt import Book, Excerpt, given_of  # noqa: E402
 from adsplice_plant.history import Run  # noqa: E402
 from adsplice_plant.kept import Kept  # noqa: E402
@@ -43,17 +43,31 @@ def test_edits_make_the_new_text_of_the_old_one(room):
     rng = random.Random(20261127)
     for _ in range(2000):
         old, new = (lines_of("".join(rng.choice("abc\n\r") + rng.choice("\n\nx") for _ in range(rng.randrange(14)))) for _ in range(2))
-        assert edited(old, json.loads(json.dumps(edit_of(old, new)))) == new, (old, new)
+        assert edited(old, json.loads(json.dumps(edit_of_lines(old, new)))) == new, (old, new)
     assert lines_of("a\u2028b\x85c\r\nd") == ["a\u2028b\x85c\r\n", "d"]
-    first, second = (lines_of(listed(n, n + 29)) for n in (0, 1))
-    assert len(json.dumps(edit_of(first, second))) < 200
+    first, second = (listed(n, n + 29) for n in (0, 1))
+    assert len(json.dumps(edit_of(first, second))) < 200 and edited(lines_of(first), edit_of(first, second)) == lines_of(second)
+
+
+def test_an_edit_finds_what_the_end_of_a_text_has_in_common_with_the_next_one(room):
+    rng, kept = random.Random(20261129), 0
+    for _ in range(1000):
+        lines = [f"{rng.choice('abc') * rng.randrange(1, 40)}\n" for _ in range(rng.randrange(8, 60))]
+        gone, changed = rng.randrange(4), rng.randrange(len(lines))
+        front = [rng.choice(lines) for _ in range(rng.randrange(4))]
+        fresh = [rng.choice(lines) for _ in range(rng.randrange(4))]
+        rest = lines[gone:] if rng.random() < 0.8 else [*lines[gone:changed], "other\n", *lines[changed + 1:]]
+        old, new = "".join(lines), "".join([*front, *rest, *fresh])[:None if rng.random() < 0.9 else -1]
+        assert edited(lines_of(old), json.loads(json.dumps(edit_of(old, new)))) == lines_of(new), (old, new)
+        kept += common_end(old, new) is not None
+    assert kept > 500, kept
 
 
 def test_a_hostile_text_is_compared_in_time(room):
     # (the processor seconds of a process of its own: at most four times as long for twice the text)
     code = ("import sys, time; sys.path.insert(0, sys.argv[1]); from adsplice_plant.edits import *\n"
-            "def took(a, b):\n    begun = time.process_time(); edit_of(lines_of(a), lines_of(b)); return time.process_time() - begun\n"
-            "for make in (lambda n: ('a\\n' + 'b\\n' * n, 'a\\n' * n), lambda n: (''.join(f'{i}\\n' for i in range(n)), ''.join(f'{n - i}\\n' for i in range(n)))):\n"
+            "def took(a, b):\n    begun = time.process_time(); edit_of(a, b); return time.process_time() - begun\n"
+            "for make in (lambda n: ('a\\n' + 'b\\n' * n, 'a\\n' * n), lambda n: ('b\\n' * n, 'a\\n' + 'b\\n' * (n - 1)), lambda n: (''.join(f'{i}\\n' for i in range(n)), ''.join(f'{n - i}\\n' for i in range(n)))):\n"
             "    small, large = (min(took(*make(n)) for _ in range(3)) for n in (20_000, 40_000))\n    assert large < 4 * small + 0.05, (small, large)\n")
     done = subprocess.run([PYTHON, "-c", code, PLANT], capture_output=True, text=True, timeout=60, check=False)
     assert done.returncode == 0, done.stderr

@@ -3,10 +3,11 @@ import json
 import os
 import re
 import signal
+import time
 import urllib.request
 
 from of_feed import by_clock, kept_numbers
-from tools import FALLBACK, FakeController, FakeOrigin, RulesController, SlowController, decided, free_port, get, instant, listed, put, until
+from tools import FALLBACK, FakeController, FakeOrigin, RulesController, SlowController, Viewers, decided, free_port, get, instant, listed, put, until
 
 NEEDS = ("httpx",)
 NAMES = ("1", "2", "3")
@@ -305,6 +306,38 @@ def numbers(port):
     return ["\n".join(it for it in text.splitlines() if it.startswith("#")) for text in texts]
 
 
+def with_cues(first, last, cues):
+    """A list of segments `first` to `last` of 2 s; before those of `cues` stands a tag each."""
+    lines = [f"{cues.get(it, '')}#EXT-X-PROGRAM-DATE-TIME:{instant(2 * it)}\n#EXTINF:2,\ns{it}.ts" for it in range(first, last + 1)]
+    return "\n".join(["#EXTM3U", "#EXT-X-VERSION:3", "#EXT-X-TARGETDURATION:2", f"#EXT-X-MEDIA-SEQUENCE:{first}", *lines, ""])
+
+
+def test_ladder_lists_without_signals_wait_for_those_that_have_them(room):
+    controller, cues = room.server(RulesController()), {8: "#EXT-X-CUE-OUT:4\n", 10: "#EXT-X-CUE-IN\n", 14: "#EXT-X-CUE-OUT:4\n", 16: "#EXT-X-CUE-IN\n"}
+    for name in NAMES:
+        room.write(f"f-{name}.json", json.dumps({"fallback": {"ads": [{"segments": [{"uri": f"http://ads.example/a{it}.ts", "duration": "2"} for it in range(2)]}]}}))
+    ladder = Ladder(room, controller.url, with_cues(0, 5, {}), "--fallback", f"{room.path}/f-{{}}.json")
+    ladder.taken()
+    for newest in range(6, 19):
+        for name in ("2", "3", "1"):  # (sound and subtitles come first, and the picture's list, which alone has the tags, half a second later)
+            time.sleep(0.5 if name == "1" else 0)
+            ladder.push(with_cues(max(0, newest - 6), newest, cues if name == "1" else {}), (name,))
+        owed = {8: "a0.ts", 9: "a1.ts", 14: "a0.ts", 15: "a1.ts"}.get(newest, f"s{newest}.ts")
+        until(lambda owed=owed: all(controller.shown(f"news-{name}").rstrip("\n").endswith(f"/{owed}") for name in NAMES), 20, f"{owed} in all renditions")
+    assert len({re.sub(r"origin.example/.", "", controller.shown(f"news-{name}")) for name in NAMES}) == 1
+
+
+def test_ladder_list_without_signals_waits_for_a_target_duration_at_most(room):
+    controller = room.server(RulesController())
+    ladder = Ladder(room, controller.url, with_cues(0, 5, {2: "#EXT-X-CUE-OUT:2\n"}))
+    ladder.push(with_cues(0, 5, {}), NAMES[1:])
+    ladder.taken()
+    begun = time.monotonic()
+    ladder.push(with_cues(1, 6, {}), NAMES[1:2])  # (the picture's packager stands still)
+    until(lambda: "s6.ts" in controller.shown("news-2"), 20, "the list of news-2")
+    assert 1.5 < time.monotonic() - begun < 10, time.monotonic() - begun
+
+
 @needs("httpx", "program")
 def test_ladder_has_equal_numbers_after_one_rendition_was_deleted(room):
     port = free_port()
@@ -356,6 +389,28 @@ def push_on(ladder, controller, numbers, breaks, names=NAMES):
     for newest in numbers:
         ladder.push(listed(max(0, newest - 7), newest, breaks), names)
         until(lambda newest=newest: all(f"s{newest}.ts" in controller.shown(f"news-{name}") for name in names), 60, f"segment {newest}")
+
+
+def test_ladder_of_which_one_process_is_back_before_the_others_has_the_numbers_of_before(room):
+    controller, viewers, breaks = room.server(RulesController()), {name: Viewers() for name in NAMES}, [("b1", 8, 4)]
+    ladder = Ladder(room, controller.url, listed(0, 3, breaks), "--longest-pause", "1")
+    ladder.decide("one", decided(("b1", 2)))
+    ladder.taken()
+
+    def go_on(numbers, names=NAMES):
+        for newest in numbers:
+            push_on(ladder, controller, [newest], breaks if newest < 13 else (), names)
+            for name in names:
+                viewers[name].see(controller.shown(f"news-{name}"))
+    go_on(range(6, 17))  # (the break has left the list, and with it two discontinuities)
+    after = len(ladder.feed.lines)
+    controller.kill()
+    controller.away = {"news-2", "news-3"}
+    ladder.push(listed(10, 17))
+    ladder.feed.sees("news-. adsplice 502 -: .*; makes news-2 with the other renditions as soon as it can", 10, after)
+    controller.away = set()
+    go_on(range(18, 21))
+    assert at_newest(controller) == [(20, 2)] * 3, at_newest(controller)
 
 
 def test_ladder_that_came_apart_comes_together_though_a_break_is_always_listed(room):
@@ -488,6 +543,43 @@ def test_ladder_has_equal_numbers_after_one_packager_was_away(room):
     assert shown("2") == {26: 26, 27: 27, 28: 28}, shown("2")
     text = get(f"http://127.0.0.1:{port}/channels/news-2/live.m3u8")[1]
     assert "http://origin.example/1/s26.ts" in text and text.count("#EXT-X-DISCONTINUITY\n") == 2, text
+
+
+def cued(first, last, begin, end, offset):
+    """A list of segments `first` to `last` of 2 s that begin `offset` seconds late, with a break from segment `begin` to `end` by tags."""
+    tags = {begin: f"#EXT-X-CUE-OUT:{2 * (end - begin)}\n", end: "#EXT-X-CUE-IN\n"}
+    lines = [f"{tags.get(it, '')}#EXT-X-PROGRAM-DATE-TIME:{instant(2 * it + offset)}\n#EXTINF:2,\ns{it}.ts" for it in range(first, last + 1)]
+    return "\n".join(["#EXTM3U", "#EXT-X-VERSION:3", "#EXT-X-TARGETDURATION:2", f"#EXT-X-MEDIA-SEQUENCE:{first}", *lines, ""])
+
+
+def two_seconds(count):
+    """A fallback of so many segments of 2 s."""
+    return json.dumps({"fallback": {"ads": [{"segments": [{"uri": f"http://ads.example/a{it}.ts", "duration": "2"} for it in range(count)]}]}})
+
+
+def test_ladder_whose_sound_is_cut_elsewhere_than_its_picture_has_its_ads_in_both(room):
+    controller, offsets = room.server(RulesController()), {"near": 0.085, "far": 0.15, "half": -0.5, "most": 0.95}
+    sections = "".join(f"[{it}]\nrenditions = v a\norigin = {room.path}/{it}-{{}}.m3u8\n" for it in offsets)
+    fallback = room.write("f.json", two_seconds(3))
+
+    def push(newest):
+        for name, offset in offsets.items():
+            room.write(f"{name}-v.m3u8", cued(max(0, newest - 7), newest, 8, 11, 0))
+            room.write(f"{name}-a.m3u8", cued(max(0, newest - 7), newest, 8, 11, offset))
+
+    push(4)
+    feed = room.feed("--config", room.write("feed.ini", f"[DEFAULT]\nat = {controller.url}\nbase = http://h/i.m3u8\nfallback = {fallback}\n{sections}"))
+    for newest in range(5, 15):
+        owed = f"a{newest - 8}.ts" if 8 <= newest < 11 else f"s{newest}.ts"
+        push(newest)
+        for name in (f"{one}-{two}" for one in offsets for two in "va"):
+            try:
+                until(lambda name=name: controller.shown(name).rstrip("\n").endswith(f"/{owed}"), 60, f"{owed} in {name}")
+            except AssertionError as fault:
+                raise AssertionError("\n".join([str(fault), controller.shown(name), *feed.lines])) from None
+    texts = {name: [controller.shown(f"{name}-{it}") for it in "va"] for name in offsets}
+    for name, found in texts.items():
+        assert re.findall("SEQUENCE:.*|^#EXT-X-DISC.*|/[as][0-9]+", found[0], re.M) == re.findall("SEQUENCE:.*|^#EXT-X-DISC.*|/[as][0-9]+", found[1], re.M), (name, found)
 
 
 @needs("httpx", "program")

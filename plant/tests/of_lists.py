@@ -2,6 +2,7 @@
 import json
 import os
 import random
+import re
 import subprocess
 import sys
 import time
@@ -12,7 +13,7 @@ import recorded
 from tools import PLANT, apart, free_port, instant
 
 sys.path.insert(0, PLANT)
-from adsplice_plant import repairs  # noqa: E402
+from adsplice_plant import packaged, repairs  # noqa: E402
 from adsplice_plant.repair import Choices, Repairer  # noqa: E402
 from adsplice_rules.reading import read  # noqa: E402
 from adsplice_rules.succession import succession_fault  # noqa: E402
@@ -43,10 +44,37 @@ class Rules:
         return found
 
 
+class Compared:
+    """A Repairer beside one that reads each list as a whole: both answer the same."""
+
+    grown = 0  # lists that were read as what is new in them, in all tests
+
+    def __init__(self, choices):
+        self.repairer, self.whole, self.other = Repairer(choices), Repairer(choices), None
+
+    def take(self, body, now, clock):
+        """What both make of a list."""
+        self.whole.accepted = None
+        Compared.grown += self.repairer.grow(body) is not None
+        one, self.other = self.repairer.take(body, now, clock), self.whole.take(body, now, clock)
+        assert self.said(one) == self.said(self.other), (body, self.said(one), self.said(self.other))
+        return one
+
+    @staticmethod
+    def said(it):
+        """All that is said of a list."""
+        return it.why, it.waits, it.kinds, it.head, it.found and (it.body(), it.found.segments, it.found.date_ranges(), packaged.write(it.found))
+
+    def accept(self, found):
+        """The list is accepted."""
+        self.repairer.accept(found)
+        self.whole.accept(self.other)
+
+
 def replay(states, push, choices=Choices()):
     """Pushes what is made of `states`, pairs of a second and a list, by `push`; answers how many were pushed, how many of these as
     they came, and the kinds of repairs with what was told of each."""
-    repairer, pushed, same, kinds = Repairer(choices), 0, 0, {}
+    repairer, pushed, same, kinds = Compared(choices), 0, 0, {}
     states = list(states)
     for place, (at, body) in enumerate(states):
         until = states[place + 1][0] if place + 1 < len(states) else at + 10
@@ -66,12 +94,12 @@ def replay(states, push, choices=Choices()):
 # What is put right in each recording.
 RECORDED = {
     "ff-append": {"discontinuity sequence", "end"}, "ff-dash": {"end"}, "ff-dash-a": {"end"}, "ff-fmp4": {"end"},
-    "ff-irr": {"target", "long segment", "end"}, "ff-plain": {"times", "end"}, "ff-rekey": {"end"}, "ff-restart": {"began again", "own numbers"},
+    "ff-irr": {"target", "long segment", "end"}, "ff-plain": {"times", "end"}, "ff-rekey": {"end"}, "ff-restart": {"began again", "few segments", "own numbers"},
     "ff-segment": {"times", "target", "long segment", "end"}, "ff-single": {"numbers", "own numbers", "end"},
     "ff-variants-v0": {"end"}, "ff-variants-v1": {"end"}, "ff-variants-v2": {"end"},
     "gst-sink": {"times"}, "gst-sink2irr": {"times", "target", "long segment"}, "liq-ts": {"times"},
     "rtmp-event": {"spaces", "times", "discontinuity sequence"}, "rtmp-plain": {"times", "discontinuity sequence"},
-    "vlc": {"times", "target", "end", "began again", "own numbers"}}
+    "vlc": {"times", "target", "end", "began again", "few segments", "own numbers"}}
 
 
 @apart
@@ -268,6 +296,7 @@ class Packager:
     times: str = "each"  # or `first`, `none`
     names: str = "new"  # after it began again: other URIs, or `again`
     token: bool = False  # in each URI, another in each list
+    hosts: bool = False  # of each URI, another in each list
     key: str = ""  # or `number`, `stated`, `rotated`
     section: bool = False
     ranges: bool = False
@@ -313,13 +342,13 @@ class Packager:
                 lines.append(f"#EXT-X-PROGRAM-DATE-TIME:{instant(it['begins'])}")
             lines += ["#EXT-X-GAP"] if it["is_gap"] else []
             lines += [f"#EXTINF:{it['seconds']},"] + ([f"#EXT-X-BYTERANGE:{it['range'][0]}@{it['range'][1]}"] if self.ranges else [])
-            lines.append(it["name"] + (f"?t={turn}" if self.token else ""))
+            lines.append((f"http://h{turn}.example/" if self.hosts else "") + it["name"] + (f"?t={turn}" if self.token else ""))
         return ("\n".join(lines) + "\n").encode(), segments
 
 
 def follows(packager, events):
     """Follows a packager through `events`, each list of which is held against the rules and against what is true of it."""
-    rules, repairer, given, at = Rules(), Repairer(Choices()), {}, 0.0
+    rules, repairer, given, at = Rules(), Compared(Choices()), {}, 0.0
     packager.make()
     for turn, event in enumerate(events):
         at += 2
@@ -339,7 +368,7 @@ def follows(packager, events):
         said = rules.push(found.body())
         repairer.accept(found)
         check(packager, [it for it in segments if not it["is_gap"]], said, given)
-    return repairer
+    return repairer.repairer
 
 
 def check(packager, segments, said, given):
@@ -362,7 +391,7 @@ def packagers():
     from hypothesis import strategies as some
     kinds = some.builds(
         Packager, window=some.integers(3, 6), numbers=some.sampled_from(["true", "stands"]), times=some.sampled_from(["each", "first", "none"]),
-        names=some.sampled_from(["new", "again"]), token=some.booleans(), section=some.booleans(),
+        names=some.sampled_from(["new", "again"]), token=some.booleans(), hosts=some.booleans(), section=some.booleans(),
         key=some.sampled_from(["", "number", "stated", "rotated"]), ranges=some.booleans(), counts=some.booleans(), clean=some.booleans(),
         steady=some.booleans())
     return kinds, some.lists(some.sampled_from(["", "", "", "marked", "again", "gap", "burst", "lag"]), min_size=1, max_size=25)
@@ -380,6 +409,7 @@ def test_random_packagers(room):
         assume(packager.names == "new" or packager.times == "each")  # (else nothing tells the segments of two runs apart)
         assume(not packager.section or packager.key in ("", "stated"))  # (adsplice takes no section under a key without IV)
         assume(not packager.ranges or "again" not in happens)  # (one file that is begun again has the same ranges)
+        assume(not packager.hosts or packager.numbers == "true" and packager.times != "none")  # (one name says too little then)
         follows(packager, happens)
     run()
 
@@ -387,11 +417,78 @@ def test_random_packagers(room):
 test_random_packagers.needs = ("hypothesis",)
 
 
+# ---- what is spelled otherwise in each list
+
+# What a packager spells otherwise in the list of a turn: the folder or the host of its segments (`before`), their query (`after`), and tags
+# of its head; or it corrects the newest segment's duration in the next list.
+SPELLED = {
+    "folder": {"before": "{}/"}, "host": {"before": "http://{}.example/"}, "host and query": {"before": "http://{}.example/", "after": "?t={}"},
+    "key": {"head": '#EXT-X-KEY:METHOD=AES-128,URI="k?t={}",IV=0x7'}, "key's folder": {"head": '#EXT-X-KEY:METHOD=AES-128,URI="{}/k"'},
+    "section": {"head": '#EXT-X-MAP:URI="i.mp4?t={}"'}, "key, section and host": {
+        "before": "http://{}.example/ch/", "head": '#EXT-X-KEY:METHOD=AES-128,URI="k?t={}",IV=0x7\n#EXT-X-MAP:URI="{}/i.mp4"'},
+    "newest duration": {"newest": "2"}, "newest duration and host": {"newest": "2", "before": "http://{}.example/"}}
+
+
+def spelled(first, last, turn, times, before="", after="", head="", newest="1.9", name="s"):
+    """The list of segments of 1.9 s from `first` to `last`, as it is spelled in a `turn`. `times`: `each` segment states its instant, the
+    `first` one, or none."""
+    word = "abc"[turn % 3]
+    lines = [HEAD + f"#EXT-X-MEDIA-SEQUENCE:{first}", *([head.replace("{}", word)] if head else [])]
+    for number in range(first, last + 1):
+        lines += [f"#EXT-X-PROGRAM-DATE-TIME:{instant(1.9 * number)}"] if times == "each" or times == "first" and number == first else []
+        lines += [f"#EXTINF:{newest if number == last else '1.9'},", before.replace("{}", word) + f"{name}{number}.ts" + after.replace("{}", word)]
+    return "\n".join([*lines, ""]).encode()
+
+
+def test_a_listed_segment_that_is_spelled_otherwise_is_the_same(room):
+    wrong = []
+    for kind, said in SPELLED.items():
+        for times in ("each", "first", ""):
+            for step in (1, 2):
+                rules, repairer, given = Rules(), Repairer(Choices()), {}
+                for turn, last in enumerate(range(5, 40, step)):
+                    found = repairer.take(spelled(last - 5, last, turn, times, **said), 2.0 * turn, CLOCK + turn * 2 * 10**9)
+                    if found.found is None:
+                        wrong.append((kind, times, step, turn, found.why))
+                        break
+                    written = rules.push(found.body())
+                    repairer.accept(found)
+                    for it in written.segments:  # (what is listed again is what it was, and nothing is listed twice)
+                        same = (it.uri, it.nanos, [(key.uri, key.iv) for key in it.keys], it.init_section, it.range)
+                        assert given.setdefault(it.number, same) == same, (kind, times, step, turn, it)
+                    assert [it.number for it in written.segments] == list(range(last - 5, last + 1)) and not any(it.discontinuity for it in written.segments)
+    assert not wrong, (len(wrong), wrong)
+
+
+def test_an_older_list_that_is_spelled_otherwise_lags(room):
+    for kind, said in SPELLED.items():
+        for times in ("each", ""):
+            repairer = Repairer(Choices())
+            for turn, last in enumerate(range(5, 20)):
+                repairer.accept(repairer.take(spelled(last - 5, last, turn, times, **said), turn, CLOCK))
+                found = repairer.take(spelled(last - 7, last - 2, turn + 1, times, **said), turn, CLOCK) if last > 8 else None
+                assert found is None or found.why == repairs.LAGS, (kind, times, turn, found)
+
+
+def test_names_do_not_make_another_run_of_a_packager_the_same(room):
+    for times, say in (("each", True), ("", False)):  # (it begins again at once, in another folder, with the same names and numbers)
+        repairer = Repairer(Choices())
+        repairer.accept(repairer.take(spelled(0, 5, 0, times, "a/"), 0, CLOCK))
+        for last in range(6):
+            found = repairer.take(spelled(0, last, 1, times, "b/").replace(b"T12:00", b"T12:10"), 1 + 0.1 * last, CLOCK)
+            assert found.found is None and found.waits, (times, last, found)
+        found = repairer.take(spelled(0, 6, 1, times, "b/").replace(b"T12:00", b"T12:10"), 4, CLOCK)
+        assert "began again" in found.kinds and found.found.segments[0].number == 6, (times, found.kinds)
+    repairer = Repairer(Choices())  # (names that are all equal say nothing if no segment states its instant)
+    repairer.accept(repairer.take(re.sub(rb"s\d+\.ts", b"s.ts", spelled(0, 5, 0, "", "{}/")), 0, CLOCK))
+    assert repairer.take(re.sub(rb"s\d+\.ts", b"s.ts", spelled(1, 6, 1, "", "{}/")), 1, CLOCK).waits
+
+
 def test_right_lists_pass_unchanged(room):
     for window in (3, 6):
         for times in ("each", "first"):
             for key in ("", "number", "rotated"):
-                packager, repairer = Packager(window=window, times=times, key=key), Repairer(Choices())
+                packager, repairer = Packager(window=window, times=times, key=key), Compared(Choices())
                 packager.make()
                 for turn in range(40):
                     packager.make(is_marked=turn % 7 == 3)

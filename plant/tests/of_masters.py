@@ -1,8 +1,9 @@
 """Tests of a master playlist as the origin: what is read of it, what viewers get, and a feed of its renditions."""
 import json
 import sys
+import threading
 
-from tools import PLANT, FakeController, listed, until
+from tools import PLANT, FakeController, apart, listed, until
 
 sys.path.insert(0, PLANT)
 from adsplice_plant.words import Fault  # noqa: E402
@@ -84,6 +85,91 @@ def test_renditions_of_a_master_playlist_are_channels(room):
 
 
 test_renditions_of_a_master_playlist_are_channels.needs = ("httpx",)
+
+
+class Watched(list):
+    """Threads that are watched: the feed ends if one of them doesn't run."""
+
+    def append(self, it):
+        assert it.is_alive(), it.name
+        super().append(it)
+
+    def __iadd__(self, found):
+        for it in found:
+            self.append(it)
+        return self
+
+
+@apart  # (its channels tell lines)
+def test_a_thread_is_watched_once_it_runs(room):
+    from adsplice_plant import feed
+    room.write("master.m3u8", MASTER.replace("http://other.example/", ""))
+    said = feed.read_words(["--channel", "film", "--origin", f"{room.path}/master.m3u8", "--base", BASE, "--at", "http://127.0.0.1:1",
+                            "--master", f"{room.path}/viewers.m3u8", "--hold", "1", "--timeout", "1"])
+    ending = threading.Event()
+    feeds = feed.Feeds(said, ending)
+    watched = feeds.threads = Watched()
+    feeds.start(feed.channels_of(said, []))
+    until(lambda: {it.name for it in watched} == {"film", "film-1", "film-2", "film-3"}, 10, "the programme's thread, and one for each rendition")
+    ending.set()
+
+
+test_a_thread_is_watched_once_it_runs.needs = ("httpx",)
+
+
+# URIs of renditions that no list may name: by a master playlist at BASE, and by one that is a file; a part of what is told of each.
+STRAYS = (
+    ("v.m3u8 /etc/passwd", "has a space"), ("v.m3u8\u00a0/etc/passwd", "isn't printed"), ("v.m3u8\u2003/etc/passwd", "isn't printed"),
+    ("http://127.0.0.1:23202/direct.m3u8", "of another host, port or scheme"), ("http://other.example/v.m3u8", "of another host, port or scheme"),
+    ("//other.example/v.m3u8", "of another host, port or scheme"), ("http://origin.example:8080/v.m3u8", "of another host, port or scheme"),
+    ("https://origin.example/v.m3u8", "of another host, port or scheme"), ("http://169.254.169.254/latest", "of another host, port or scheme"),
+    ("file:///etc/passwd", "isn't a URL that begins with"), ("data:text/plain,x", "isn't a URL that begins with"))
+OF_FILES = (("/etc/passwd", "isn't in the master playlist's folder"), ("../v.m3u8", "isn't in the master playlist's folder"), ("a/../../v.m3u8", "isn't in the master playlist's folder"))
+
+
+def named_by(uri, **settings):
+    """The origin of the one rendition of a master playlist that names it by `uri`, and its second one; or why it isn't read."""
+    from adsplice_plant import masters
+    from adsplice_plant.settings import ladder_of
+    programme = ladder_of("film", {"origin": BASE, "at": "http://127.0.0.1:1", "master": "/tmp/viewers.m3u8", **settings})[0]
+    try:
+        found = masters.channels_of(masters.read(f"#EXTM3U\n#EXT-X-STREAM-INF:BANDWIDTH=1\n{uri}\n".encode(), BASE), programme)[0]
+    except Fault as fault:
+        return str(fault)
+    return found.origin, found.second
+
+
+def test_a_master_playlist_names_places_of_its_own_origin_alone(room):
+    of_a_file = {"origin": f"{room.path}/master.m3u8", "base": BASE}
+    for uri, owed in STRAYS:
+        for said in (named_by(uri), named_by(uri, **of_a_file)):
+            assert owed in said, (uri, said)
+    for uri, owed in OF_FILES:
+        assert owed in named_by(uri, **of_a_file), uri
+    for uri, place in (("v.m3u8", "http://origin.example/film/v.m3u8"), ("/v.m3u8?a=1", "http://origin.example/v.m3u8?a=1"),
+                       ("../v.m3u8", "http://origin.example/v.m3u8"), ("http://ORIGIN.example:80/v.m3u8", "http://ORIGIN.example:80/v.m3u8")):
+        assert named_by(uri) == (place, ""), uri
+    for uri, place in (("hd/v.m3u8?a=1", f"{room.path}/hd/v.m3u8"), ("./v.m3u8", f"{room.path}/v.m3u8"), ("http://origin.example/v.m3u8", "http://origin.example/v.m3u8")):
+        assert named_by(uri, **of_a_file) == (place, ""), uri
+
+
+def test_a_master_playlist_names_other_hosts_if_they_may_be_followed_and_never_this_machine(room):
+    for uri in ("http://other.example/v.m3u8", "https://origin.example:8443/v.m3u8"):
+        assert named_by(uri, redirects="yes") == (uri, ""), uri
+    for host in ("127.0.0.1", "127.1", "2130706433", "0x7f000001", "0.0.0.0", "[::1]", "[::ffff:127.0.0.1]", "localhost"):
+        said = named_by(f"http://{host}:8090/v.m3u8", redirects="yes")
+        assert "is an address of this machine" in said, (host, said)
+
+
+def test_a_master_playlist_with_a_host_that_does_not_read_is_told(room):
+    from adsplice_plant import masters
+    from adsplice_plant.settings import ladder_of
+    from adsplice_plant.web import Client
+    for line in ('#EXT-X-SESSION-KEY:METHOD=SAMPLE-AES,URI="http://["\n#EXT-X-STREAM-INF:BANDWIDTH=1\nv.m3u8', "#EXT-X-STREAM-INF:BANDWIDTH=1\nhttp://["):
+        said = {"origin": room.write("master.m3u8", f"#EXTM3U\n{line}\n"), "base": BASE, "at": "http://127.0.0.1:1", "master": f"{room.path}/viewers.m3u8"}
+        lines, begun = [], []
+        programme = masters.Programme(ladder_of("film", said)[0], Client(1), lines.append, begun.append)
+        assert not programme.look() and not begun and "film master - Refused: " in lines[0], lines
 
 
 def test_names_of_a_master_playlist_s_renditions(room):

@@ -3,13 +3,14 @@ import json
 import os
 import random
 import sys
+import time
 from pathlib import Path
 
 from of_lists import BASE, CLOCK, URL, Rules
-from tools import OUT, PLANT, apart, instant
+from tools import OUT, PLANT, apart, instant, listed
 
 sys.path.insert(0, PLANT)
-from adsplice_plant import numbers, records  # noqa: E402
+from adsplice_plant import numbers, records, standing  # noqa: E402
 from adsplice_plant.lists import Lists  # noqa: E402
 from adsplice_plant.repair import Choices, Repairer  # noqa: E402
 from adsplice_plant.settings import Settings  # noqa: E402
@@ -47,11 +48,13 @@ class Plant:
             self.lists.came_in(self.newest)
         if self.channel is not None and written(self.channel) is None:
             self.lists.begin_anew()  # (an earlier feed had made the channel, and pushed nothing)
+        self.lists.pods.given(self.pod, False)
 
     def adsplice(self):
         """adsplice is started (anew); the feed makes the channel, and gives it the fallback."""
         self.channel, self.is_new = decide(Channel(BASE), self.pod), True  # (its first list may begin earlier than the last one)
         self.lists.begin_anew()
+        self.lists.pods.given(self.pod, False)
 
     def view(self):
         """What a viewer sees agrees with all that was seen."""
@@ -138,7 +141,7 @@ def test_broken_file_of_numbers_is_told_and_passed_over(room):
     assert it.next() == with_breaks(3, 8, [])
     it.sending()
     whole = Path(room.path, "news.numbers").read_bytes()
-    assert numbers.repairs_kept(Path(room.path, "news.numbers")) == {} == numbers.repairs_kept(Path(room.path, "no.numbers"))
+    assert standing.repairs_kept(Path(room.path, "news.numbers")) == {} == standing.repairs_kept(Path(room.path, "no.numbers"))
     told.clear()
     assert lists().next() == with_breaks(3, 8, []) and not told
     for place in range(0, len(whole), 97):
@@ -149,6 +152,77 @@ def test_broken_file_of_numbers_is_told_and_passed_over(room):
             assert all(it[:3] == ("numbers", 0, "Broken") for it in told), told
             found.came_in(with_breaks(4, 9, []))
             found.next()
+
+
+def pods_kept(plant):
+    """What the file of numbers of `plant` says of pods: the breaks that began with one, those that began with none, and those decided."""
+    said = standing.read_book((plant.settings.keep / "news.numbers").read_bytes())["pods"]
+    return sorted(said["entered"]), said["missed"], sorted(said["held"])
+
+
+def test_pods_are_kept_for_the_breaks_of_the_window_alone(room):
+    plant, breaks, found = Plant(Path(room.path), pod_of(5, "2")), [(12, 5), (24, 5)], {}
+    decided = json.dumps({"breaks": [{"id": "b24", "ads": json.loads(pod_of(5, "2"))["fallback"]["ads"]}, {"id": "b90", "ads": json.loads(pod_of(5, "2"))["fallback"]["ads"]}]}).encode()
+    plant.channel = decide(plant.channel, decided)
+    plant.lists.pods.given(decided, True)
+    for newest in range(5, 42):
+        plant.seconds = 2.0 * newest
+        plant.turn(with_breaks(newest - 5, newest, breaks), {})
+        found[newest] = pods_kept(plant)
+    assert found[11] == ([], [], []) and found[12] == (["b12"], [], []) == found[16]
+    assert found[23] == (["b12"], [], ["b24"]), "(b12 was listed last beside segment 21, which is listed still)"
+    assert found[27] == (["b24"], [], ["b24"]) and found[39] == ([], [], []) == found[41], (found[27], found[39])
+
+
+def test_a_file_of_numbers_without_pods_is_read_as_before(room):
+    plant = Plant(Path(room.path), pod_of(5, "2"))
+    for newest in range(5, 20):
+        plant.seconds = 2.0 * newest
+        if newest == 15:  # (an earlier feed ended here)
+            path = plant.settings.keep / "news.numbers"
+            said = standing.read_book(path.read_bytes())
+            del said["pods"]
+            path.write_text(json.dumps(said) + "\n", encoding="utf-8")
+            plant.kill("feed")
+        plant.turn(with_breaks(newest - 5, newest, [(12, 5)]), {"before": "adsplice"} if newest == 17 else {})
+    assert plant.at_number[12][0].endswith("/a0.ts") and plant.at_number[16][0].endswith("/a4.ts"), plant.at_number
+
+
+def test_a_file_of_numbers_of_an_earlier_feed_is_read_and_written_anew(room):
+    # (its viewers had a pod of three segments for the five from s12 on, so s23 has the media number 21, and two discontinuities came before it)
+    path, told = Path(room.path, "news.numbers"), []
+    path.write_bytes(Path(PLANT, "tests", "older.numbers").read_bytes())
+    settings = Settings("news", "x", "http://h", URL, keep=Path(room.path))
+    it = Lists(settings, lambda *said: told.append(said), quiet, signalling(settings), lambda: 50.0, lambda: CLOCK)
+    it.begin_anew()  # (and adsplice was started anew, too)
+    it.came_in(with_breaks(19, 24, []).replace(b"#EXT-X-PROGRAM", b'#EXT-X-KEY:METHOD=AES-128,URI="http://k.example/1"\n#EXT-X-PROGRAM', 1))
+    text = it.next().decode()
+    assert "#EXT-X-MEDIA-SEQUENCE:17\n#EXT-X-DISCONTINUITY-SEQUENCE:2\n" in text and text.index("s19.ts") < text.index("s24.ts"), text
+    assert "IV=0x00000000000000000000000000000013" in text, "a key without IV has the packager's number of its segment"
+    it.sending()
+    it.taken()
+    it.sending()
+    assert json.loads(path.read_bytes().split(b"\n")[0])["format"] == standing.FORMAT
+    assert [said[2] for said in told if said[3]] == ["Converted"], told
+
+
+def test_what_a_break_began_with_is_known_though_the_list_is_pushed_twice_or_refused(room):
+    own, fallback = ({"id": "b12", "ads": json.loads(pod_of(count, "2"))["fallback"]["ads"]} for count in (5, 1))
+    plant = Plant(Path(room.path), pod_of(1, "2"))
+    for newest in (10, 11):
+        plant.turn(with_breaks(newest - 5, newest, [(12, 5)]), {})
+    lists = plant.lists
+    lists.pods.given(json.dumps({"breaks": [own]}).encode(), True)
+    lists.came_in(with_breaks(7, 12, [(12, 5)]))
+    lists.next()
+    lists.sending()  # (there is no answer)
+    assert json.loads(lists.pods.entered["b12"]) == own["ads"]
+    lists.pods.given(b'{"withdraw":"b12"}', True)  # (adsplice took it: so it doesn't have the list)
+    assert lists.next() is not None
+    lists.sending()
+    assert json.loads(lists.pods.entered["b12"]) == fallback["ads"]
+    lists.refused()
+    assert not lists.pods.entered and not lists.pods.missed and json.loads(lists.pods.fallback) == fallback["ads"]
 
 
 def test_a_list_that_lags_for_eight_seconds_leaves_the_numbers(room):
@@ -263,6 +337,115 @@ def test_what_is_taken_from_another_rendition_has_absolute_references(room):
     assert uris == ["b23-23.ts", "b23-24.ts", "b23-25.ts", "b23-26.ts"], uris
     taken = [it.uri for it in them[1].repairer.past[-3:]]
     assert taken == [f"http://origin.example/a/a0-{it}.ts" for it in (20, 21, 22)], taken
+
+
+# ---- packagers that begin again
+
+class Drawn:
+    """A packager whose segment `n` of 2 s begins `shift` s after 2n, and that begins again at times. Its list may come late, and the feed
+    reads it each second; `read` are the URIs that it read, `pushed` the URI of each media number."""
+
+    def __init__(self, name, shift, window, them):
+        self.name, self.shift, self.window, self.made, self.run, self.late, self.away = name, shift, window, [], 0, 0, 0
+        self.repairer, self.rules, self.read, self.pushed, self.shortest = Repairer(Choices()), Rules(), set(), {}, 99
+        self.repairer.siblings = Siblings(lambda: [Sibling(f"http://origin.example/{it.name}/i.m3u8", lambda it=it: it.repairer.past + it.repairer.last,
+                                                           lambda it=it: it.repairer.held_since is not None) for it in them if it is not self])
+        self.own = []  # (n, URI) of this run's segments
+
+    def begin_again(self, away):
+        """It loses its list, and makes no segment for `away` of them."""
+        self.own, self.run, self.away = [], self.run + 1, away
+
+    def make(self, n):
+        """It makes the segment `n`, unless it is away."""
+        if self.away:
+            self.away -= 1
+        else:
+            self.own.append((n, f"{self.name}{self.run}-{n}.ts"))
+
+    def look(self, seconds):
+        """The feed reads its list, which has come as far as it is late, and pushes it if it is to be pushed."""
+        listed = self.own[:max(0, len(self.own) - self.late)]
+        lines = ["#EXTM3U", "#EXT-X-VERSION:3", "#EXT-X-TARGETDURATION:2", f"#EXT-X-MEDIA-SEQUENCE:{max(0, len(listed) - self.window)}"]
+        for n, uri in listed[-self.window:]:
+            lines += [f"#EXT-X-PROGRAM-DATE-TIME:{instant(2 * n + self.shift)}", "#EXTINF:2,", uri]
+        self.read |= {uri for _, uri in listed[-self.window:]}
+        found = self.repairer.take(("\n".join(lines) + "\n").encode(), seconds, CLOCK + int(seconds * 10**9))
+        if found.found is not None:
+            said = self.rules.push(found.body())
+            self.repairer.accept(found)
+            self.shortest = min(self.shortest, len(said.segments)) if self.run else self.shortest
+            for it in said.segments:
+                uri = it.uri.rpartition("/")[2]
+                assert self.pushed.setdefault(it.number, uri) == uri, (it.number, uri, self.pushed[it.number])
+
+    def faults(self):
+        """What its viewers lost, or had twice."""
+        shown = [self.pushed[number] for number in sorted(self.pushed)]
+        times = [2 * int(it.rpartition("-")[2].partition(".")[0]) + (0.7 if it[0] == "b" else 0) for it in shown]
+        lost = [it for it in self.read - set(shown) if 2 * int(it.rpartition("-")[2].partition(".")[0]) < times[-1] - 1]
+        return lost, [two for one, two in zip(times, times[1:]) if two - one < 1]
+
+
+def drawn(seed, names):
+    """Packagers that begin again, drawn by `seed`, once they are over."""
+    dice, them = random.Random(seed), []
+    window = dice.choice((6, 8, 12))
+    them += [Drawn(name, 0.7 if name == "b" else 0, window, them) for name in names]
+    again = -9
+    for n in range(70):
+        if 15 < n < 60 and n - again > 6 and dice.random() < 0.09:  # (not while the list before is held back)
+            away, again = dice.choice((0, 1, 3)), n
+            for it in them if dice.random() < 0.5 else [dice.choice(them)]:
+                it.begin_again(away)
+        for it in them:
+            it.late = dice.choice((0, 0, 0, 1)) if it.own and len(it.own) > 1 else 0
+            it.make(n)
+        for look in (0, 1):
+            for it in [it for it in them if len(it.own) > it.late]:
+                it.look(2.0 * n + look)
+    return them
+
+
+@apart
+def test_packagers_that_begin_again_lose_and_double_nothing(room):
+    for seed in range(16):
+        for names in ("a", "ab", "acd"):
+            for it in drawn(seed, names):
+                lost, doubled = it.faults()
+                assert not doubled and not lost, (seed, names, it.name, lost, doubled)
+                assert it.shortest >= 3, (seed, names, it.name, it.shortest)
+
+
+def test_what_was_listed_stays_until_a_list_that_began_again_lasts_three_target_durations(room):
+    repairer, rules = Repairer(Choices()), Rules()
+
+    def pushed(text, seconds):
+        """The URIs that are pushed of the list `text`, with `|` for a discontinuity, once it was looked at twice."""
+        for look in (0, 2):
+            found = repairer.take(text.encode(), seconds + look, CLOCK)
+        rules.push(found.body())
+        repairer.accept(found)
+        return [it for line in found.body().decode().split("\n") for it in ([line] if line.endswith(".ts") else ["|"] if line == "#EXT-X-DISCONTINUITY" else [])]
+    assert pushed(listed(10, 15), 0) == [f"s{n}.ts" for n in range(10, 16)]
+    assert pushed(listed(0, 0, name="t"), 10) == ["s14.ts", "s15.ts", "|", "t0.ts"]
+    assert pushed(listed(0, 1, name="t"), 12) == ["s15.ts", "|", "t0.ts", "t1.ts"]
+    assert pushed(listed(0, 2, name="t"), 14) == ["|", "t0.ts", "t1.ts", "t2.ts"]
+    assert pushed(listed(1, 3, name="t"), 16) == ["t1.ts", "t2.ts", "t3.ts"]
+    assert (rules.last.segments[0].number, rules.last.segments[0].discontinuity) == (17, 1)
+
+
+def test_a_long_list_that_begins_again_is_taken_in_time(room):
+    them = []
+    them += [Drawn(name, 0, 3000, them) for name in "ac"]
+    for it in them:
+        it.own = [(n, f"{it.name}0-{n}.ts") for n in range(3000)]
+        it.look(6000.0)
+    them[0].own = [(n, f"a1-{n}.ts") for n in range(3000)]  # (the same instants)
+    begun = time.process_time()
+    for look in (1, 4):
+        them[0].look(6000.0 + look)
+    assert them[0].repairer.last[-1].uri == "a1-2999.ts" and time.process_time() - begun < 3, time.process_time() - begun
 
 
 def test_two_packagers_by_turns_are_told_once(room):

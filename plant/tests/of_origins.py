@@ -256,7 +256,8 @@ def test_feed_goes_over_and_the_numbers_go_on(room):
     feed.sees("news origins - Second: the first origin fails .the origin answers 503.; reads the second one", 60)
     until(lambda: len(controller.puts("origin")) == 2, 30, "the second origin's list")
     text = controller.puts("origin")[1].decode()
-    assert "#EXT-X-MEDIA-SEQUENCE:6\n" in text and text.count("#EXT-X-DISCONTINUITY\n") == 1 and uris(text) == [f"http://127.0.0.1:{second.port}/t6.ts"], text
+    assert "#EXT-X-MEDIA-SEQUENCE:4\n" in text and text.count("#EXT-X-DISCONTINUITY\n") == 1, text
+    assert uris(text) == ["s4.ts", "s5.ts", f"http://127.0.0.1:{second.port}/t6.ts"], text  # (three target durations)
     second.text = listed(3, 8, name="t").replace("SEQUENCE:3", "SEQUENCE:103")
     until(lambda: len(controller.puts("origin")) == 3, 10, "the next list")
     assert [it.rpartition("/")[2] for it in uris(controller.puts("origin")[2].decode())] == ["t6.ts", "t7.ts", "t8.ts"]

@@ -5,10 +5,11 @@ import re
 import shutil
 import subprocess
 import sys
+from datetime import datetime
 
 from sections import crc, digits, letters, section, segmentation, splice_insert, time_signal
 from styles import ALL, STYLES, Style, insert, named, range_of, signal
-from tools import PLANT, PYTHON, free_port, get, instant, put
+from tools import BEGIN, PLANT, PYTHON, apart, free_port, get, instant, put
 
 sys.path.insert(0, PLANT)
 from adsplice_plant import packaged, signals, spelling, splice, unseen  # noqa: E402
@@ -359,6 +360,47 @@ def test_renditions_whose_instants_differ_a_little_have_one_date_range(room):
     for text in style.lists():
         ranges = [translator.take(listed(it), name).ranges for name, it in (("video", text), ("audio", re.sub(r"(DATE-TIME:.*)\.000Z", r"\1.011Z", text)))]
         assert ranges[0] == ranges[1]
+
+
+# Date ranges that begin so far beside a segment of the picture that another segment of the sound is nearest.
+NEAR_ANOTHER = ("dr-insert-off-by-300ms", "dr-start-alone-off-by-a-second")
+
+
+def cut_elsewhere(text, offset):
+    """The list `text` of a rendition whose segments begin `offset` seconds later; its tags stand before the segments before which they were."""
+    def moved(it):
+        return instant((datetime.fromisoformat(it[0][:-1]) - BEGIN.replace(tzinfo=None)).total_seconds() + offset)
+    return re.sub(r"(?<=PROGRAM-DATE-TIME:)\S+", moved, text)
+
+
+def wrong_cuts(offset, starts_again=False):
+    """The styles of which other segments are replaced in a rendition of pictures (`v`), or in one of sound (`a`) whose segments begin `offset`
+    seconds later, than their signals mean. The one and the other come first by turns."""
+    wrong = []
+    for style in [it for it in ALL if it.name not in NEAR_ANOTHER]:
+        translator, starts = Translator(), {}
+        channels = {name: decide(Channel(base_of(BASE)), fallback(style.pod)) for name in "va"}
+        for turn, text in enumerate(style.lists()):
+            for name in "va" if turn % 2 else "av":
+                if starts_again:
+                    kept, translator = json.loads(json.dumps(translator.kept())), Translator()
+                    translator.resume(kept)
+                own = text if name == "v" else cut_elsewhere(text, offset)
+                found = listed(own)
+                lines = translator.take(found, name).ranges
+                channels[name] = refreshed(channels[name], own.encode() if lines is None else packaged.write(found, lines))
+                for it in (packaged.attributes_of(line.partition(":")[2]) for line in lines or []):
+                    starts.setdefault((name, it["ID"]), set()).add(packaged.instant_of(it["START-DATE"]))
+        marks = {name: [(it.segment.number, it.mark.id) for it in one.history if it.mark] for name, one in channels.items()}
+        if marks["v"] != marks["a"] or [number for number, _ in marks["v"]] != style.filled() or any(max(it) - min(it) > SECOND // 10 for it in starts.values()):
+            wrong.append((style.name, offset, marks, starts))
+    return wrong
+
+
+@apart
+def test_sound_that_is_cut_elsewhere_is_replaced_where_the_picture_is(room):
+    wrong = [it for offset in (0.02, 0.15, 0.95, -0.5) for it in wrong_cuts(offset)] + wrong_cuts(0.5, True)
+    assert not wrong, (len(wrong), wrong[:3])
 
 
 # ---- numbers that are shifted, and what is hostile

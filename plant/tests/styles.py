@@ -166,6 +166,11 @@ CUES = [
     Style("cue-splice-out", ids=("7-12",), tags={
         12: ['#EXT-X-CUE:TYPE="SpliceOut",ID="7",TIME=1024.000,DURATION=10.000'],
         **elapsed('#EXT-X-CUE:TYPE="SpliceOut",ID="7",TIME=1024.000,DURATION=10.000,ELAPSED={}')}),
+    Style("cue-goes-on-for-longer", ids=("cue-12",), tags={12: ["#EXT-X-CUE-OUT:6"], **within("#EXT-X-CUE-OUT-CONT:{}", ["2/6", "4/10", "6/10", "8/10"])}),
+    Style("cue-goes-on-for-longer-at-its-end", tags={12: ["#EXT-X-CUE-OUT:6"], **within("#EXT-X-CUE-OUT-CONT:{}", ["2/6", "4/6", "6/10", "8/10"])}),
+    Style("cue-goes-on-for-longer-twice", tags={12: ["#EXT-X-CUE-OUT:6"], **within("#EXT-X-CUE-OUT-CONT:{}", ["2/8", "4/10", "6/10", "8/10"])}),
+    Style("cue-goes-on-for-longer-and-ends-early", tags={12: ["#EXT-X-CUE-OUT:12"], **within("#EXT-X-CUE-OUT-CONT:{}", [f"{2 * n}/20" for n in range(1, 5)]), 17: ["#EXT-X-CUE-IN"]}),
+    Style("cue-goes-on-once-it-is-over", tags={12: ["#EXT-X-CUE-OUT:10"], **within("#EXT-X-CUE-OUT-CONT:{}"), 18: ["#EXT-X-CUE-OUT-CONT:12/20"]}),
     Style("begun-within-a-break", breaks=(), begun=22, tags={12: ["#EXT-X-CUE-OUT:20"], **within("#EXT-X-CUE-OUT-CONT:{}"), **{
         number: [f"#EXT-X-CUE-OUT-CONT:{2 * (number - 12)}/20"] for number in range(15, 22)}, 22: ["#EXT-X-CUE-IN"]}),
     Style("begun-within-a-break-by-span", breaks=(), begun=22, tags={
@@ -209,6 +214,16 @@ RANGES = [
     Style("dr-promo", is_known=True, breaks=(), ranges=(range_of("1001", 24, PLANNED_DURATION=10, SCTE35_OUT=digits(signal(0x3C, 10))),)),
     Style("dr-and-cue", ids=("1001",), is_known=True, tags={12: ["#EXT-X-CUE-OUT:10"], 17: ["#EXT-X-CUE-IN"]}, ranges=(
         range_of("1001", 24, PLANNED_DURATION=10, SCTE35_OUT=digits(OUT_10)),)),
+    Style("dr-time-signal-and-cue", ids=("1001",), tags={12: ["#EXT-X-CUE-OUT:10"], **within("#EXT-X-CUE-OUT-CONT:{}"), 17: ["#EXT-X-CUE-IN"]}, ranges=(
+        range_of("1001", 24, PLANNED_DURATION=10, SCTE35_OUT=digits(START_34)),)),
+    Style("dr-cmd-time-signal-and-cue-without-duration", ids=("a",), tags={12: ["#EXT-X-CUE-OUT"], 17: ["#EXT-X-CUE-IN"]}, ranges=(
+        range_of("a", 24, SCTE35_CMD=digits(START_34)),)),
+    Style("dr-lasts-longer-by-duration", ids=("1001",), is_known=True, ranges=(
+        range_of("1001", 24, PLANNED_DURATION=6, SCTE35_OUT=digits(OUT)), range_of("1001", place=13, DURATION=10))),
+    Style("dr-lasts-longer-by-end-date", ids=("1001",), ranges=(
+        range_of("1001", 24, PLANNED_DURATION=6, SCTE35_OUT=digits(START_34)), range_of("1001", 24, 14, END_DATE=f'"{instant(34)}"', SCTE35_IN=digits(END_35)))),
+    Style("dr-lasts-longer-once-it-is-over", ids=("1001",), ranges=(
+        range_of("1001", 24, PLANNED_DURATION=10, SCTE35_OUT=digits(OUT)), range_of("1001", place=22, DURATION=24))),
     Style("dr-start-alone-off-by-a-second", breaks=((12, 17),), ranges=(range_of("1001", 23.1, 12, PLANNED_DURATION=10, SCTE35_OUT=digits(OUT_10)),)),
     Style("dr-of-another-kind", is_known=True, tags={12: ["#EXT-X-CUE-IN"]}, breaks=(), ranges=(range_of("chapter", 24, DURATION=10, X_TITLE='"a, b"'),)),
 ]

@@ -212,12 +212,13 @@ class SlowController(FakeController):
 
 
 class RulesController(FakeServer):
-    """A controller that answers by the rules (adsplice_rules). The channels of the names `away` have no way to it: 502."""
+    """A controller that answers by the rules (adsplice_rules). The channels of the names `away` have no way to it: 502. Of requests whose
+    paths have the end `lost` the next answer doesn't arrive."""
 
     def __init__(self, port=0):
         sys.path.insert(0, PLANT)
         from adsplice_rules.edge import Edge
-        self.edge, self.away, self.one_by_one = Edge(), set(), threading.Lock()
+        self.edge, self.away, self.lost, self.one_by_one = Edge(), set(), "", threading.Lock()
         super().__init__(port)
 
     @property
@@ -230,12 +231,41 @@ class RulesController(FakeServer):
             return 502, {}, b"<html>"
         with self.one_by_one:
             reply = self.edge.answer(Request(method, path, body))
+        if self.lost and path.endswith(self.lost):
+            self.lost = ""
+            return None
         return reply.status, {}, reply.body.encode()
+
+    def kill(self):
+        """Its process is killed and started again: it has no channel."""
+        from adsplice_rules.edge import Edge
+        with self.one_by_one:
+            self.edge = Edge()
 
     def shown(self, name):
         """The written playlist of a channel; empty if it has none."""
         status, _, body = self.answer("GET", f"/channels/{name}/live.m3u8", b"", {})
         return body.decode() if status == 200 else ""
+
+
+class Viewers:
+    """What the viewers of one channel have: for each media number the URI and the discontinuity number (RFC 8216, 6.2.1)."""
+
+    def __init__(self):
+        self.had = {}
+
+    def see(self, text):
+        """They load the written playlist `text`, if there is one; raises if it contradicts what they have."""
+        if not text:
+            return
+        media, steps = (int((re.search(rf"#EXT-X-{it}-SEQUENCE:(\d+)", text) or (0, 0))[1]) for it in ("MEDIA", "DISCONTINUITY"))
+        for line in text.splitlines():
+            if line == "#EXT-X-DISCONTINUITY":
+                steps += 1
+            elif line and line[0] != "#":
+                had = self.had.setdefault(media, (line, steps))
+                assert had == (line, steps), f"media number {media} was {had}, and is {(line, steps)}:\n{text}"
+                media += 1
 
 
 def free_port():
