@@ -125,9 +125,9 @@ OTHERS = (
         ("README.md", "{mib} MiB of unfinished requests"))),
     Limit("the time of a connection", (CONNECTIONS, "serving_nanos = {n}\n"), (
         ("crates/connections/src/deadlines.rt", "SERVING_MILLIS: u64 = {ms:_};"),
-        ("docs/DECISIONS.md", "\n{s} seconds for all of it"),
-        ("docs/OPERATING.md", "{s} seconds from a connection's begin to its last byte"),
-        ("README.md", "{s} seconds for a request and its reply"))),
+        ("docs/DECISIONS.md", "\n{s} seconds for the request, from its accept on, and {s} for the reply"),
+        ("docs/OPERATING.md", "{s} seconds for a request, from its connection's begin, and {s} seconds for its reply"),
+        ("README.md", "{s} seconds for a request, and {s} for its reply"))),
     Limit("the bytes of a request's head", (MESSAGES, "head_limit = {n}\n"), (
         ("crates/http_messages/src/head.rt", "MAX_HEAD_BYTES: usize = {n:_};"),
         ("plant/adsplice_rules/edge.py", "MOST_HEAD = {n:_}\n"),

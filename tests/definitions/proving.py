@@ -19,7 +19,7 @@ USE = re.compile(r"^(?:pub )?use Rattle\.(\w+)\.specs\.([\w.]+?)(?:\.\{([^}]*)\}
 MISMATCH = re.compile(r"`holds`: (?:(?:computed as far as they go|as printed), the two types |expected type `[^`]+`,?\s+but this has type )")
 # words of the standard library that an edit may use if its file doesn't import them
 PLAIN_WORDS = (
-    *("true", "false", "not", "nat_le", "nat_lt", "int_le", "int_lt", "is_some", "is_none", "take", "drop", "reverse"),
+    *("true", "false", "not", "length", "nat_le", "nat_lt", "int_le", "int_lt", "is_some", "is_none", "take", "drop", "reverse"),
     *("Some", "None", "min", "max", "[]", "◌∷◌", "◌==◌", "◌||◌", "◌&&◌", "◌+ℤ◌", "◌-ℤ◌"),
 )
 LIST_WORDS = ("list_any", "list_all", "before_first", "after_first")

@@ -277,6 +277,7 @@ class Turner:
         """A front of a list that has a name."""
         if it.kind == "name" and it.parts[0] in self.variables or it.kind == "field":
             self.add(it, f"(take {FRONTS[kind == 'List ℕ']} {self.closed(it)})")
+            self.add(it, f"(drop 1 {self.closed(it)})")
 
     def of_refusal(self, it: Node, test: Node, fault: Node, later: Node) -> None:
         self.add(it, self.closed(later))
