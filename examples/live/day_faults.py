@@ -155,7 +155,7 @@ FAULTS = (
     Fault("packager", "film", "the packager is away for 3 s, and begins again with number 0", packager_begins_again("film", 3), (STILL, LATE), is_due=False),
     Fault("killed-in-break", "news", "adsplice is killed within a break, and started again after 1 s", lambda day: day.kill_adsplice("news", 1), (), 4, False, True),
     Fault("stopped", "sport", "adsplice is stopped for 20 s", stopped(lambda day: day.plant.running[day.port_of("sport")].pid, 20), (PROCESS, STILL, LATE), is_of_process=True),
-    Fault("disk", "", "the disk of the as-run log and the journal is full for 25 s", disk_is_full, (UNWRITTEN, UNKEPT)),
+    Fault("disk", "", "the disk of the as-run log and of what the feed keeps is full for 25 s", disk_is_full, (UNWRITTEN, UNKEPT, STILL, LATE)),
     Fault("clock-back", "sport", "the packager's clock is 180 s behind for 25 s", relays("sport", 25, {"clock": -180.0}, {"clock": 0.0}), CLOCK),
     Fault("late-decision", "news", "a decision comes when its break has begun", decision("news", "late"), DECISIONS),
     Fault("second-origin", "film", "the first of two origins fails for 25 s", origin("first", "film", "away", 25), ("AdspliceOriginSecond", STILL)),

@@ -10,16 +10,45 @@ import string
 import threading
 from collections.abc import Mapping
 from pathlib import Path
+from typing import Protocol
 
 from . import judge, words
-from .channel import Channel
+from .folders import MOST_FILES
+from .settings import Settings
 
 MOST_COMMAS = 250_000  # of a decision file: one of 4 MiB has 175,000 if each has its URI and its duration, and each costs the judge time
-MOST_FILES = 4096  # decision files of a channel
 LONGEST_NAME = 100  # letters of a file's name without its ending
 WAIT = 2.0  # seconds for a channel that is busy
 LETTERS = frozenset(string.ascii_letters + string.digits + "._-")
 USAGE = f"a path is /decisions/CHANNEL/NAME.json, and a name has letters, digits, '.', '_' and '-', begins with none of '.' and '-', and has at most {LONGEST_NAME}"
+
+
+class Turns(Protocol):
+    """A lock on a channel, which is held while its feed takes an event."""
+
+    def acquire(self, *, timeout: float) -> bool:
+        """Takes it, within `timeout` seconds; whether it could."""
+
+    def release(self) -> None:
+        """Lets it go."""
+
+
+class Channel(Protocol):
+    """What the door needs of a channel that is fed."""
+
+    @property
+    def settings(self) -> Settings:
+        """Its settings."""
+
+    @property
+    def together(self) -> Turns:
+        """What is held by who changes its decisions."""
+
+    def tell(self, who: str, status: int, fault: str, text: str) -> None:
+        """Prints a line of `who`, unless it is in the same state as before."""
+
+    def is_given(self, name: str) -> bool:
+        """Whether adsplice has the decision file `name`, or is about to be given it."""
 
 
 class Refused(Exception):
@@ -111,8 +140,7 @@ class Admission:
         if not channel.together.acquire(timeout=WAIT):
             raise Refused(503, "the channel waits for adsplice; ask again")
         try:
-            decision = channel.folder.named(name)
-            if decision is not None and decision.state == "given":
+            if channel.is_given(name):
                 raise Refused(409, 'adsplice has it already; PUT {"withdraw":"ID"} takes the pod of a break away that has not begun')
             os.unlink(folder / name)
             sync(folder)

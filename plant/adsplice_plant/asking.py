@@ -6,27 +6,29 @@ from __future__ import annotations
 
 import hashlib
 import json
-import os
 import threading
 import time
 import urllib.parse
-from collections.abc import Callable
+from collections.abc import Callable, Mapping
 from dataclasses import dataclass, field
 from pathlib import Path
 from typing import Any
 
-from . import judge, playlist, splice
+from . import judge, playlist
+from .bounded_files import Unread, clean, made, opened, read, write
 from .breaks import Break, shown
-from .decisions import DAY, Folder
+from .decisions import DAY
+from .events import Ask
 from .pauses import Pauses
 from .settings import FOLDER, PLACE
 from .web import Answer, Client
-from .whole_files import write_aside
 
 MOST_OPEN = 16  # questions at a time
 AT_ONCE = 4  # of these that are sent at a time
 AGAIN = {0, 408, 425, 429}  # statuses, and all from 500 on, after which a server is asked again
-LOOKS = 0.02  # seconds between two looks into the folder while a list waits
+ASKED = "asked"  # the folder in the folder
+LONGEST = 65_536  # bytes of a question
+CLEANED = 60.0  # seconds between two times that old questions are taken away
 LONGEST_NAME = 100  # letters of a file's name that are an ID's
 FIELDS = {"Content-Type": "application/json", "Accept": "application/json"}
 
@@ -85,22 +87,22 @@ def with_rendition(value: Any, name: str) -> Any:
 
 
 class Asker:
-    """Asks for the breaks of the channel or programme `name`: at the URL `ask`, or by the folder alone. A list waits for `hold`
-    seconds at most. `tell`: prints a line. `answered`: is called once an answer is in the folder."""
+    """Asks for the breaks of the channel or programme `name`: at the URL `ask`, or by the folders alone, which are those of its renditions (one
+    without a name for a channel by itself). A list waits for `hold` seconds at most. `tell`: prints a line. `is_decided`: whether there is a
+    decision on a break in each folder. `answered` is called with the ID of a break once its answer is in the folders, and `given_up` if none
+    comes any more."""
 
-    def __init__(self, name: str, ask: str, hold: float, client: Client, tell: Tell, answered: Callable[[], None]) -> None:
-        self.name, self.ask_at, self.hold, self.client, self.tell, self.answered = name, ask, hold, client, tell, answered
-        self.folders: dict[str, Folder] = {}  # of each rendition
+    def __init__(self, name: str, ask: str, hold: float, client: Client, folders: Mapping[str, Path], tell: Tell, is_decided: Callable[[str], bool],
+                 answered: Callable[[str], None], given_up: Callable[[str], None]) -> None:
+        self.name, self.ask_at, self.hold, self.client, self.folders, self.tell = name, ask, hold, client, folders, tell
+        self.is_decided, self.answered, self.given_up = is_decided, answered, given_up
         self.open: list[Question] = []
         self.turns = threading.BoundedSemaphore(AT_ONCE)
+        self.cleaned: dict[str, float] = {}  # when old questions were taken away from each folder
 
     def renditions(self) -> list[str]:
         """The names of the programme's renditions; none for a channel by itself."""
         return [it for it in self.folders if it]
-
-    def paths(self) -> list[tuple[str, Path]]:
-        """Each rendition with its folder of decisions."""
-        return [(name, it.path) for name, it in self.folders.items() if it.path is not None]
 
     def longest(self, target: int | None) -> float:
         """The seconds that a list of this `target` duration may wait: below half of it."""
@@ -108,25 +110,32 @@ class Asker:
 
     # ---- asking
 
-    def ask(self, known: list[Break], target: int | None, end: int) -> None:
-        """Asks for those of the breaks `known` that weren't asked for, and that nobody decided. `target`: the target duration in
-        seconds; `end`: the instant at which the list ends."""
-        for folder in self.folders.values():
-            folder.look()
-        self.open = [it for it in self.open if not it.done.is_set() and (self.ask_at != FOLDER or time.monotonic() < it.until)]
-        for one in known:
-            if self.is_decided(one.id) or self.was_asked(one):
+    def ask(self, it: Ask) -> None:
+        """Asks for those breaks that weren't asked for, and that nobody decided. The others are given up."""
+        now = time.monotonic()
+        self.open = [one for one in self.open if not one.done.is_set() and (self.ask_at != FOLDER or now < one.until)]
+        waiting, is_full = {one.id for one in self.open}, False
+        for one in [one for one in it.known if not self.is_decided(one.id)]:
+            if self.was_asked(one):
+                if one.id not in waiting:
+                    self.given_up(one.id)
                 continue
-            if len(self.open) >= MOST_OPEN:
+            if len(self.open) >= MOST_OPEN and not is_full:
+                is_full = True
                 self.tell("ask", "-", "TooMany", f"{MOST_OPEN} questions are open; {shown(one.id)} isn't asked for")
-                return
-            lead = max(0.0, (one.start - end) / playlist.SECOND)
-            body = json.dumps(question_of(self.name, self.renditions(), target or 0, one)).encode()
-            now = time.monotonic()
-            question = Question(one.id, one.start, body, now, now + max(self.longest(target), lead))
-            if self.keep(question):
-                self.open.append(question)
-                self.send(question)
+            if is_full or not self.begin(one, it, now):
+                self.given_up(one.id)
+
+    def begin(self, one: Break, it: Ask, now: float) -> bool:
+        """Asks for the break `one`; whether the question could be kept."""
+        lead = max(0.0, (one.start - it.end) / playlist.SECOND)
+        body = json.dumps(question_of(self.name, self.renditions(), it.target or 0, one)).encode()
+        question = Question(one.id, one.start, body, now, now + max(self.longest(it.target), lead))
+        if not self.keep(question):
+            return False
+        self.open.append(question)
+        self.send(question)
+        return True
 
     def send(self, question: Question) -> None:
         """Sends the `question`, or leaves it in the folder for who watches that."""
@@ -135,41 +144,37 @@ class Asker:
             return
         threading.Thread(target=self.run, args=(question,), daemon=True).start()
 
-    def is_decided(self, name: str) -> bool:
-        """Whether there is a decision on the break `name` in each rendition's folder."""
-        return all(any(name in it.ids and it.state != "refused" for it in folder.decisions.values()) for folder in self.folders.values())
-
     def was_asked(self, one: Break) -> bool:
         """Whether the break `one` was asked for: its question is there, with the same start. (An ID may come again.)"""
-        for _, path in self.paths():
+        for path in self.folders.values():
             try:
-                kept = json.loads((path / "asked" / f"{file_name(one.id)}.json").read_bytes())
+                with opened(path) as folder, opened(ASKED, folder) as asked:
+                    kept = json.loads(read(f"{file_name(one.id)}.json", asked, most=LONGEST)[1])
                 if abs((playlist.read_instant(kept["start"]) or 0) - one.start) < playlist.SECOND:
                     return True
-            except (OSError, ValueError, KeyError, TypeError):
+            except (OSError, Unread, ValueError, KeyError, TypeError, RecursionError):
                 continue
         return False
 
     def keep(self, question: Question) -> bool:
-        """Writes the `question` into the folders, and takes old ones away; whether it could."""
-        try:
-            for _, path in self.paths():
-                folder = path / "asked"
-                folder.mkdir(exist_ok=True)
-                for it in os.scandir(folder):
-                    if time.time() - it.stat().st_mtime > DAY:
-                        os.unlink(it.path)
-                write_aside(folder / f"{file_name(question.id)}.json", question.body)
-        except OSError as fault:
-            self.tell(f"ask/{shown(question.id)}", "-", "Unkept", f"{fault.filename}: {fault.strerror}; isn't asked for")
-            return False
+        """Writes the `question` into the folders, and takes old ones away once in a minute; whether it could."""
+        for name, path in self.folders.items():
+            try:
+                with opened(path) as folder, made(ASKED, folder) as asked:
+                    if time.monotonic() - self.cleaned.get(name, -CLEANED) >= CLEANED:
+                        self.cleaned[name] = time.monotonic()
+                        clean(asked, DAY)
+                    write(f"{file_name(question.id)}.json", question.body, asked)
+            except OSError as fault:
+                self.tell(f"ask/{shown(question.id)}", "-", "Unkept", f"{path / ASKED}: {fault.strerror}; isn't asked for")
+                return False
         return True
 
     # ---- answers
 
     def run(self, question: Question) -> None:
         """Asks the server until it answers, or until the `question` is to be given up."""
-        pauses = Pauses(0.1, 1.0)
+        pauses, is_answered = Pauses(0.1, 1.0), False
         with self.turns:
             while True:
                 answer = self.client.ask("POST", self.ask_at, question.body, FIELDS)
@@ -178,42 +183,32 @@ class Asker:
                     break
                 time.sleep(pause)
         try:
-            self.take(question, answer)
+            is_answered = self.take(question, answer)
         finally:
             question.done.set()
-        self.answered()
+            (self.answered if is_answered else self.given_up)(question.id)
 
-    def take(self, question: Question, answer: Answer) -> None:
-        """Takes in the server's `answer` to the `question`."""
+    def take(self, question: Question, answer: Answer) -> bool:
+        """Takes in the server's `answer` to the `question`; whether it is a decision, which is in the folders then."""
         took = time.monotonic() - question.asked
         is_late = time.monotonic() > question.until
         who, status, late = f"ask/{shown(question.id)}", str(answer.status or "-"), "Late" if is_late else "-"
         if answer.status == 204:
             self.tell(who, status, late, f"no ads, after {took:.2f} s")
-            return
+            return False
         if answer.status != 200:
             self.tell(who, status, "Unanswered", f"{answer.why or f'the ad server answers {answer.status}'}, after {took:.2f} s; isn't asked again")
-            return
+            return False
         decision, text = decision_of(answer.body, question.id)
         if decision is None:
             self.tell(who, status, "Wrong", f"the answer isn't taken: {text}")
-            return
-        try:
-            for name, path in self.paths():
-                write_aside(path / f"{file_name(question.id)}.json", json.dumps(with_rendition(decision, name) if name else decision).encode())
-        except OSError as fault:
-            self.tell(who, status, "Unkept", f"{fault.filename}: {fault.strerror}; the answer is lost")
-            return
+            return False
+        for name, path in self.folders.items():
+            try:
+                with opened(path) as folder:
+                    write(f"{file_name(question.id)}.json", json.dumps(with_rendition(decision, name) if name else decision).encode(), folder)
+            except OSError as fault:
+                self.tell(who, status, "Unkept", f"{path}: {fault.strerror}; the answer is lost")
+                return False
         self.tell(who, status, late, f"answered after {took:.2f} s{text}")
-
-    def wait(self, end: int, target: int | None) -> None:
-        """Waits until the open questions on breaks that begin before the instant `end` are answered, but no more than `hold` seconds
-        from when each was asked. `target`: the target duration in seconds."""
-        waiting = [it for it in self.open if it.start < end]
-        while waiting:
-            for folder in self.folders.values():
-                folder.look()
-            now = time.monotonic()
-            waiting = [it for it in waiting if not it.done.is_set() and now < it.asked + self.longest(target) and not self.is_decided(it.id)]
-            if waiting:
-                waiting[0].done.wait(LOOKS)
+        return True

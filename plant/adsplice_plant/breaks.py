@@ -3,6 +3,7 @@ from __future__ import annotations
 
 from bisect import bisect_left, insort
 from collections import deque
+from copy import copy
 from dataclasses import dataclass
 from typing import Any
 
@@ -202,6 +203,12 @@ class Breaks:
         self.recent: deque[Line] = deque(maxlen=MOST)  # that were told: each rendition of a programme says the same
         self.is_first = True  # no list was looked at before
         self.clock: int | None = None  # the media number of the last segment before the packager's clock changed
+
+    def copy(self) -> Breaks:
+        """The same breaks, of which nothing is told yet."""
+        found = copy(self)
+        found.known, found.cancelled, found.told, found.recent = [copy(it) for it in self.known], set(self.cancelled), [], self.recent.copy()
+        return found
 
     def tell(self, who: str, word: str, text: str) -> None:
         """Tells a line, once."""

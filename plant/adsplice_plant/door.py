@@ -20,8 +20,7 @@ from pathlib import Path
 from typing import Any
 
 from . import words
-from .admission import Admission, Refused
-from .channel import Channel
+from .admission import Admission, Channel, Refused
 from .decisions import MAX_BYTES
 from .words import Fault
 

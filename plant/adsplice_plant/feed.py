@@ -1,25 +1,21 @@
 """adsplice-feed: polls the playlists of origins and gives them, with decisions, to adsplice."""
 import argparse
-import random
 import threading
 import time
-from collections.abc import Callable
 from pathlib import Path
 
 from . import check, words
 from . import settings as told
-from .channel import Channel
 from .door import Door, address_of
-from .ladder import Ladder, Rendition
-from .locks import Lock, Taken, take_all
-from .masters import Programme
+from .fed import Fed, Limits
+from .sections import Section, difference
 from .settings import Settings
 from .web import Client
 from .words import Fault
 
 print_line = words.Teller().say
-LAST = 0.5  # seconds that turns may take to their end once a signal came
-AGAIN = 1.0  # seconds from one trial to the next of a lock that another feed has
+LAST = 0.5  # seconds that steps may take to their end once a signal came
+BETWEEN = 0.25  # seconds between two looks at what runs
 
 HELP = """Reads a packager's playlist and gives it to adsplice, with the decisions of its breaks.
 
@@ -33,12 +29,13 @@ duration, for ever.
 
 A list that breaks RFC 8216 is put right, and each kind of repair is told once (--repair no pushes lists as they are). One in
 which nothing is wrong is pushed as it came. Media numbers go on when the packager begins again, when adsplice was started anew,
-and, with --keep, when the feed was. A list without a segment of the last one is taken if it stays so for a target duration.
+and, with --keep, when the feed was: its log has all that adsplice was given. While that can't be written, nothing is given, and it is told.
+A list without a segment of the last one is taken if it stays so for a target duration.
 
 Signals of breaks of every style (SCTE35-CMD, time_signal, EXT-X-CUE-OUT ..) become date ranges that adsplice knows. With --ask
 each break's decision is asked for once, of an ad server or in the folder of decisions, and its list waits for the answer.
 
-Decision files (*.json) that are renamed into DIR are given to adsplice, stay there while their breaks are listed, are given
+Decision files (*.json) that are renamed into DIR are judged and given to adsplice, stay there while their breaks are listed, are given
 again after a new start, and are then moved to DIR/done. One that is refused stays, and is taken once it is written anew.
 One that is removed before its break begins is taken back.
 
@@ -50,7 +47,8 @@ has been well for a minute. The numbers go on, and what was shown isn't shown ag
 
 Renditions of one programme (--renditions '1080 720 360') are a channel each: {} in the words stands for the rendition's name.
 A decision is a file of one name in each rendition's DIR. It is given to all of them before any list that enters its break, or
-to none; they are made anew together, and it is told if their numbers come apart.
+to none. Their lists end where all have come. One whose adsplice is away gets what it lacks once that is back. It is told if their
+numbers come apart.
 
 A master playlist as the origin (--master FILE): its variants and groups are channels NAME-1, NAME-2 .. of one programme, or have
 the names of --renditions in its order. FILE is the master playlist that viewers load.
@@ -60,7 +58,10 @@ ends: 0 if all are, 1 if not. It makes, pushes and asks nothing. Run it as the f
 
 Standard output has a line for each change of state: time, channel, who (origin, adsplice, or a file), status, fault, and
 what is done about it. If it is journald's, each has a level for it (journalctl -p warning).
-Exit status: 0 after SIGTERM, SIGINT or SIGHUP; 1 if it can't begin or go on; 2 for wrong words."""
+SIGHUP (systemctl reload) has it read FILE of --config anew: sections that are new begin, those that changed begin anew, those that are gone
+end, and the others don't notice. A file that can't be read, or a section that is wrong, is told, and what ran goes on.
+
+Exit status: 0 after SIGTERM or SIGINT, and after SIGHUP without --config; 1 if it can't begin or go on; 2 for wrong words."""
 
 EPILOG = """A config file has a section for each channel, and in [DEFAULT] what all have:
 
@@ -98,7 +99,7 @@ def read_words(arguments: list[str]) -> argparse.Namespace:
     it.add_argument("--tolerance", metavar="SECONDS", help="the channel's tolerance (adsplice's own is 0.1)")
     it.add_argument("--decisions", metavar="DIR")
     it.add_argument("--fallback", metavar="FILE", help="a decision file with a fallback, given whenever the channel is made")
-    it.add_argument("--keep", metavar="DIR", help="keeps NAME.events and NAME.beat there, for adsplice-monitor and adsplice-explain, NAME.numbers and NAME.signals for itself, and NAME.lock against a second feed")
+    it.add_argument("--keep", metavar="DIR", help="keeps NAME.events and NAME.beat there, for adsplice-monitor and adsplice-explain, PROGRAMME.log for itself (the section's name), and NAME.lock against a second feed")
     it.add_argument("--renditions", metavar="NAMES", help="a ladder: a channel NAME-R for each rendition R of NAMES, such as '1080 720 360'")
     it.add_argument("--master", metavar="FILE", help="the origin is a master playlist: its renditions are channels, and FILE is the one that viewers load")
     it.add_argument("--viewers", metavar="URL", help="with --master: where viewers read channels, such as http://viewers.example (the host of FILE's URL)")
@@ -117,7 +118,7 @@ def read_words(arguments: list[str]) -> argparse.Namespace:
     it.add_argument("--check", action="store_true", help="says whether all that the channels need is there, and ends")
     it.add_argument("--door", type=address_of, metavar="ADDRESS", help="takes decisions over HTTP at 127.0.0.1:PORT or on the Unix socket of a path")
     it.add_argument("--timeout", type=words.seconds, default=5.0, metavar="SECONDS", help="for a request with its answer (5)")
-    it.add_argument("--longest-pause", type=words.seconds, default=5.0, metavar="SECONDS", help="between two trials (5, and no more than a target duration)")
+    it.add_argument("--longest-pause", type=words.seconds, default=5.0, metavar="SECONDS", help="between two trials of an origin or the log (5; of an origin no more than a target duration)")
     it.add_argument("--keep-days", type=float, default=7.0, metavar="DAYS", help="that files are kept in DIR/done (7)")
     said = it.parse_args(arguments)
     if said.config is None and not (said.channel and said.origin and said.at):
@@ -143,133 +144,83 @@ def units_of(channels: list[Settings]) -> list[list[Settings]]:
 
 
 class Feeds:
-    """The feeds of this process by the words `said`, each in a thread of its own until `ending` is set. `threads` are those that run, and
-    `known` are the feeds by their channels' names."""
+    """What this process feeds by the words `said`: the sections by their names."""
 
-    def __init__(self, said: argparse.Namespace, ending: threading.Event) -> None:
-        self.said, self.ending = said, ending
-        self.threads: list[threading.Thread] = []
-        self.known: dict[str, Channel] = {}
-        self.locks: list[Lock] = []
+    def __init__(self, said: argparse.Namespace) -> None:
+        self.said, self.limits = said, Limits(said.timeout, said.longest_pause, said.keep_days)
+        self.sections: dict[str, Section] = {}
+        self.known: dict[str, Fed] = {}  # the channels by their names
+        self.ending: list[Section] = []  # those that are about to end
 
-    def start(self, channels: list[Settings], faults: list[tuple[str, str]] | None = None) -> None:
-        """Begins to feed `channels`: the renditions of a master playlist once that is read, and one that another feed has once that is over.
-        What keeps it from one raises Fault, or is added to `faults`, if there are some, by its name; then the others are fed."""
-        units = units_of([it for it in channels if it.master is None])
+    def start(self, units: list[list[Settings]], faults: list[tuple[str, str]]) -> None:
+        """Begins to feed the `units`. What keeps it from one is added to `faults`, by its name; then the others are fed."""
         spread = min(1.0, 0.05 * (sum(map(len, units)) - 1))
         for unit in units:
-            name = unit[0].programme or unit[0].name
+            section = Section(unit, self.limits, print_line, self.known)
             try:
-                if text := self.begin(unit, spread):
-                    tell_lock(unit, "Taken", f"{text}; this one doesn't, and tries again each second")
-                    self.go(name, self.wait_for, unit)
+                section.start(spread)
+                self.sections[section.name] = section
             except Fault as fault:
-                if faults is None:
-                    raise
+                faults.append((section.name, str(fault)))
+
+    def read_again(self) -> None:
+        """Reads the file of settings anew: sections that are there no more end, others begin, and those that are as they were don't notice. One that
+        is wrong goes on as it was."""
+        faults: list[tuple[str, str]] = []
+        try:
+            wanted = {name_of(it): it for it in units_of(told.read_file(self.said.config, faults))}
+        except Fault as fault:
+            print_line(f"{words.now_text()} feed settings - Wrong: {fault}; goes on as it was")
+            return
+        self.drop_wrong(wanted, faults)
+        found = difference({name: it.settings for name, it in self.sections.items()}, wanted, {name for name, _ in faults})
+        for name in (*found.changes, *found.ends):
+            self.sections[name].end()
+            self.ending.append(self.sections.pop(name))
+        self.settle(time.monotonic() + self.limits.timeout + 2 * LAST)
+        self.start([wanted[name] for name in (*found.begins, *found.changes)], faults)
+        for name, text in faults:
+            print_line(f"{words.now_text()} {name} settings - Wrong: {text}; goes on {'as it was' if name in self.sections else 'without it'}")
+        print_line(f"{words.now_text()} feed settings - -: {self.said.config} is read: {found.text()}")
+
+    def drop_wrong(self, wanted: dict[str, list[Settings]], faults: list[tuple[str, str]]) -> None:
+        """Takes those that can't be fed out of the sections that are `wanted`, and adds them to `faults`: one whose folder can't be made, or that has
+        a channel or a folder of a section which goes on as it was since it is wrong."""
+        wrong = {name for name, _ in faults}
+        stays = [one for name, it in self.sections.items() if name in wrong for one in it.settings]
+        for name, unit in list(wanted.items()):
+            try:
+                told.each_once(self.said.config, [*stays, *unit])
+                for it in unit if unit[0].master is None else []:
+                    told.make_folder(it)
+            except Fault as fault:
                 faults.append((name, str(fault)))
-        for it in channels:
-            if it.master is not None:
-                programme = Programme(it, Client(self.said.timeout, it.redirects), print_line, self.start)
-                self.go(it.name, programme.run, self.ending, self.said.longest_pause)
+                del wanted[name]
 
-    def begin(self, unit: list[Settings], spread: float) -> str:
-        """Feeds the channels of `unit` unless another feed has one of them; who has it then. Raises Fault, and has no lock then. The rest as in
-        `feed`."""
-        before = len(self.locks)
-        if text := self.lock(unit):
-            return text
-        try:
-            self.feed(unit, spread)
-        except (Fault, OSError) as fault:
-            while len(self.locks) > before:
-                self.locks.pop().release()
-            raise fault if isinstance(fault, Fault) else Fault(f"channel {unit[0].name}: {fault.filename}: {fault.strerror}") from None
-        return ""
-
-    def go(self, name: str, does: Callable[..., None], *what: object) -> None:
-        """Has a thread of the `name` do what it `does` with `what`."""
-        one = threading.Thread(target=does, args=what, name=name, daemon=True)
-        one.start()
-        self.threads.append(one)  # (who watches them takes one that doesn't run for one that has ended)
-
-    def lock(self, unit: list[Settings]) -> str:
-        """Takes the locks of the channels of `unit`; who has one of them if another feed does. One without `keep` has no lock, and where the
-        disk refuses it is told that there is none."""
-        try:
-            self.locks += take_all(it.keep / f"{it.name}.lock" for it in unit if it.keep is not None)
-        except Taken as fault:
-            return str(fault)
-        except OSError as fault:
-            tell_lock(unit, "Unkept", f"{fault.filename}: {fault.strerror}; nothing keeps another feed from it")
-        return ""
-
-    def wait_for(self, unit: list[Settings]) -> None:
-        """Feeds the channels of `unit` once no other feed has one of them."""
-        why = ""
-        while not self.ending.wait(AGAIN):
-            try:
-                if not self.begin(unit, 0):
-                    tell_lock(unit, "-", "the other feed has let it go; feeds it")
-                    break
-            except Fault as fault:
-                if why != str(fault):
-                    why = str(fault)
-                    tell_wrong(unit[0].programme or unit[0].name, why)
-        self.threads.remove(threading.current_thread())
-
-    def feed(self, unit: list[Settings], spread: float) -> None:
-        """Feeds the channels of `unit`; their first turns come within `spread` seconds. Raises Fault or OSError."""
-        feeds = feeds_of(unit, self.said)
-        self.known.update({it.settings.name: it for it in feeds})
-        for it in feeds:
-            for text in it.settings.idle:
-                it.tell(f"settings/{text}", 0, "Idle", text)
-            if (path := it.settings.fallback) is not None and not path.is_file():
-                it.tell("fallback", 0, "", f"there is no file {path}; goes on without it until it is there")
-        for it in feeds:
-            self.go(it.settings.name, run, it, self.ending, random.uniform(0, max(0, spread)))
+    def settle(self, until: float) -> None:
+        """Waits for the sections that are about to end, or until the moment `until` has come."""
+        self.ending = [it for it in self.ending if not it.has_ended(until)]
 
     def ended(self) -> str:
-        """The name of a thread that has ended; empty if none has."""
-        return next((it.name for it in list(self.threads) if not it.is_alive() and it in self.threads), "")
+        """The name of a thread that has ended of itself; empty if none has."""
+        return next((name for it in list(self.sections.values()) if (name := it.ended())), "")
+
+    def end(self, until: float) -> None:
+        """Ends all sections, by the moment `until`."""
+        for it in self.sections.values():
+            it.end()
+        self.ending += self.sections.values()
+        self.settle(until)
 
 
-def tell_lock(unit: list[Settings], word: str, text: str) -> None:
-    """Prints a line of the lock of the channels of `unit`, by a `word` and a `text`."""
-    print_line(f"{words.now_text()} {unit[0].programme or unit[0].name} lock - {word}: {text}")
+def name_of(unit: list[Settings]) -> str:
+    """The name of the section of a `unit`."""
+    return unit[0].programme or unit[0].name
 
 
 def tell_wrong(name: str, text: str) -> None:
     """Prints that the section of the channel or programme `name` is wrong, and why (`text`)."""
     print_line(f"{words.now_text()} {name} settings - Wrong: {text}; goes on without it")
-
-
-def feeds_of(unit: list[Settings], said: argparse.Namespace) -> list[Channel]:
-    """The feeds of the channels of `unit` by the words `said`; those of one programme share a ladder. Raises Fault."""
-    for it in unit:
-        told.make_folder(it)
-    name = unit[0].programme
-    ladder = Ladder(name, print_line) if name else None
-    found: list[Channel] = []
-    for it in unit:
-        client = Client(said.timeout, it.redirects)
-        if ladder is not None:
-            found.append(Rendition(it, client, print_line, said.longest_pause, said.keep_days, ladder))
-        else:
-            found.append(Channel(it, client, print_line, said.longest_pause, said.keep_days))
-    return found
-
-
-def run(channel: Channel, ending: threading.Event, delay: float) -> None:
-    """Feeds `channel` until `ending` is set; its first turn comes after `delay` seconds, so that channels don't come at once."""
-    ending.wait(delay)
-    while not ending.is_set():
-        try:
-            pause = channel.turn()
-            channel.states.pop("feed", None)
-        except Exception as fault:  # noqa: BLE001  (a channel's fault isn't to end the others)
-            pause = channel.begin_anew(fault)
-        ending.wait(pause)
 
 
 def main(arguments: list[str]) -> int:
@@ -281,22 +232,25 @@ def main(arguments: list[str]) -> int:
         if said.check:
             words.ends_cleanly()
             return check.run(channels, faults, lambda redirects: Client(said.timeout, redirects))
-        ending = words.ends_by_signals()
-        feeds = Feeds(said, ending)
+        anew = threading.Event()
+        ending = words.ends_by_signals(anew if said.config is not None else None)
+        feeds = Feeds(said)
         door = Door(said.door, feeds.known) if said.door else None
-        feeds.start(channels, faults)
-        if not feeds.threads:
+        feeds.start(units_of(channels), faults)
+        if not feeds.sections:
             raise Fault(faults[0][1])
         for name, text in faults:
             tell_wrong(name, text)
     except (Fault, OSError) as fault:
         words.fail("adsplice-feed", str(fault))
-    while not ending.wait(1):
+    while not ending.wait(BETWEEN):
+        if anew.is_set():
+            anew.clear()
+            feeds.read_again()
+        feeds.settle(0)
         if (name := feeds.ended()) and not ending.is_set():
             words.fail("adsplice-feed", f"the thread of {name} has ended; what starts the feed may start it again")
     if door:
         door.close()
-    until = time.monotonic() + LAST
-    for it in list(feeds.threads):
-        it.join(max(0.0, until - time.monotonic()))
+    feeds.end(time.monotonic() + LAST)
     return 0

@@ -22,11 +22,11 @@ OF_HEAD = {"version", "target", "type", "times"}  # those of them that stay whil
 
 class Parts(NamedTuple):
     """The text of a list that goes on: its `front`, up to the end of its first segment, and what is `fresh` after the last one's end.
-    Between them stand as many segments as are `kept` beside the first."""
+    The first one is that of the last list after which `dropped` stood."""
 
     front: bytes
     fresh: bytes
-    kept: int
+    dropped: int
 
 
 class Fresh(NamedTuple):
@@ -79,13 +79,13 @@ def parts_of(old: bytes, new: bytes) -> Parts | None:
     end = at + ALIKE
     begin = len(old) - (end - past)
     is_same_uri = begin > 0 and old.startswith(b"\n" + new[uri:past], begin - (past - uri) - 1)
-    return Parts(new[:past], new[end:], old.count(EXTINF, begin - 1)) if is_same_uri and new.startswith(old[begin:], past) else None
+    return Parts(new[:past], new[end:], old.count(EXTINF, 0, begin - 1) - 1) if is_same_uri and new.startswith(old[begin:], past) else None
 
 
 def fresh_of(before: Accepted, body: bytes) -> Fresh | None:
     """What the list `body` says if it goes on from the one `before`; none if it has to be read as a whole."""
     parts = parts_of(before.body, body)
-    if parts is None or body.count(b"\n") > spelling.MOST_LINES:
+    if parts is None or len(body) > spelling.MOST_LINES and body.count(b"\n") > spelling.MOST_LINES:
         return None
     kinds: spelling.Kinds = set()
     try:
@@ -96,7 +96,7 @@ def fresh_of(before: Accepted, body: bytes) -> Fresh | None:
     if new is None or kinds or len(head.segments) != 1 or head.others or head.is_ended or head_of(head) != before.head:
         return None
     first, dropped = head.segments[0], head.segments[0].own - before.found.segments[0].own
-    if parts.kept + 1 + dropped != len(before.found.segments) or parts.kept + 1 + len(new) > packaged.MOST_SEGMENTS:
+    if parts.dropped != dropped or len(before.found.segments) - dropped + len(new) > packaged.MOST_SEGMENTS:
         return None
     same = before.found.segments[dropped]
     if not is_told_again(first, same) or not is_timed_alike(first, new, "times" in before.repairs):

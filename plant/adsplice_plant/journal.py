@@ -144,17 +144,21 @@ class Journal:
                 it.unlink()
 
 
-def append(path: Path, data: bytes, is_synced: bool = False) -> None:
-    """Adds `data` to the file `path`: all of it, or nothing, by which the file's time stays, too. It is on disk after that if `is_synced`."""
-    handle = os.open(path, os.O_WRONLY | os.O_APPEND | os.O_CREAT, 0o644)
+def append(path: Path | str, data: bytes, is_synced: bool = False, left: tuple[int, int] | None = None) -> bool:
+    """Adds `data` to the file `path`: all of it, or nothing, by which the file's time stays, too. It is on disk after that if `is_synced`. If the
+    file has to be there as it was `left`, by its inode and its size, nothing is added to another one: whether it was."""
+    handle = os.open(path, os.O_WRONLY | os.O_APPEND | (0 if left else os.O_CREAT), 0o644)
     try:
         before = os.fstat(handle)
+        if left not in (None, (before.st_ino, before.st_size)):
+            return False
         if os.write(handle, data) < len(data):
             os.ftruncate(handle, before.st_size)
             os.utime(handle, ns=(before.st_atime_ns, before.st_mtime_ns))
             raise OSError(errno.ENOSPC, os.strerror(errno.ENOSPC))
         if is_synced:
             os.fsync(handle)
+        return True
     finally:
         os.close(handle)
 

@@ -15,7 +15,7 @@ from .as_run import BEAT, KEYS, AsRun, Log
 from .journal import BEAT as BEAT_FILE
 from .kept import EVENTS, Kept
 from .masters import written_names
-from .standing import repairs_kept
+from .store import repairs_kept
 from .origins import NAMES
 from .reconcile import report
 from .watch import UNFILLABLE, WORDS, Watch
@@ -174,7 +174,7 @@ class Figures(Collector):
             for age, end in ((steps, BEAT_FILE), (ages, EVENTS)):
                 if (seconds := it.kept.age(end)) is not None:
                     age.add_metric([it.name], seconds)
-            for kind, lists in sorted(repairs_kept(it.kept.path.with_suffix(".numbers")).items()):
+            for kind, lists in sorted(repairs_kept(it.kept.path.parent, it.name).items()):
                 repairs.add_metric([it.name, kind], lists)
             with it.lock:
                 for (what, status, fault), count in sorted(it.kept.answers.items()):

@@ -9,7 +9,7 @@ from __future__ import annotations
 import re
 from bisect import bisect_left
 from collections.abc import Iterable
-from dataclasses import dataclass, field
+from dataclasses import dataclass, field, replace
 from itertools import chain, takewhile
 
 from . import packaged, spelling
@@ -47,7 +47,7 @@ def end_of(body: bytes) -> Numbers | None:
     if it has no segment."""
     count = body.count(b"\n#EXTINF:")
     media, steps = (int(found[1]) if (found := tag.search(body)) else 0 for tag in (MEDIA, STEPS))
-    return (media + count - 1, steps + body.count(b"\n#EXT-X-DISCONTINUITY\n")) if count else None
+    return (media + count - 1, steps + body.count(b"#EXT-X-DISCONTINUITY\n")) if count else None
 
 
 @dataclass
@@ -55,18 +55,23 @@ class Viewed:
     """What viewers have: for the feed's media number of a segment, the numbers with which a new channel has to begin there to go on
     (`begins`); the numbers of the last segment written (`end`); whether the newest segment given `is_replaced` by a pod's; and each
     date range's line by its ID, with the last media number at which it was listed (`ranges`). `reckoned`: what adsplice has by what it was
-    given; none if that isn't known. `is_grown`: since it was kept last, `begins` has got nothing but segments at its end."""
+    given; none if that isn't known. `origin` is another object once `begins` has got anything but segments at its end, or lost any but at its
+    front."""
 
     begins: dict[int, Numbers] = field(default_factory=dict)
     end: Numbers | None = None
     is_replaced: bool = False
     ranges: dict[str, tuple[str, int]] = field(default_factory=dict)
     reckoned: Reckoned | None = None
-    is_grown: bool = True
+    origin: object = field(default_factory=object, compare=False, repr=False)
+
+    def copy(self) -> Viewed:
+        """The same, as a value of its own."""
+        return replace(self, begins=dict(self.begins), ranges=dict(self.ranges))
 
     def see(self, items: list[Item], segments: list[PackagedSegment]) -> None:
         """Takes in the written `items` after the list of `segments` was given."""
-        self.is_grown, self.reckoned = False, None
+        self.origin, self.reckoned = object(), None
         places: dict[int, list[int]] = {}
         for place, item in enumerate(items):
             if item.instant is not None:
@@ -95,6 +100,7 @@ class Viewed:
         new = segments if before.newest is None else segments[len(segments) - max(0, segments[-1].number - before.newest):]
         moment = Moment(known_after(before, lines), store, tolerance, target, segments[0].section is not None)
         self.reckoned, begins = reckoned(before, new, moment)
+        self.origin = self.origin if before.newest is not None else object()
         self.begins |= begins
         self.end, self.is_replaced = self.reckoned.end(), self.reckoned.run is not None
         return True
@@ -108,13 +114,16 @@ class Viewed:
 
     def rise(self, media: int, discontinuity: int) -> None:
         """A new channel begins with numbers that are greater by `media` and `discontinuity` than those that viewers have."""
-        self.is_grown = False
+        self.origin = object()
         self.begins = {number: (it[0] + media, it[1] + discontinuity) for number, it in self.begins.items()}
+        self.end = None if self.end is None else (self.end[0] + media, self.end[1] + discontinuity)
+        if (it := self.reckoned) is not None:
+            self.reckoned = replace(it, media=it.media + media, discontinuity=it.discontinuity + discontinuity)
 
     def note(self, lines: Iterable[str], newest: int) -> None:
         """Remembers the EXT-X-DATERANGE `lines` of the list whose newest segment has the media number `newest`."""
         for line in lines:
-            if name := packaged.attributes_of(line.partition(":")[2]).get("ID"):
+            if name := packaged.id_in(line):
                 self.ranges.pop(name, None)
                 self.ranges[name] = line, newest
 
@@ -126,7 +135,7 @@ class Viewed:
 
     def renumber(self, media: int) -> None:
         """The feed's media numbers grow by `media`."""
-        self.is_grown = False
+        self.origin = object()
         self.begins = {number + media: it for number, it in self.begins.items()}
         self.ranges = {name: (line, number + media) for name, (line, number) in self.ranges.items()}
 

@@ -145,6 +145,12 @@ def attributes_of(text: str) -> dict[str, str]:
     return found
 
 
+@lru_cache(REMEMBERED)
+def id_in(line: str) -> str:
+    """The ID of the EXT-X-DATERANGE `line`; empty if it has none."""
+    return attributes_of(line.partition(":")[2]).get("ID", "")
+
+
 def decimal_of(text: str) -> int | None:
     """The decimal-integer `text` (RFC 8216, 4.2); none if it isn't one."""
     if not (text.isascii() and text.isdigit() and len(text) <= 20):

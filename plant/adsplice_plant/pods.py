@@ -7,7 +7,7 @@ from __future__ import annotations
 
 import json
 from collections.abc import Collection, Mapping
-from dataclasses import dataclass, field, replace
+from dataclasses import dataclass, field
 from typing import Any
 
 Ads = str  # those of a pod, as JSON
@@ -15,59 +15,36 @@ Ads = str  # those of a pod, as JSON
 
 @dataclass
 class Pods:
-    """The ads that adsplice holds: of the `fallback`, if there is one, and of decided breaks by their IDs (`held`). Of the breaks of the
-    window: the ads with which each began (`entered`), those that began with none (`missed`), and the ads that the channel held before it
-    was made anew (`before`)."""
+    """The ads that a controller holds by the programme's log: of the `fallback`, if there is one, and of decided breaks by their IDs (`held`). Of the
+    breaks of the window: the ads with which each began (`entered`), and those that began with none (`missed`)."""
 
     fallback: Ads | None = None
     held: dict[str, Ads] = field(default_factory=dict)
     entered: dict[str, Ads] = field(default_factory=dict)
     missed: set[str] = field(default_factory=set)
-    before: dict[str, Ads] = field(default_factory=dict)
+
+    def copy(self) -> Pods:
+        """The same, as a value of its own."""
+        return Pods(self.fallback, dict(self.held), dict(self.entered), set(self.missed))
 
     # ---- decisions
 
-    def given(self, body: bytes, has_list: bool) -> None:
-        """adsplice took the decision file `body`. If the channel `has_list`, none of its breaks is in use: it began with no pod."""
+    def given(self, body: bytes) -> None:
+        """The log gives the decision file `body`."""
         said = said_in(body)
         if "fallback" in said:
             self.fallback = ads_of(said["fallback"])
-        decided = decided_in(body)
-        self.held |= decided
-        for name in decided if has_list else ():
-            self.entered.pop(name, None)
+        self.held |= decided_in(body)
         if "withdraw" in said:
-            self.withdrawn(str(said["withdraw"]), has_list)
-
-    def withdrawn(self, name: str, has_list: bool) -> None:
-        """adsplice holds no decision of the break `name`; `has_list` as in `given`."""
-        self.held.pop(name, None)
-        if has_list:
-            self.entered.pop(name, None)
-
-    def learn(self, body: bytes) -> None:
-        """An earlier feed gave the decision file `body`: adsplice holds it as far as nothing else is known."""
-        self.held = decided_in(body) | self.held
-
-    def begin_anew(self) -> None:
-        """The channel is new, and holds nothing."""
-        self.before = self.before | self.held
-        self.fallback, self.held = None, {}
+            self.held.pop(str(said["withdraw"]), None)
 
     def at_hand(self, name: str) -> Ads | None:
         """The ads with which the break `name` begins if a list enters it now; none if it isn't decided, and there is no fallback."""
         return self.held.get(name, self.fallback)
 
-    def again(self, begun: Collection[str]) -> list[bytes]:
-        """The decision files by which a new channel holds what the breaks of the window began with, and what it held before of those that have
-        `begun` in other renditions."""
-        found = {name: ads for name, ads in self.before.items() if name in begun and name not in self.missed} | self.entered
-        return [decision_of(name, ads) for name, ads in found.items() if self.at_hand(name) != ads]
-
-    def settled(self, body: bytes) -> list[str]:
-        """Those of the breaks which the decision file `body` decides that began otherwise before the channel was made anew."""
-        known = self.before | self.entered
-        return [name for name, ads in decided_in(body).items() if (name in self.entered or name in self.missed) and known.get(name) != ads]
+    def again(self) -> list[bytes]:
+        """The decision files by which a new channel has for the breaks of the window what they began with, as far as it hasn't."""
+        return [decision_of(name, ads) for name, ads in self.entered.items() if self.at_hand(name) != ads]
 
     # ---- lists
 
@@ -87,18 +64,17 @@ class Pods:
                 self.missed.add(name)
 
     def of(self, names: Collection[str]) -> Pods:
-        """The same with no more than the breaks `names`, beside those that adsplice holds for breaks to come."""
-        entered, before = ({name: ads for name, ads in found.items() if name in names} for found in (self.entered, self.before))
+        """The same with no more than the breaks `names`, beside those that are held for breaks to come."""
+        entered = {name: ads for name, ads in self.entered.items() if name in names}
         held = {name: ads for name, ads in self.held.items() if name in names or name not in self.entered}
-        return replace(self, held=held, entered=entered, missed=self.missed & set(names), before=before)
+        return Pods(self.fallback, held, entered, self.missed & set(names))
 
     # ---- on disk
 
     def kept(self, names: Collection[str]) -> dict[str, Any]:
         """What a feed keeps on disk of the breaks `names`."""
         it = self.of(names)
-        held = {name: ads for name, ads in (it.before | it.held).items() if name in names}
-        return {"fallback": it.fallback, "held": held, "entered": it.entered, "missed": sorted(it.missed)}
+        return {"fallback": it.fallback, "held": it.held, "entered": it.entered, "missed": sorted(it.missed)}
 
 
 def pods_of(said: Any) -> Pods:

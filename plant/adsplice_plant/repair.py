@@ -103,7 +103,6 @@ class Repairer:
         self.past: list[PackagedSegment] = []  # those that left it, the oldest first
         self.adds = False  # whether the instants of the last list were added
         self.held_since: float | None = None  # when the first list that didn't go on was seen
-        self.moved = 0  # by how much its media numbers are greater than the programme's, since the channel was made anew
         self.owed = 0  # discontinuities that the next new segment has for other renditions
         self.lead: Lead | None = None  # what stays in front of the packager's list, since it began again
         self.front = 0  # segments of the last list that the packager's own hadn't
@@ -217,13 +216,6 @@ class Repairer:
         self.past = history[max(0, gone - MOST_PAST):gone]
         self.last = found.segments
 
-    def renumber(self, media: int, discontinuity: int, listed: list[PackagedSegment]) -> None:
-        """All numbers grow by `media` and `discontinuity`, those of the segments `listed`, too: a new channel begins with others."""
-        self.moved += media
-        self.accepted = None
-        for it in {id(it): it for it in (*self.past, *self.last, *listed)}.values():
-            it.number, it.discontinuity = it.number + media, it.discontinuity + discontinuity
-
     # ---- numbers (RFC 8216, 4.3.3.2, 4.3.3.3, 6.2.1, 6.2.2)
 
     def begin(self, found: PackagedList) -> None:
@@ -236,7 +228,6 @@ class Repairer:
         first = found.segments[0]
         theirs = self.siblings.place_at(first.begins) if self.siblings is not None else None
         if theirs is not None:
-            self.moved = theirs[2]
             media, steps = theirs[0] - first.number, theirs[1] - first.discontinuity
             for it in found.segments:
                 it.number, it.discontinuity = it.number + media, it.discontinuity + steps

@@ -2,7 +2,6 @@
 from __future__ import annotations
 
 import urllib.parse
-from collections.abc import Callable, Iterable
 from dataclasses import replace
 from typing import NamedTuple
 
@@ -13,15 +12,18 @@ MOST_BORROWED = 100  # segments that a rendition takes from another one at a tim
 
 
 class Sibling(NamedTuple):
-    """A rendition: the `base` of its references, the segments that it has listed, the oldest first, whether a list of it that doesn't go
-    on is held back, and whether it `lends` segments, being of the same kind: pictures have no use for sound alone. `moved`: by how much
-    its media numbers are greater than the programme's, since its channel was made anew."""
+    """A rendition: the `base` of its references, the `segments` that it has listed, the oldest first, whether a list of it that doesn't go
+    on is held back (`is_held`), and whether it `lends` segments, being of the same kind: pictures have no use for sound alone."""
 
     base: str
-    segments: Callable[[], list[PackagedSegment]]
-    is_held: Callable[[], bool]
+    segments: list[PackagedSegment]
+    is_held: bool = False
     lends: bool = True
-    moved: Callable[[], int] = lambda: 0
+
+    def newest(self) -> list[PackagedSegment]:
+        """The segments since its packager's clock went back last: those before have the same instants."""
+        begins = [it.begins or 0 for it in self.segments]
+        return self.segments[next((place for place in range(len(begins) - 1, 0, -1) if begins[place] < begins[place - 1]), 0):]
 
 
 class Reach(NamedTuple):
@@ -48,30 +50,27 @@ def reach_of(body: bytes) -> Reach:
 
 
 class Siblings:
-    """The other renditions that `found` answers, those first that were there first. Numbers are those of the rendition that sees them, which
-    has `moved` its own by so much."""
+    """The other renditions that were `found`, those first that were there first."""
 
-    def __init__(self, found: Callable[[], Iterable[Sibling]], moved: Callable[[], int] = lambda: 0) -> None:
-        self.found, self.moved = found, moved
+    def __init__(self, found: list[Sibling]) -> None:
+        self.found = found
 
     def begins(self) -> dict[int, int]:
-        """The instants at which segments begin, by their media numbers here; of two renditions' the one's that was there first."""
+        """The instants at which segments begin, by their media numbers; of two renditions' the one's that was there first."""
         found: dict[int, int] = {}
-        for one in self.found():
-            ahead = self.moved() - one.moved()
-            found = {it.number + ahead: it.begins for it in one.segments() if it.begins is not None} | found
+        for one in self.found:
+            found = {it.number: it.begins for it in one.segments if it.begins is not None} | found
         return found
 
-    def place_at(self, instant: int | None) -> tuple[int, int, int] | None:
-        """Another rendition's own media number and discontinuity number at `instant`, by the segment that begins nearest to it, and by how
-        much it has moved its numbers."""
-        known = [(abs(it.begins - instant), it.number, it.discontinuity, one.moved()) for one in self.found() for it in one.segments()
+    def place_at(self, instant: int | None) -> tuple[int, int] | None:
+        """Another rendition's media number and discontinuity number at `instant`, by the segment that begins nearest to it."""
+        known = [(abs(it.begins - instant), it.number, it.discontinuity) for one in self.found for it in one.newest()
                  if it.begins is not None and instant is not None]
         return min(known)[1:] if known else None
 
     def is_awaited(self, instant: int | None, duration: int) -> bool:
         """Whether a rendition that goes on hasn't come to the segment that begins at `instant`, of `duration` nanoseconds."""
-        ends = [(it.begins or 0) + it.duration for one in self.found() if not one.is_held() for it in one.segments()[-1:] if it.begins is not None]
+        ends = [(it.begins or 0) + it.duration for one in self.found if not one.is_held for it in one.segments[-1:] if it.begins is not None]
         return instant is not None and any(end < instant - duration // 2 for end in ends)
 
     def between(self, start: int, end: int) -> list[PackagedSegment]:
@@ -79,8 +78,8 @@ class Siblings:
         references hold for another rendition, too. None if they are more than MOST_BORROWED."""
         found: list[PackagedSegment] = []
         base = ""
-        for one in (it for it in self.found() if it.lends):
-            there = [it for it in one.segments() if it.begins is not None and start <= middle_of(it) < end]
+        for one in (it for it in self.found if it.lends):
+            there = [it for it in one.newest() if it.begins is not None and start <= middle_of(it) < end]
             if len(there) > len(found):
                 found, base = there, one.base
         return [moved(it, base) for it in found] if len(found) <= MOST_BORROWED else []

@@ -8,6 +8,7 @@ import base64
 import binascii
 from dataclasses import dataclass
 from enum import IntEnum
+from functools import lru_cache
 
 from adsplice_rules.splice import INSERT, UNSAID, Bits, Insert, crc_of, first_fault, splice_insert, splice_time, ticks_nanos
 from adsplice_rules.values import Fault
@@ -248,6 +249,7 @@ def insert_words(insert: Insert) -> str:
 
 # ---- writing
 
+@lru_cache(1024)
 def insert_text(event: int, duration: int | None) -> str:
     """A section in hexadecimal digits with a splice_insert of the `event` that leaves the network at once, and lasts for `duration`
     nanoseconds if that is known (9.6, 9.7.3). Its CRC_32 is right."""

@@ -4,6 +4,7 @@ It has the state of one channel, or of all renditions of a programme: which brea
 A list that it was given before changes nothing."""
 from __future__ import annotations
 
+from copy import copy
 from dataclasses import dataclass, field
 from typing import Any, NamedTuple
 
@@ -50,6 +51,15 @@ class Translator:
         self.stated: dict[str, dict[str, int]] = {}  # of each rendition's listed date ranges the START-DATE
         self.cuts: dict[str, dict[str, list[int | None]]] = {}  # where each rendition's list has begun and ended breaks
         self.styles: set[str] = set()  # that were told as not translated
+
+    def copy(self) -> Translator:
+        """The same state, as a value of its own."""
+        found = copy(self)
+        found.breaks, found.done, found.firsts, found.styles = self.breaks.copy(), dict(self.done), dict(self.firsts), set(self.styles)
+        found.seen = {name: {id_: set(said) for id_, said in it.items()} for name, it in self.seen.items()}
+        found.stated = {name: dict(it) for name, it in self.stated.items()}
+        found.cuts = {name: {id_: [*cut] for id_, cut in it.items()} for name, it in self.cuts.items()}
+        return found
 
     # ---- what a list says
 
@@ -203,7 +213,7 @@ class Translator:
             found = self.cuts[rendition][it.id]
             for place, instant in enumerate((it.start if it.said is None else it.said, it.until)):
                 if instant is not None and found[place] is None and line.is_reached(instant):
-                    own = line.aligned(instant) if it.clock is None else instant
+                    own = line.aligned(instant) if it.clock is None or line.last > it.clock else instant
                     found[place] = own if abs(own - instant) > self.tolerance else instant
 
     def is_cut_elsewhere(self, one: Break, rendition: str) -> bool:
@@ -253,7 +263,8 @@ class Translator:
 
     def kept(self) -> dict[str, Any]:
         """The state as JSON."""
-        return {"breaks": self.breaks.kept(), "done": self.done, "cancelled": sorted(self.breaks.cancelled), "styles": sorted(self.styles),
+        return {"breaks": self.breaks.kept(), "clock": self.breaks.clock, "done": dict(self.done), "firsts": dict(self.firsts),
+                "cancelled": sorted(self.breaks.cancelled), "styles": sorted(self.styles),
                 "stated": {name: dict(it) for name, it in self.stated.items()},
                 "cuts": {name: {id_: [*cut] for id_, cut in it.items()} for name, it in self.cuts.items()},
                 "seen": {name: {id_: sorted(said) for id_, said in it.items()} for name, it in self.seen.items()}}
@@ -265,4 +276,6 @@ class Translator:
         self.seen = {name: {id_: set(said) for id_, said in it.items()} for name, it in kept["seen"].items()}
         self.stated = {name: {id_: int(start) for id_, start in it.items()} for name, it in kept.get("stated", {}).items()}
         self.cuts = {name: {id_: [*cut] for id_, cut in it.items()} for name, it in kept.get("cuts", {}).items()}
+        self.firsts = {name: int(first) for name, first in kept.get("firsts", {}).items()}
         self.breaks.cancelled, self.styles, self.breaks.is_first = set(kept["cancelled"]), set(kept["styles"]), not self.done
+        self.breaks.clock = kept.get("clock")

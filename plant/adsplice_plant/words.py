@@ -162,15 +162,17 @@ def shown_code(code: int) -> str:
     return f"\\x{code:02x}" if code < 0x100 else f"\\u{code:04x}" if code < 0x10000 else f"\\U{code:08x}"
 
 
-def ends_by_signals() -> threading.Event:
-    """An event that SIGTERM, SIGINT (Ctrl-C) and SIGHUP set: the program ends with status 0 once it sees it."""
+def ends_by_signals(anew: threading.Event | None = None) -> threading.Event:
+    """An event that SIGTERM, SIGINT (Ctrl-C) and SIGHUP set: the program ends with status 0 once it sees it. If there is `anew`, SIGHUP sets that:
+    the program then reads its settings anew."""
     ending = threading.Event()
+    events = {signal.SIGTERM: ending, signal.SIGINT: ending, signal.SIGHUP: ending if anew is None else anew}
 
-    def end(_number: int, _frame: FrameType | None) -> None:
-        ending.set()
+    def note(number: int, _frame: FrameType | None) -> None:
+        events[signal.Signals(number)].set()
 
-    for number in (signal.SIGTERM, signal.SIGINT, signal.SIGHUP):
-        signal.signal(number, end)
+    for number in events:
+        signal.signal(number, note)
     return ending
 
 

@@ -30,8 +30,8 @@ def needs(*names):
 def modules():
     """The modules that need httpx."""
     if not MODULES:
-        from adsplice_plant import asking, breaks, decisions, settings, signalling, web
-        MODULES.update(asking=asking, breaks=breaks, decisions=decisions, settings=settings, signalling=signalling, web=web)
+        from adsplice_plant import asking, breaks, events, fed, settings, shell
+        MODULES.update(asking=asking, breaks=breaks, events=events, fed=fed, settings=settings, shell=shell)
     return MODULES
 
 
@@ -56,25 +56,62 @@ class Decider(FakeServer):
         return status, {}, text if isinstance(text, bytes) else text.encode()
 
 
-class Asking:
-    """The signals of one channel, of a ladder if `renditions` are named, and what was told of them."""
+class Live:
+    """The feed of a programme of these `channels` in this process, whose lists are given to it by hand."""
+
+    def __init__(self, room, channels, timeout=2.0):
+        self.channels, self.timeout, self.told, self.feed = channels, timeout, [], None
+        self.begin()
+        room.server(self)
+
+    def begin(self):
+        """The feed begins; one that ran ends before."""
+        self.close()
+        it = modules()
+        self.feed = it["shell"].Feeding(self.channels, it["fed"].Limits(self.timeout, 1.0, 7.0), self.told.append, it["shell"].store_of(self.channels))
+        self.feed.start()
+
+    def close(self):
+        """The feed ends."""
+        if self.feed is not None:
+            self.feed.end()
+            assert self.feed.join(time.monotonic() + 20)
+
+    def read(self, text, channel):
+        """The list of the `channel` is `text`."""
+        self.feed.inbox.post(modules()["events"].ListRead(channel, text.encode()))
+
+    def has_given(self, text, channels):
+        """Whether the list `text` of the `channels` was given."""
+        found = [it for name, it in self.feed.state.renditions.items() if name in channels]
+        return all(it.came == text.encode() and not it.is_new and it.controller.sent is None and it.controller.listed == it.stands.entry for it in found)
+
+    def give(self, text, *channels):
+        """Gives the list `text` to the `channels`; answers the seconds until their controllers have it."""
+        begun = time.monotonic()
+        for it in channels:
+            self.read(text, it)
+        until(lambda: self.has_given(text, channels), 30, "the end of the turn")
+        return time.monotonic() - begun
+
+
+class Asking(Live):
+    """The feed of one channel that asks, of a ladder if `renditions` are named, and what was told of it. Its folder is the room's."""
 
     def __init__(self, room, ask, hold=0.4, renditions=("",), timeout=2.0, keep=None):
-        it = modules()
-        self.told, self.answered, self.room = [], threading.Event(), room
-        settings = it["settings"].Settings("news", "http://origin.example/i.m3u8", "http://127.0.0.1:1", "http://origin.example/i.m3u8", keep=keep,
-                                           decisions=Path(room.path), ask=ask, hold=hold)
-        self.signalling = it["signalling"].Signalling("news", settings, it["web"].Client(timeout), self.told.append, self.answered.set)
-        for name in renditions:
-            os.makedirs(f"{room.path}/{name}", exist_ok=True)
-            self.signalling.join(name, it["decisions"].Folder(Path(room.path) / name, 7))
+        self.controller, names = room.server(FakeController()), {it: f"news-{it}" if it else "news" for it in renditions}
+        for it in renditions:
+            os.makedirs(f"{room.path}/{it}", exist_ok=True)
+        super().__init__(room, [modules()["settings"].Settings(name, f"{room.path}/none.m3u8", self.controller.url, "http://origin.example/i.m3u8", keep=keep,
+                                                                decisions=Path(room.path) / it, programme="news" if it else "", ask=ask, hold=hold) for it, name in names.items()], timeout)
 
-    def give(self, newest, rendition="", style=STYLE):
-        """Gives the list up to this segment, as a turn of the feed does; answers the seconds that it took."""
-        begun = time.monotonic()
-        self.signalling.translate(listed(style.listed(newest)), rendition)
-        self.signalling.wait(rendition)
-        return time.monotonic() - begun
+    def give(self, newest, style=STYLE):
+        """Gives the list up to this segment; answers the seconds that it took."""
+        return super().give(style.listed(newest), *(it.name for it in self.channels))
+
+    def ask(self, *known):
+        """Asks for the breaks that are `known`."""
+        self.feed.asker.ask(modules()["events"].Ask(known, 2, 0))
 
     def sees(self, word):
         """Waits for a line that has `word`."""
@@ -83,12 +120,6 @@ class Asking:
     def lines(self):
         """What was told of questions, without the times of day."""
         return [it.split(" ", 1)[1] for it in self.told if " ask/" in it or " ask " in it]
-
-
-def listed(text):
-    """A list with the packager's numbers and times."""
-    from of_signals import listed as read
-    return read(text)
 
 
 def test_a_break_is_asked_for_once_and_its_list_waits_for_the_answer(room):
@@ -104,9 +135,10 @@ def test_a_break_is_asked_for_once_and_its_list_waits_for_the_answer(room):
         assert file.read() == json.dumps(json.loads(decided(("1001", 5))))
     for newest in range(13, 20):
         it.give(newest)
+    it.close()
     again = Asking(room, server.url)
     again.give(14)
-    assert len(server.questions) == 1 and it.answered.is_set()
+    assert len(server.questions) == 1
     assert [line[:32] for line in it.lines()] == ["news ask/1001 200 -: answered af"] and not again.lines(), it.lines()
 
 
@@ -124,7 +156,8 @@ def test_a_slow_server_is_waited_for_as_long_as_a_list_may_wait(room):
     assert 0.9 <= it.give(12) < 3.5
     assert it.give(13) < 0.9 and not os.path.exists(f"{room.path}/1001.json")
     it.sees("ask/1001 200 Late: answered after ")
-    assert it.answered.wait(10) and os.path.exists(f"{room.path}/1001.json") and len(server.questions) == 1
+    it.sees("decisions/1001.json 204 ")
+    assert os.path.exists(f"{room.path}/1001.json") and len(server.questions) == 1
 
 
 def test_a_list_waits_for_less_than_half_its_target_duration(room):
@@ -175,6 +208,7 @@ def test_a_dead_server_is_tried_again_while_a_list_may_wait(room):
     threading.Timer(0.3, lambda: room.server(Decider(port=port))).start()
     assert 0.3 <= it.give(12)
     it.sees("ask/1001 200 -: answered")
+    it.close()
     dead = Asking(room, f"http://127.0.0.1:{free_port()}/decide", hold=0.3)
     dead.give(12, style=named("cue-elemental"))
     dead.sees("ask/cue-12 - Unanswered: Connection refused")
@@ -201,8 +235,9 @@ def test_whoever_watches_the_folder_answers_there(room):
     threading.Thread(target=watch, daemon=True).start()
     it.give(11)
     it.give(12)
-    until(lambda: it.signalling.asker.is_decided("1001"), 20, "its decision")
+    until(lambda: it.feed.is_decided("1001"), 20, "its decision")
     assert it.lines() == ["news ask/1001 - Asked: asked/1001.json is there; its decision is expected in the folder"]
+    it.close()
     silent = Asking(room, "folder", hold=0.9)
     assert 0.9 <= silent.give(12, style=named("cue-elemental")) and silent.give(13, style=named("cue-elemental")) < 0.9
 
@@ -210,8 +245,7 @@ def test_whoever_watches_the_folder_answers_there(room):
 def test_a_programme_is_asked_for_once_and_each_rendition_gets_its_own_uris(room):
     server = room.server(Decider(lambda question: (200, decided((question["id"], 5)).replace("ads.example/", "ads.example/{}/"))))
     it = Asking(room, server.url, renditions=("1080", "720"))
-    for name in ("720", "1080"):
-        it.give(12, name)
+    it.give(12)
     assert len(server.questions) == 1 and server.questions[0]["renditions"] == ["1080", "720"]
     for name in ("1080", "720"):
         with open(f"{room.path}/{name}/1001.json", encoding="utf-8") as file:
@@ -229,8 +263,8 @@ def test_an_id_that_comes_again_is_asked_for_again(room):
     it = Asking(room, server.url)
     it.give(12)
     os.remove(f"{room.path}/1001.json")
-    it.signalling.asker.folders[""].look()
-    it.signalling.asker.ask([later], 2, 0)
+    until(lambda: not it.feed.is_decided("1001"), 5, "the look at the folder")
+    it.ask(later)
     until(lambda: len(server.questions) == 2, 2, "the second question")
 
 
@@ -238,7 +272,7 @@ def test_many_breaks_are_asked_for_in_bounds(room):
     server = room.server(Decider(pause=0.05))
     it = Asking(room, server.url, hold=0.5)
     known = [modules()["breaks"].Break(f"b{n}", n * SECOND, n, "splice_insert") for n in range(1000)]
-    it.signalling.asker.ask(known, 2, 0)
+    it.ask(*known)
     until(lambda: len(server.questions) == 16, 5, "sixteen questions")
     assert "news ask - TooMany: 16 questions are open; b16 isn't asked for" in it.lines()
 
@@ -246,41 +280,33 @@ def test_many_breaks_are_asked_for_in_bounds(room):
 def test_what_is_kept_on_disk_goes_on(room):
     keep = Path(room.path) / "kept"
     os.makedirs(keep)
-    style = named("cue-without-duration")
-    for newest in range(2, 31):
-        it, found = Asking(room, "", keep=keep), listed(style.listed(newest))
-        it.signalling.translate(found)
-        begun = [line.partition(",END")[0].partition(",SCTE")[0] for line in found.date_ranges()]
+    style, it = named("cue-without-duration"), Asking(room, "", keep=keep)
+    for newest in range(2, 31, 3):
+        it.give(newest, style)
+        text = it.controller.puts("origin")[-1].decode()
+        begun = [line.partition(",END")[0].partition(",SCTE")[0] for line in text.split("\n") if line.startswith("#EXT-X-DATERANGE")]
         assert begun == [f'#EXT-X-DATERANGE:ID="cue-12",START-DATE="{instant(24)}"'] * (12 <= newest < 24), (newest, begun)
-    for text in ("{", '{"breaks":[{"id":1}]}', "[1]", '{"breaks":1,"done":[],"cancelled":[],"styles":[],"seen":[]}'):
-        (keep / "news.signals").write_text(text, encoding="utf-8")
-        assert "Broken" in Asking(room, "", keep=keep).told[0], text
+        it.begin()
+    assert sum("Begins" in line for line in it.told) == 1, it.told
 
 
 # ---- through the feed
 
-class Fed:
-    """A channel's feed in this process, whose turns are made by hand: of a style's lists, to adsplice or a fake of it at `at`."""
+class Fed(Live):
+    """The feed of one channel to adsplice or a fake of it at `at`, whose lists are those of a style."""
 
     def __init__(self, room, at, style, **settings):
-        from adsplice_plant.channel import Channel
-        it = modules()
-        self.room, self.style, self.lines, self.path = room, style, [], Path(room.path) / "index.m3u8"
-        self.dropped = ""  # what the tags begin with that the packager doesn't write
+        self.style, self.dropped = style, ""  # what the tags begin with that the packager doesn't write
         settings = {"decisions": Path(room.path) / "decisions", "keep": Path(room.path) / "kept", **settings}
         for folder in (settings["decisions"], settings["keep"]):
             folder.mkdir(exist_ok=True)
-        self.settings = it["settings"].Settings("news", str(self.path), at, "http://origin.example/ch/index.m3u8", **settings)
-        self.begin = lambda: Channel(self.settings, it["web"].Client(5.0), self.lines.append, 5.0, 7.0)
-        self.channel = self.begin()
+        super().__init__(room, [modules()["settings"].Settings("news", f"{room.path}/none.m3u8", at, "http://origin.example/ch/index.m3u8", **settings)], 5.0)
+        self.lines = self.told
 
     def turn(self, newest):
-        """The packager's list goes up to this segment, and the feed has a turn; answers the seconds that it took."""
+        """The packager's list goes up to this segment; answers the seconds until adsplice has it."""
         lines = self.style.listed(newest).split("\n")
-        self.room.write("index.m3u8", "\n".join(it for it in lines if not self.dropped or not it.startswith(self.dropped)))
-        begun = time.monotonic()
-        self.channel.turn()
-        return time.monotonic() - begun
+        return self.give("\n".join(it for it in lines if not self.dropped or not it.startswith(self.dropped)), "news")
 
 
 def test_lists_that_adsplice_knows_pass_byte_for_byte(room):
@@ -353,7 +379,7 @@ def test_a_feed_started_again_goes_on_with_the_same_breaks(room):
     room.adsplice(port)
     fed = Fed(room, f"http://127.0.0.1:{port}", named("cue-without-duration"), ask=server.url)
     for newest in range(9, 23):
-        fed.channel = fed.begin()
+        fed.begin()
         fed.turn(newest)
     seen = [it.text() for it in journal.events(Path(f"{room.path}/kept/news.events")) if it.what == "origin"]
     ids = {name for text in seen for name in re.findall('DATERANGE:ID="([^"]*)"', text)}

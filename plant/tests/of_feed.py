@@ -9,10 +9,13 @@ import time
 import urllib.request
 from pathlib import Path
 
+from of_lists import BASE, CLOCK, URL
+from stepped import Stepped
 from tools import FALLBACK, PLANT, PYTHON, FakeController, FakeOrigin, RulesController, SlowController, Viewers, decided, free_port, get, instant, listed, put, until
 
 sys.path.insert(0, PLANT)
 from adsplice_plant.kept import Kept  # noqa: E402
+from adsplice_plant.settings import Settings  # noqa: E402
 
 NEEDS = ("httpx",)
 PROGRAM = ("httpx", "program")
@@ -225,14 +228,27 @@ def test_decision_file_that_is_written_again_as_it_was_is_given_once(room):
 def test_refused_decision_file_is_told_in_words_and_taken_once_mended(room):
     path = f"{room.path}/decisions"
     os.makedirs(path)
-    origin, controller, feed = started(room, listed(0, 5), "--decisions", path)
-    controller.refusals[("PUT", "decisions")] = [(422, "J2 Shape break 0 ad 0 segment 0\n")]
+    origin, controller, feed = started(room, listed(0, 5), "--decisions", path, "--keep", f"{room.path}/kept")
     room.write("decisions/one.json", decided(("b1", 2)).replace('"2"', "2"))
     feed.sees("news decisions/one.json 422 J2 Shape break 0 ad 0 segment 0: a member is missing, or isn't of its type; leaves it")
     time.sleep(2.2)
-    assert len(controller.puts("decisions")) == 1
+    assert not controller.puts("decisions"), "what adsplice would refuse isn't given"
+    with open(f"{room.path}/kept/news.events", encoding="utf-8") as it:
+        assert [(one["status"], one["fault"]) for one in map(json.loads, it) if one["what"] == "decisions"] == [(422, "J2 Shape break 0 ad 0 segment 0")]
     room.write("decisions/one.json", decided(("b1", 2)))
     feed.sees("news decisions/one.json 204 -: decides b1")
+
+
+def test_withdrawal_of_a_break_without_a_pod_is_told_as_refused(room):
+    path = f"{room.path}/decisions"
+    os.makedirs(path)
+    origin, controller, feed = started(room, listed(0, 5), "--decisions", path)
+    feed.sees("news adsplice 204 -: the list is taken")
+    controller.refusals[("PUT", "decisions")] = [(409, "J11 Unknown\n")]
+    room.write("decisions/one.json", json.dumps({"withdraw": "misspelt"}))
+    feed.sees("news decisions/one.json 409 J11 Unknown: the withdrawn break has no pod of its own .misspelt.")
+    assert not any("withdraws misspelt" in line for line in feed.lines), feed.lines
+    until(lambda: os.listdir(f"{path}/done") == ["one.json"], 5, "the file in done")
 
 
 def test_decision_file_outlives_a_front_that_refuses(room):
@@ -278,9 +294,8 @@ def test_decision_that_came_too_late_stays_refused(room):
     path = f"{room.path}/decisions"
     os.makedirs(path)
     origin, controller, feed = started(room, listed(0, 5, [("b1", 4, 4)]), "--decisions", path)
-    controller.refusals[("PUT", "decisions")] = [(409, "J9 Used\n"), (409, "J9 Used\n")]
     room.write("decisions/two.json", decided(("b1", 2), ("b2", 1)))
-    after = feed.sees("news decisions/two.json 409 J9 Used: b1 has begun, and keeps its pod; decides b2")
+    after = feed.sees("news decisions/two.json 204 Late: b1 has begun, and stays as it is; decides b2")
     controller.channels.clear()
     origin.text = listed(1, 6, [("b1", 4, 4)])
     feed.sees("news adsplice 204 -: the list is taken", 20, after)
@@ -331,20 +346,26 @@ def test_decisions_of_breaks_that_are_not_listed_wait_for_room(room):
     assert b"b209-0" in controller.puts("decisions")[-1]
 
 
+def by_steps(count=0):
+    """A feed by its function with so many files of a break each, b0000, b0001 .."""
+    it = Stepped(Settings("news", "x", "http://h", URL), BASE, CLOCK)
+    it.files = {f"{n:04}.json": ((n + 1, 1, n), decided((f"b{n:04}", 1)).encode()) for n in range(count)}
+    return it
+
+
+def ids_given(it):
+    """The breaks of the decisions that adsplice was sent, in their order."""
+    return [json.loads(body)["breaks"][0]["id"] for body in it.decided if b"breaks" in body]
+
+
 def test_two_thousand_decisions_are_given_once_each_as_there_is_room(room):
-    from adsplice_plant.decisions import Folder
-    for it in range(2000):
-        room.write(f"d/{it:04}.json", decided((f"b{it:04}", 1)))
-    folder, given = Folder(Path(room.path, "d"), 7), []
-    for turn in range(60):
-        listed_now = {f"b{it:04}" for it in range(1500, 1500 + turn // 2)}  # (the newest files' breaks come first)
-        folder.look()
-        for it in folder.next_up(listed_now):
-            given.append(it.ids[0])
-            folder.given(it)
-        if turn == 10:
-            assert len(given) == 200 + 5, len(given)  # (whatever a channel can't use yet isn't given)
-    assert len(given) == len(set(given)) == 200 + 29 and len(os.listdir(f"{room.path}/d")) == 2000, len(given)
+    it = by_steps(2000)
+    it.look()
+    for turn in range(30):  # (the newest files' breaks come first)
+        it.seconds += 2.0
+        it.read(listed(turn, turn + 5, [(f"b{n:04}", 8 * n, 4) for n in range(1500, 1500 + turn)]).encode())
+    given = ids_given(it)
+    assert len(given) == len(set(given)) == 200 + 29, len(given)  # (whatever a channel can't use yet isn't given)
 
 
 def test_a_list_waits_for_the_decisions_that_it_needs_and_for_few_others(room):
@@ -368,39 +389,27 @@ def test_a_list_waits_for_the_decisions_that_it_needs_and_for_few_others(room):
     until(lambda: sum(b"withdraw" in it for it in controller.puts("decisions")) == 59, 30, "all that was removed is withdrawn")
 
 
-def test_decisions_that_no_listed_break_needs_come_as_long_as_there_is_time(room):
-    from adsplice_plant import decisions
-    clock = [0.0]
-    found = [decisions.Decision(Path(f"{n}.json"), (0, 0, 0), b"", *said) for n, said in enumerate(
-        [("breaks", ["b1"]), ("breaks", ["b2", "b9"]), ("breaks", ["b3"]), ("fallback", []), ("breaks", ["b9"]), ("", [])])]
-    monotonic = decisions.time.monotonic
-    decisions.time.monotonic = lambda: clock[0]
-    try:
-        for until_, owed in ((0.0, "1345"), (0.1, "13450"), (9.0, "134502")):
-            clock[0], names = 0.0, ""
-            for it in decisions.in_time(found, {"b9"}, until_):
-                names += it.path.stem
-                clock[0] += 0.1 if not it.is_needed({"b9"}) else 0.0
-            assert names == owed, (until_, names)
-    finally:
-        decisions.time.monotonic = monotonic
+def test_decisions_that_a_listed_break_needs_come_first(room):
+    it = by_steps(40)
+    it.read(listed(0, 5, [("b0039", 400, 4)]).encode())
+    it.look()
+    assert ids_given(it)[:17] == ["b0039", *(f"b{n:04}" for n in range(16))] and len(set(ids_given(it))) == len(ids_given(it)), ids_given(it)
+    assert len(it.pushed) == 1 and it.order.index("origin") <= 17, it.order
 
 
 def test_removed_files_have_their_room_until_they_are_taken_back(room):
-    from adsplice_plant.decisions import Folder
-    folder = Folder(Path(room.path, "d"), 7)
-    for n in range(250):
-        room.write(f"d/{n:03}.json", decided((f"b{n:03}", 1)))
-    folder.look()
-    for it in folder.next_up(()):
-        folder.given(it)
-    for it in folder.open():
-        os.remove(it.path)
-    folder.look()
-    assert (len(folder.removed), len(folder.next_up(()))) == (200, 0), "adsplice holds what was removed"
-    for n in range(30):
-        del folder.removed[f"{n:03}.json"]
-    assert len(folder.next_up(())) == 30
+    it = by_steps(250)
+    it.read(listed(0, 5).encode())
+    it.look()
+    assert len(ids_given(it)) == 200
+    it.is_away = True
+    it.files = {name: file for name, file in it.files.items() if name >= "0200.json"}
+    it.look()
+    it.wait(2.0)
+    assert len(ids_given(it)) == 200, "adsplice holds what was removed"
+    it.is_away = False
+    it.wait(8.0)
+    assert len(ids_given(it)) == 250 and len(set(ids_given(it))) == 250
 
 
 def test_removed_files_leave_room_for_other_decisions(room):
@@ -455,27 +464,6 @@ def test_removed_file_that_adsplice_says_has_begun_keeps_its_pod(room):
     assert controller.puts("decisions")[1:] == [b'{"withdraw": "b1"}'] * 2
 
 
-def test_folder_that_cannot_be_read_takes_nothing_back(room):
-    from adsplice_plant.decisions import Folder
-    path = Path(room.path, "d")
-    for name, ids in (("one", ("b1", "b2")), ("two", ("b2", "b3"))):
-        room.write(f"d/{name}.json", decided(*((it, 1) for it in ids)))
-    folder = Folder(path, 7)
-    folder.look()
-    for it in folder.waiting():
-        folder.given(it)
-    path.rename(f"{room.path}/away")
-    folder.look()
-    assert "" in folder.passed_over and not folder.removed and len(folder.open()) == 2
-    Path(room.path, "away").rename(path)
-    path.joinpath("one.json").unlink()
-    folder.look()
-    assert {name: folder.held_by(it) for name, it in folder.removed.items()} == {"one.json": ["b1"]}, "b2 is of the other file, too"
-    room.write("d/one.json", decided(("b1", 1), ("b2", 1)))
-    folder.look()
-    assert not folder.removed and len(folder.open()) == 2, "the same again, which adsplice has"
-
-
 def test_feed_that_was_started_again_gives_no_decision_twice(room):
     path = f"{room.path}/decisions"
     os.makedirs(path)
@@ -490,9 +478,9 @@ def test_feed_that_was_started_again_gives_no_decision_twice(room):
     assert len(controller.puts("decisions")) == 1 and controller.puts("origin")[-1] == origin.text.encode()
 
 
-def kept_numbers(room, name="news"):
-    """What a later feed of a channel has to know; nothing before the first list."""
-    path = Path(room.path, "kept", f"{name}.numbers")
+def kept_log(room, name="news"):
+    """The log of a programme; nothing before its first entry."""
+    path = Path(room.path, "kept", f"{name}.log")
     return path.read_text(encoding="utf-8") if path.exists() else ""
 
 
@@ -506,7 +494,7 @@ def test_files_that_are_removed_while_the_feed_is_down_are_withdrawn_when_it_is_
     for name in ("b1", "b2, b3", "b3, b4"):
         feed.sees(f"204 -: decides {name}")
     feed.sees("news adsplice 204 -: the list is taken")
-    until(lambda: "three.json" in kept_numbers(room), 20, "what a later feed has to know")
+    until(lambda: "three.json" in kept_log(room), 20, "what a later feed has to know")
     feed.end(signal.SIGKILL)
     for name in ("one", "two", "fallback"):
         os.remove(f"{path}/{name}.json")
@@ -530,10 +518,11 @@ def test_file_that_was_refused_is_not_given_again_by_a_later_feed(room):
     controller.refusals[("PUT", "decisions")] = [(422, "J2 Shape break 0\n")]
     room.write("decisions/one.json", decided(("b1", 2)))
     feed.sees("news decisions/one.json 422 J2 Shape")
-    until(lambda: "one.json" in kept_numbers(room), 20, "what a later feed has to know")
+    until(lambda: "one.json" in kept_log(room), 20, "what a later feed has to know")
     feed.end(signal.SIGKILL)
     feed = room.feed("--channel", "news", "--origin", origin.url, "--at", controller.url, *words)
-    feed.sees("news adsplice 204 -: the list is taken")
+    feed.sees("news adsplice 409 -: the channel is there already")
+    time.sleep(0.5)
     assert len(controller.puts("decisions")) == 1
     room.write("decisions/one.json", decided(("b1", 1)))
     feed.sees("news decisions/one.json 204 -: decides b1")
@@ -545,7 +534,7 @@ def test_a_new_channel_is_not_asked_to_forget_what_it_never_held(room):
     origin, controller, feed = started(room, listed(0, 5, [("b1", 40, 4)]), *words)
     room.write("decisions/one.json", decided(("b1", 2)))
     feed.sees("news decisions/one.json 204 -: decides b1")
-    until(lambda: "one.json" in kept_numbers(room), 20, "what a later feed has to know")
+    until(lambda: "one.json" in kept_log(room), 20, "what a later feed has to know")
     feed.end(signal.SIGKILL)
     os.remove(f"{path}/one.json")
     controller.channels.clear()
@@ -626,16 +615,19 @@ def test_a_feed_shows_that_it_goes_on(room):
 
 
 def test_a_new_file_of_events_begins_with_what_holds(room):
-    from adsplice_plant.channel import Channel
+    from dataclasses import replace
+    from adsplice_plant.decided import decide
+    from adsplice_plant.fed import Limits
     from adsplice_plant.settings import ladder_of
-    from adsplice_plant.web import Client
+    from adsplice_plant.shell import Feeding
+    from adsplice_plant.turn import Turn
     words = {"origin": "http://a.example/i.m3u8 http://b.example/i.m3u8", "at": "http://h.example", "decisions": f"{room.path}/d", "keep": room.path}
-    room.write("d/one.json", decided(("b1", 1)))
-    it = Channel(ladder_of("news", words)[0], Client(1), lambda line: None, 5, 7)
-    it.folder.look()
-    it.folder.given(it.folder.named("one.json"))
-    it.is_apart, it.origin.place = True, 1
-    found = [(one.what, one.status, one.body) for one in it.opening()]
+    it = Feeding(ladder_of("news", words), Limits(), lambda line: None)
+    turn = Turn(it.state, 0.0, 0)
+    for body, kind, ids in ((decided(("b1", 1)), "breaks", ("b1",)), (decided(("b2", 1)), "breaks", ("b2",)), ('{"withdraw": "b2"}', "withdraw", ("b2",))):
+        decide(turn, {"news": body.encode()}, kind, ids)
+    it.state, it.channels["news"].reading.origin.place = replace(turn.state, is_apart=frozenset({"news"})), 1
+    found = [(one.what, one.status, one.body) for one in it.channels["news"].opening()]
     assert found == [("channel", 201, '{"base": "http://a.example/i.m3u8"}'), ("place", 2, ""), ("apart", 1, ""), ("decisions", 204, decided(("b1", 1)))], found
 
 

@@ -129,12 +129,9 @@ def test_texts_that_are_large_leave_the_other_channel_in_time(room):
 
 
 def test_a_target_duration_of_years_is_asked_again_within_seconds(room):
-    from adsplice_plant import channel
-    from adsplice_plant.settings import settings_of
-    it = channel.Channel(settings_of("news", {"origin": "http://h/i.m3u8", "at": "http://h"}), None, print, 5, 7)
+    from adsplice_plant import reading
     for target in (10**9, 10**12, 2**64 - 1):
-        it.lists.target = target
-        assert it.interval() == 10 and it.longest() == 10, target
+        assert reading.interval(target, True) == 10 and reading.longest(target) == 10, target
 
 
 def test_sigterm_is_heeded_in_each_state(room):
@@ -188,6 +185,10 @@ def test_what_a_user_may_not_read_or_write_is_told(room):
                           stdin=subprocess.DEVNULL, stdout=subprocess.PIPE, stderr=subprocess.STDOUT, text=True, **user)
     room.running.append(it)
     try:
+        until(lambda: controller.asked, 20, "the making of the channel")
+        time.sleep(1.5)
+        assert not controller.puts("origin") and not controller.puts("decisions"), "nothing is given that can't be kept"
+        os.chmod(kept, 0o777)
         until(lambda: controller.puts("origin") and controller.puts("decisions"), 20, "the list and the decision that may be read")
         room.write("index.m3u8", listed(1, 6))
         until(lambda: len(controller.puts("origin")) > 1, 20, "the next list")
@@ -197,21 +198,21 @@ def test_what_a_user_may_not_read_or_write_is_told(room):
         for path in (folder, kept):
             os.chmod(path, 0o755)
     said = it.stdout.read()
-    for text in ("b1.json.*can't be read: Permission denied", "journal - Unkept: .*/news.events: Permission denied", "numbers - Unkept: .*/news.numbers: Permission denied"):
+    for text in ("b1.json.*can't be read: Permission denied", "journal - Unkept: .*/news.events: Permission denied", "log - Unkept: .*kept/news.log: Permission denied"):
         assert len(re.findall(text, said)) == 1, (text, said)
     assert controller.puts("decisions") == [decided(("b2", 2)).encode()], controller.puts("decisions")
 
 
 def test_a_journal_that_cannot_be_written_is_told_each_time_that_it_begins_and_ends(room):
-    from adsplice_plant.channel import Channel
+    from adsplice_plant.events import Note
     from adsplice_plant.settings import settings_of
-    from adsplice_plant.web import Answer, Client
+    from adsplice_plant.telling import Noting, Telling
     lines = []
-    it = Channel(settings_of("news", {"origin": "http://h/i.m3u8", "at": "http://h", "keep": room.path}), Client(2), lines.append, 0.2, 7)
+    it = Noting(settings_of("news", {"origin": "http://h/i.m3u8", "at": "http://h", "keep": room.path}), Telling("news", lines.append), list)
     right = it.journal.put
     for is_full in (False, True, True, False, False, True):
         it.journal.put = refuse if is_full else right
-        it.note("read", Answer(0, why="no answer"))
+        it.note(Note("news", "read", 0, "no answer"))
     told = [line.split(" ", 2)[2].replace(f"{room.path}/", "") for line in lines]
     full, well = "journal - Unkept: news.events: No space left on device; goes on without it", "journal - -: news.events: events are kept again"
     assert told == [full, well, full], told
@@ -220,36 +221,6 @@ def test_a_journal_that_cannot_be_written_is_told_each_time_that_it_begins_and_e
 def refuse(*_):
     """A full disk."""
     raise OSError(28, "No space left on device")
-
-
-def test_a_fault_that_nobody_foresaw_begins_the_channel_anew(room):
-    from adsplice_plant import feed
-    from adsplice_plant.channel import Channel
-    from adsplice_plant.kept import Kept
-    from adsplice_plant.settings import settings_of
-    from adsplice_plant.web import Client
-    origin, controller, lines, ending = room.server(FakeOrigin(listed(0, 5))), room.server(FakeController()), [], threading.Event()
-    said = settings_of("news", {"origin": origin.url, "at": controller.url, "keep": room.path})
-    it = Channel(said, Client(2), lines.append, 0.2, 7)
-    right, faults = it.look, [ZeroDivisionError("a fault"), ZeroDivisionError("a fault"), MemoryError()]
-
-    def look(found):
-        if faults:
-            raise faults.pop(0)
-        right(found)
-
-    it.look = look
-    it.away.first = it.away.most = 0.05
-    thread = threading.Thread(target=feed.run, args=(it, ending, 0), daemon=True)
-    thread.start()
-    until(lambda: controller.puts("origin"), 20)
-    ending.set()
-    thread.join(5)
-    told = [line for line in lines if " feed - " in line]
-    assert len(told) == 2 and re.search(r"news feed - ZeroDivisionError channel\.py:\d+: a fault; begins anew", told[0]) and "MemoryError" in told[1], told
-    kept = Kept(Path(room.path, "news.events"))
-    kept.follow()
-    assert kept.restarts == 3
 
 
 def test_what_is_passed_over_is_told(room):
@@ -280,22 +251,6 @@ def test_bounds_that_do_not_read_are_refused(room):
     for text, owed in ((f"{one}line = 5\n", "line is a number of bytes of at least 256"), (f"{one}redirects = maybe\n", "redirects is yes or no")):
         status, out, err = room.run("adsplice-feed", "--config", room.write("feed.ini", text))
         assert (status, out, err.count("\n")) == (1, "", 1) and owed in err, (text, status, err)
-
-
-@apart  # (the clock is that of a whole process)
-def test_a_clock_that_jumps_retires_no_decision(room):
-    from adsplice_plant import decisions
-    path = room.write("d/b1.json", decided(("b1", 1)))
-    os.utime(path, (1, 1))  # (copied with its old time)
-    folder, now = decisions.Folder(Path(room.path, "d"), 7), time.time
-    folder.look()
-    folder.given(folder.named("b1.json"))
-    try:
-        for jump in (0, 400 * 86400, -400 * 86400):
-            decisions.time.time = lambda jump=jump: now() + jump
-            assert not folder.retire({"other"}) and folder.open(), jump
-    finally:
-        decisions.time.time = now
 
 
 def test_answers_of_a_hostile_ad_server_are_judged(room):

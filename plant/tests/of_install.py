@@ -58,7 +58,7 @@ def test_package(room):
     listed = subprocess.run(["dpkg-deb", "-c", path.rstrip()], capture_output=True, text=True, check=True).stdout
     for name in ("./usr/bin/adsplice ->", "./usr/bin/adsplice-feed ->", "./lib/systemd/system/adsplice@.service", "./lib/systemd/system/adsplice-feed.service",
                  "./usr/lib/adsplice/adsplice.build", "./usr/share/adsplice/nginx.conf", "./usr/share/man/man1/adsplice.1.gz", "./etc/adsplice/feed.ini",
-                 "./usr/share/doc/adsplice/DECISION_FILES.md", "./usr/lib/adsplice/adsplice_plant/channel.py", "./usr/lib/adsplice/adsplice_rules/channel.py"):
+                 "./usr/share/doc/adsplice/DECISION_FILES.md", "./usr/lib/adsplice/adsplice_plant/programme.py", "./usr/lib/adsplice/adsplice_rules/channel.py"):
         assert name in listed, name
     subprocess.run(["dpkg-deb", "-x", path.rstrip(), f"{room.path}/out"], check=True)
     with open(f"{room.path}/out/lib/systemd/system/adsplice@.service", encoding="utf-8") as it:

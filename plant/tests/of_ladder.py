@@ -6,7 +6,7 @@ import signal
 import time
 import urllib.request
 
-from of_feed import by_clock, kept_numbers
+from of_feed import by_clock, kept_log
 from tools import FALLBACK, FakeController, FakeOrigin, RulesController, SlowController, Viewers, decided, free_port, get, instant, listed, put, until
 
 NEEDS = ("httpx",)
@@ -94,10 +94,10 @@ def test_ladder_decision_that_one_refuses_is_withdrawn_from_all(room):
     controller = room.server(FakeController())
     ladder = Ladder(room, controller.url, listed(0, 5, [("b1", 14, 4)]))
     ladder.taken()
-    controller.refusals[("PUT", "decisions")] = [(204, ""), (422, "J3 BadUri break 0 ad 0 segment 0\n")]
+    controller.refusals[("PUT", "news-2/decisions")] = [(422, "J3 BadUri break 0 ad 0 segment 0\n")]
     ladder.decide("one", decided(("b1", 2)))
     ladder.feed.sees("news decisions/one.json - J3 BadUri: news-2: .*no rendition has it until its files are written anew")
-    assert [asked(controller, it, "decisions") for it in NAMES] == [[decided(("b1", 2)), '{"withdraw": "b1"}'], [decided(("b1", 2)), '{"withdraw": "b1"}'], ['{"withdraw": "b1"}']]
+    until(lambda: [asked(controller, it, "decisions")[-1:] for it in NAMES] == [['{"withdraw": "b1"}']] * 3, 10, "the withdrawals")
     ladder.decide("one", decided(("b1", 1)))
     ladder.feed.sees("news decisions/one.json - -: decides b1 in all renditions")
 
@@ -165,12 +165,11 @@ def test_ladder_file_that_is_removed_once_its_break_has_begun_in_one_stays_in_al
 def test_ladder_removed_file_of_a_break_in_use_is_given_back_to_all(room):
     controller, breaks = room.server(FakeController()), [("b1", 14, 4)]
     ladder = Ladder(room, controller.url, listed(0, 5, breaks))
-    controller.refusals[("PUT", "decisions")] = [(204, "")] * 4 + [(409, "J9 Used\n")]
+    controller.refusals[("PUT", "news-2/decisions")] = [(204, ""), (409, "J9 Used\n")]
     removed_from(ladder, controller, "2", breaks)
     ladder.feed.sees("Removed: the file was removed from news-2; b1 has begun, and keeps its pod in all renditions")
-    said = [[json.loads(it) for it in asked(controller, name, "decisions")] for name in NAMES]
     pod = json.loads(decided(("b1", 2)))
-    assert said == [[pod, {"withdraw": "b1"}, pod]] * 3, said
+    until(lambda: [[json.loads(it) for it in asked(controller, name, "decisions")] for name in NAMES] == [[pod, {"withdraw": "b1"}, pod]] * 3, 10, "the pods")
 
 
 def test_ladder_removed_file_is_withdrawn_from_one_that_was_away_before_its_next_list(room):
@@ -203,7 +202,7 @@ def test_ladder_file_that_is_removed_while_the_feed_is_down_is_withdrawn_unless_
     ladder.feed.sees("news decisions/two.json - -: decides b2 in all renditions")
     ladder.push(listed(0, 7, breaks), ("1",))  # (b1 has begun in one rendition)
     until(lambda: "b1-0.ts" in controller.shown("news-1"), 10, "its break")
-    until(lambda: all("two.json" in kept_numbers(room, f"news-{it}") for it in NAMES), 20, "what a later feed has to know")
+    until(lambda: "two.json" in kept_log(room), 20, "what a later feed has to know")
     ladder.feed.end(signal.SIGKILL)
     for name, file in (("2", "one"), ("3", "one"), ("1", "two"), ("2", "two"), ("3", "two")):
         os.remove(f"{room.path}/{name}/decisions/{file}.json")
@@ -211,7 +210,7 @@ def test_ladder_file_that_is_removed_while_the_feed_is_down_is_withdrawn_unless_
     later.feed.sees("news decisions/one.json - Removed: the file was removed from news-2, news-3; b1 has begun, and keeps its pod in all renditions")
     later.feed.sees("news decisions/two.json - Removed: the file was removed from news-1, news-2, news-3; withdraws b2 in all renditions")
     until(lambda: all("b1-0.ts" in controller.shown(f"news-{it}") for it in NAMES), 10, "the others' lists")
-    assert all([it.id for it in controller.edge.channels[f"news-{name}"].store.entries] == ["b1"] for name in NAMES)
+    until(lambda: all([it.id for it in controller.edge.channels[f"news-{name}"].store.entries] == ["b1"] for name in NAMES), 10, "that they hold b1 alone")
 
 
 def test_ladder_pods_of_unequal_cuts_are_given_to_none(room):
@@ -228,25 +227,26 @@ def test_ladder_decision_of_which_one_way_is_cut_is_given_once_all_answer(room):
     controller = room.server(FakeController())
     ladder = Ladder(room, controller.url, listed(0, 5, [("b1", 60, 4)]))
     ladder.taken()
-    controller.refusals[("PUT", "decisions")] = [(204, ""), (502, ""), (204, "")] * 30
+    controller.refusals[("PUT", "news-2/decisions")] = [(502, "")] * 30
     ladder.decide("one", decided(("b1", 2)))
-    after = ladder.feed.sees("news decisions/one.json - Away: news-2 doesn't answer; no rendition is given it until all answer")
-    controller.refusals.clear()
+    after = ladder.feed.sees("news-2 adsplice 502 -: ")
     ladder.push(listed(1, 6, [("b1", 60, 4)]))
+    until(lambda: [len(asked(controller, it, "origin")) for it in "13"] == [2, 2], 10, "the others' lists")
+    controller.refusals.clear()
     ladder.feed.sees("news decisions/one.json - -: decides b1 in all renditions", 20, after)
-    assert all(asked(controller, it, "decisions")[-1] == decided(("b1", 2)) for it in NAMES)
-    assert '{"withdraw": "b1"}' in asked(controller, "1", "decisions") and '{"withdraw": "b1"}' in asked(controller, "3", "decisions")
+    until(lambda: len(asked(controller, "2", "origin")) == 2, 10, "its list")
+    assert [set(asked(controller, it, "decisions")) for it in NAMES] == [{decided(("b1", 2))}] * 3
 
 
 def test_ladder_fallback_that_one_refuses_is_none_in_all(room):
     controller = room.server(FakeController())
-    controller.refusals[("PUT", "decisions")] = [(204, ""), (422, "J3 BadUri ad 0 segment 0\n"), (204, "")]
+    controller.refusals[("PUT", "news-2/decisions")] = [(422, "J3 BadUri ad 0 segment 0\n")]
     for name in NAMES:
         room.write(f"f-{name}.json", FALLBACK)
     ladder = Ladder(room, controller.url, listed(0, 5), "--fallback", f"{room.path}/f-{{}}.json")
     ladder.taken()
     ladder.feed.sees("news fallback - J3 BadUri: news-2: ")
-    assert [asked(controller, it, "decisions")[-1] for it in NAMES] == ['{"fallback":null}'] * 3
+    until(lambda: [asked(controller, it, "decisions")[-1] for it in NAMES] == ['{"fallback":null}'] * 3, 10, "that none has one")
 
 
 def test_ladder_one_that_is_gone_is_made_anew_by_itself(room):
@@ -407,7 +407,8 @@ def test_ladder_of_which_one_process_is_back_before_the_others_has_the_numbers_o
     controller.kill()
     controller.away = {"news-2", "news-3"}
     ladder.push(listed(10, 17))
-    ladder.feed.sees("news-. adsplice 502 -: .*; makes news-2 with the other renditions as soon as it can", 10, after)
+    ladder.feed.sees("news-2 adsplice 502 -: ", 10, after)
+    until(lambda: "s17.ts" in controller.shown("news-1"), 10, "the list of the first one that is back")
     controller.away = set()
     go_on(range(18, 21))
     assert at_newest(controller) == [(20, 2)] * 3, at_newest(controller)
@@ -470,16 +471,15 @@ def test_ladder_whose_way_to_one_is_cut_within_a_decision_has_equal_numbers(room
     controller.away = {"news-2"}
     ladder.decide("one", decided(("b1", 2)))
     ladder.push(listed(0, 4, breaks))
-    after = ladder.feed.sees("news decisions/one.json - Away: news-2 doesn't answer; no rendition is given it until all answer")
-    push_on(ladder, controller, range(5, 10), breaks, ("1", "3"))
-    ladder.push(listed(2, 9, breaks), ("2",))
+    ladder.feed.sees("news-2 adsplice 502 -: ")
+    for newest in range(5, 10):  # (its packager goes on, and the break begins)
+        ladder.push(listed(max(0, newest - 7), newest, breaks))
+        until(lambda newest=newest: all("b1-0.ts" in controller.shown(f"news-{it}") or f"s{newest}.ts" in controller.shown(f"news-{it}") for it in "13"), 20, f"segment {newest}")
     controller.away = set()
-    ladder.feed.sees("news decisions/one.json - Late: b1 has begun in a rendition, and stays in all as it is", 15, after)
+    ladder.feed.sees("news decisions/one.json - -: decides b1 in all renditions", 15)
     push_on(ladder, controller, range(10, 13), breaks)
-    assert at_newest(controller) == [(12, 0)] * 3 and not controller.count("DELETE", "/channels/news-2"), at_newest(controller)
-    said = [room.run("adsplice-explain", "--kept", f"{room.path}/kept/news-{name}.events", "--break", "b1")[1] for name in NAMES]
-    withdrawn = "b1: its pod was withdrawn from all renditions, since news-2 doesn't answer, and there is no fallback (NotDecided)\n"
-    assert said[0] == said[2] == withdrawn and "since news-2 doesn't answer" in said[1], said
+    assert at_newest(controller) == [(12, 2)] * 3 and not controller.count("DELETE", "/channels/news-2"), at_newest(controller)
+    assert all("b1-0.ts" in controller.shown(f"news-{it}") for it in NAMES)
 
 
 def test_ladder_whose_packagers_clock_goes_back_is_given_its_decisions(room):

@@ -2,6 +2,7 @@
 import json
 import sys
 import threading
+import time
 
 from tools import PLANT, FakeController, apart, listed, until
 
@@ -87,31 +88,26 @@ def test_renditions_of_a_master_playlist_are_channels(room):
 test_renditions_of_a_master_playlist_are_channels.needs = ("httpx",)
 
 
-class Watched(list):
-    """Threads that are watched: the feed ends if one of them doesn't run."""
-
-    def append(self, it):
-        assert it.is_alive(), it.name
-        super().append(it)
-
-    def __iadd__(self, found):
-        for it in found:
-            self.append(it)
-        return self
-
-
 @apart  # (its channels tell lines)
 def test_a_thread_is_watched_once_it_runs(room):
     from adsplice_plant import feed
     room.write("master.m3u8", MASTER.replace("http://other.example/", ""))
     said = feed.read_words(["--channel", "film", "--origin", f"{room.path}/master.m3u8", "--base", BASE, "--at", "http://127.0.0.1:1",
                             "--master", f"{room.path}/viewers.m3u8", "--hold", "1", "--timeout", "1"])
-    ending = threading.Event()
-    feeds = feed.Feeds(said, ending)
-    watched = feeds.threads = Watched()
-    feeds.start(feed.channels_of(said, []))
-    until(lambda: {it.name for it in watched} == {"film", "film-1", "film-2", "film-3"}, 10, "the programme's thread, and one for each rendition")
-    ending.set()
+    feeds, faults = feed.Feeds(said), []
+    feeds.start(feed.units_of(feed.channels_of(said, [])), faults)
+    section = feeds.sections["film"]
+
+    def watched():
+        assert not feeds.ended() and not faults, (feeds.ended(), faults)
+        return {it.name for it in section.threads + (section.feeding.threads if section.feeding else [])}
+
+    until(lambda: watched() == {"film", "film-1", "film-2", "film-3"}, 10, "the programme's thread, and one for each rendition")
+    section.feeding.threads.append(threading.Thread(name="film-2"))  # (one that doesn't run)
+    assert feeds.ended() == "film-2"
+    section.feeding.threads.pop()
+    feeds.end(time.monotonic() + 5)
+    assert not feeds.ending and not feeds.known and not feeds.ended()
 
 
 test_a_thread_is_watched_once_it_runs.needs = ("httpx",)

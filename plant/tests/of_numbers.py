@@ -7,97 +7,53 @@ import time
 from pathlib import Path
 
 from of_lists import BASE, CLOCK, URL, Rules
+from stepped import Stepped, decision
 from tools import OUT, PLANT, apart, instant, listed
 
 sys.path.insert(0, PLANT)
-from adsplice_plant import numbers, records, standing  # noqa: E402
-from adsplice_plant.lists import Lists  # noqa: E402
+from adsplice_plant import numbers, records  # noqa: E402
 from adsplice_plant.repair import Choices, Repairer  # noqa: E402
 from adsplice_plant.settings import Settings  # noqa: E402
 from adsplice_plant.siblings import Sibling, Siblings  # noqa: E402
-from adsplice_plant.signalling import Signalling  # noqa: E402
-from adsplice_rules.channel import Channel, decide, refreshed, written  # noqa: E402
-from adsplice_rules.values import Fault  # noqa: E402
+from adsplice_rules.channel import written  # noqa: E402
 
 NEEDS = ()
 
 
-def quiet(*_):
-    """Tells nothing."""
+class Plant(Stepped):
+    """A feed of one channel, and adsplice by the rules, each of which may be killed; and what viewers saw."""
 
+    def __init__(self, pod):
+        self.numbers, self.at_number, self.first, self.last, self.is_new = {}, {}, 0, 0, True
+        super().__init__(Settings("news", "x", "http://h", URL), BASE, CLOCK)
+        self.fallback = pod
+        self.look()
 
-def signalling(settings):
-    """The translator of a channel's signals."""
-    return Signalling("news", settings, None, quiet, quiet)
+    def kill(self, what):
+        """As in Stepped. The first list of a new channel may begin earlier than the last one."""
+        self.is_new = self.is_new or what != "feed"
+        super().kill(what)
 
-
-class Plant:
-    """A feed's lists of one channel, and adsplice by the rules, each of which may be killed; and what viewers saw."""
-
-    def __init__(self, folder, pod):
-        self.settings, self.pod, self.seconds = Settings("news", "x", "http://h", URL, keep=folder), pod, 0.0
-        self.numbers, self.at_number, self.begin, self.end, self.newest = {}, {}, 0, 0, None
-        self.channel = None
-        self.feed()
-        self.adsplice()
-
-    def feed(self):
-        """The feed is started (anew), and finds the channel."""
-        self.lists = Lists(self.settings, quiet, quiet, signalling(self.settings), lambda: self.seconds, lambda: CLOCK + int(self.seconds * 10**9))
-        if self.newest is not None:
-            self.lists.came_in(self.newest)
-        if self.channel is not None and written(self.channel) is None:
-            self.lists.begin_anew()  # (an earlier feed had made the channel, and pushed nothing)
-        self.lists.pods.given(self.pod, False)
-
-    def adsplice(self):
-        """adsplice is started (anew); the feed makes the channel, and gives it the fallback."""
-        self.channel, self.is_new = decide(Channel(BASE), self.pod), True  # (its first list may begin earlier than the last one)
-        self.lists.begin_anew()
-        self.lists.pods.given(self.pod, False)
-
-    def view(self):
+    def shown(self, text):
         """What a viewer sees agrees with all that was seen."""
-        text = written(self.channel)
         uris = [line for line in text.split("\n") if line and line[0] != "#"]
         items = numbers.items_of(text.encode())
         for it, uri in zip(items, uris, strict=True):
             if "/s" in uri:
                 assert self.numbers.setdefault(uri, it) == it, (uri, self.numbers[uri], it)
             assert self.at_number.setdefault(it.number, (uri, it.discontinuity)) == (uri, it.discontinuity), (it, self.at_number[it.number], uri)
-        assert items[-1].number >= self.end and (items[0].number >= self.begin or self.is_new), (items[0], items[-1], self.begin, self.end)
-        self.begin, self.end, self.is_new = items[0].number, items[-1].number, False
+        assert items[-1].number >= self.last and (items[0].number >= self.first or self.is_new), (items[0], items[-1], self.first, self.last)
+        self.first, self.last, self.is_new = items[0].number, items[-1].number, False
 
     def turn(self, text, kills):
-        """The packager's list is `text`; `kills` says what is killed `before` it is pushed, `between` the push and the look at what was
-        written, or `after`."""
-        self.newest = text
-        self.lists.came_in(text)
+        """The packager's list is `text`; `kills` says what is killed `before` it is pushed, `sent` when it is, `between` the push and the look at
+        what was written, or `after`."""
         self.kill(kills.get("before"))
-        for _ in range(6):
-            if (body := self.lists.next()) is None:
-                break
-            self.lists.sending()
-            self.channel = refreshed(self.channel, body)
-            if what := kills.pop("sent", None):
-                self.view()
-                self.kill(what)
-                continue
-            has_to_look = self.lists.taken()
-            self.view()
-            if what := kills.pop("between", None):
-                self.kill(what)
-            elif has_to_look:
-                self.lists.see(written(self.channel).encode())
-        assert body is None, "lists are pushed without an end"
+        self.kills = {name: what for name, what in kills.items() if name in ("sent", "between")}
+        self.read(text)
+        self.wait(1.0)
         self.kill(kills.get("after"))
-
-    def kill(self, what):
-        """Kills `feed`, `adsplice` or `both`."""
-        if what in ("feed", "both"):
-            self.feed()
-        if what in ("adsplice", "both"):
-            self.adsplice()
+        self.wait(1.0)
 
 
 def with_breaks(first, last, breaks):
@@ -120,128 +76,55 @@ def test_numbers_go_on_whatever_is_killed(room):
         breaks = dice.choice(([(12, 5), (24, 5)], [(12, 5), (17, 5), (28, 6)], [(14, 16)]))
         window, pod = dice.choice((3, 6, 10)), pod_of(*dice.choice(((5, "2"), (10, "1"), (3, "2"), (2, "1"))))
         at = {dice.randrange(window, 38): (dice.choice(("before", "sent", "between", "after")), dice.choice(("adsplice", "both", "feed"))) for _ in range(2)}
-        plant = Plant(Path(room.path, str(case)), pod)
-        os.makedirs(plant.settings.keep)
+        plant = Plant(pod)
         for newest in range(window - 1, 40):
             plant.seconds = 2.0 * newest
             try:
                 plant.turn(with_breaks(max(0, newest - window + 1), newest, breaks), dict([at[newest]]) if newest in at else {})
-            except (AssertionError, Fault) as fault:
+            except AssertionError as fault:
                 raise AssertionError((case, breaks, window, pod[:60], at, newest, fault)) from None
-
-
-def test_broken_file_of_numbers_is_told_and_passed_over(room):
-    told = []
-    settings = Settings("news", "x", "http://h", URL, keep=Path(room.path))
-
-    def lists():
-        return Lists(settings, lambda *it: told.append(it), quiet, signalling(settings))
-    it = lists()
-    it.came_in(with_breaks(3, 8, []))
-    assert it.next() == with_breaks(3, 8, [])
-    it.sending()
-    whole = Path(room.path, "news.numbers").read_bytes()
-    assert standing.repairs_kept(Path(room.path, "news.numbers")) == {} == standing.repairs_kept(Path(room.path, "no.numbers"))
-    told.clear()
-    assert lists().next() == with_breaks(3, 8, []) and not told
-    for place in range(0, len(whole), 97):
-        for broken in (whole[:place], whole[:place] + b"9" + whole[place + 1:], whole[:place] + b"\xff\x00" + whole[place + 2:]):
-            Path(room.path, "news.numbers").write_bytes(broken)
-            told.clear()
-            found = lists()
-            assert all(it[:3] == ("numbers", 0, "Broken") for it in told), told
-            found.came_in(with_breaks(4, 9, []))
-            found.next()
-
-
-def pods_kept(plant):
-    """What the file of numbers of `plant` says of pods: the breaks that began with one, those that began with none, and those decided."""
-    said = standing.read_book((plant.settings.keep / "news.numbers").read_bytes())["pods"]
-    return sorted(said["entered"]), said["missed"], sorted(said["held"])
+        assert plant.last > 20, (case, plant.told)
 
 
 def test_pods_are_kept_for_the_breaks_of_the_window_alone(room):
-    plant, breaks, found = Plant(Path(room.path), pod_of(5, "2")), [(12, 5), (24, 5)], {}
-    decided = json.dumps({"breaks": [{"id": "b24", "ads": json.loads(pod_of(5, "2"))["fallback"]["ads"]}, {"id": "b90", "ads": json.loads(pod_of(5, "2"))["fallback"]["ads"]}]}).encode()
-    plant.channel = decide(plant.channel, decided)
-    plant.lists.pods.given(decided, True)
+    plant, breaks, found = Plant(pod_of(5, "2")), [(12, 5), (24, 5)], {}
+    ads = json.loads(pod_of(5, "2"))["fallback"]["ads"]
+    for name in ("b24", "b90"):
+        plant.decide(f"{name}.json", decision(name, ads))
     for newest in range(5, 42):
         plant.seconds = 2.0 * newest
         plant.turn(with_breaks(newest - 5, newest, breaks), {})
-        found[newest] = pods_kept(plant)
-    assert found[11] == ([], [], []) and found[12] == (["b12"], [], []) == found[16]
-    assert found[23] == (["b12"], [], ["b24"]), "(b12 was listed last beside segment 21, which is listed still)"
-    assert found[27] == (["b24"], [], ["b24"]) and found[39] == ([], [], []) == found[41], (found[27], found[39])
+        pods = plant.stands.pods
+        found[newest] = sorted(pods.entered), sorted(pods.missed), sorted(pods.held)
+    assert found[11] == ([], [], ["b24", "b90"]) and found[12] == (["b12"], [], ["b24", "b90"]) == found[16], (found[11], found[12], found[16])
+    assert found[23] == (["b12"], [], ["b24", "b90"]), "(b12 was listed last beside segment 21, which is listed still)"
+    assert found[27] == (["b24"], [], ["b24", "b90"]) and found[39] == ([], [], ["b90"]) == found[41], (found[27], found[39])
+    assert [it.ids for it in plant.state.decisions] == [(), ("b90",)], plant.state.decisions
 
 
-def test_a_file_of_numbers_without_pods_is_read_as_before(room):
-    plant = Plant(Path(room.path), pod_of(5, "2"))
-    for newest in range(5, 20):
-        plant.seconds = 2.0 * newest
-        if newest == 15:  # (an earlier feed ended here)
-            path = plant.settings.keep / "news.numbers"
-            said = standing.read_book(path.read_bytes())
-            del said["pods"]
-            path.write_text(json.dumps(said) + "\n", encoding="utf-8")
-            plant.kill("feed")
-        plant.turn(with_breaks(newest - 5, newest, [(12, 5)]), {"before": "adsplice"} if newest == 17 else {})
-    assert plant.at_number[12][0].endswith("/a0.ts") and plant.at_number[16][0].endswith("/a4.ts"), plant.at_number
-
-
-def test_a_file_of_numbers_of_an_earlier_feed_is_read_and_written_anew(room):
-    # (its viewers had a pod of three segments for the five from s12 on, so s23 has the media number 21, and two discontinuities came before it)
-    path, told = Path(room.path, "news.numbers"), []
-    path.write_bytes(Path(PLANT, "tests", "older.numbers").read_bytes())
-    settings = Settings("news", "x", "http://h", URL, keep=Path(room.path))
-    it = Lists(settings, lambda *said: told.append(said), quiet, signalling(settings), lambda: 50.0, lambda: CLOCK)
-    it.begin_anew()  # (and adsplice was started anew, too)
-    it.came_in(with_breaks(19, 24, []).replace(b"#EXT-X-PROGRAM", b'#EXT-X-KEY:METHOD=AES-128,URI="http://k.example/1"\n#EXT-X-PROGRAM', 1))
-    text = it.next().decode()
-    assert "#EXT-X-MEDIA-SEQUENCE:17\n#EXT-X-DISCONTINUITY-SEQUENCE:2\n" in text and text.index("s19.ts") < text.index("s24.ts"), text
-    assert "IV=0x00000000000000000000000000000013" in text, "a key without IV has the packager's number of its segment"
-    it.sending()
-    it.taken()
-    it.sending()
-    assert json.loads(path.read_bytes().split(b"\n")[0])["format"] == standing.FORMAT
-    assert [said[2] for said in told if said[3]] == ["Converted"], told
-
-
-def test_what_a_break_began_with_is_known_though_the_list_is_pushed_twice_or_refused(room):
-    own, fallback = ({"id": "b12", "ads": json.loads(pod_of(count, "2"))["fallback"]["ads"]} for count in (5, 1))
-    plant = Plant(Path(room.path), pod_of(1, "2"))
+def test_a_refused_list_enters_no_break(room):
+    plant, ads = Plant(pod_of(1, "2")), json.loads(pod_of(5, "2"))["fallback"]["ads"]
     for newest in (10, 11):
         plant.turn(with_breaks(newest - 5, newest, [(12, 5)]), {})
-    lists = plant.lists
-    lists.pods.given(json.dumps({"breaks": [own]}).encode(), True)
-    lists.came_in(with_breaks(7, 12, [(12, 5)]))
-    lists.next()
-    lists.sending()  # (there is no answer)
-    assert json.loads(lists.pods.entered["b12"]) == own["ads"]
-    lists.pods.given(b'{"withdraw":"b12"}', True)  # (adsplice took it: so it doesn't have the list)
-    assert lists.next() is not None
-    lists.sending()
-    assert json.loads(lists.pods.entered["b12"]) == fallback["ads"]
-    lists.refused()
-    assert not lists.pods.entered and not lists.pods.missed and json.loads(lists.pods.fallback) == fallback["ads"]
+    plant.decide("b12.json", decision("b12", ads))
+    plant.turn(with_breaks(7, 12, [(12, 5)]).replace(b"s12.ts", b"s12 .ts\x01"), {})
+    assert not plant.stands.pods.entered and not plant.stands.pods.missed and plant.faults, (plant.stands.pods, plant.faults)
+    plant.turn(with_breaks(7, 12, [(12, 5)]), {})
+    assert json.loads(plant.stands.pods.entered["b12"]) == ads and plant.at_number[12][0].endswith("/a0.ts")
 
 
 def test_a_list_that_lags_for_eight_seconds_leaves_the_numbers(room):
     for window, behind in ((8, 4), (12, 9), (30, 4)):
-        seconds, settings = [0.0], Settings("news", "x", "http://h", URL)
-        it = Lists(settings, quiet, quiet, signalling(settings), lambda seconds=seconds: seconds[0], lambda seconds=seconds: CLOCK + int(seconds[0] * 10**9))
-        channel, pushed = Channel(BASE), []
+        plant, pushed = Plant(None), []
         for newest in range(30, 60):
-            seconds[0] += 2.0
-            listed_last = newest - behind if 40 <= newest < 44 else newest
-            it.came_in(with_breaks(listed_last - window + 1, listed_last, []))
-            while (body := it.next()) is not None:
-                it.sending()
-                channel = refreshed(channel, body)  # (raises Fault if adsplice would refuse it)
-                pushed.append(newest)
-                if it.taken():
-                    it.see(written(channel).encode())
-        assert pushed == [*range(30, 40), *range(44, 60)], (window, behind, pushed)
-        assert numbers.items_of(written(channel).encode())[-1].number == 59 and "DISCONTINUITY\n" not in written(channel), written(channel)
+            plant.seconds += 2.0
+            last = newest - behind if 40 <= newest < 44 else newest
+            count = len(plant.pushed)
+            plant.read(with_breaks(last - window + 1, last, []))
+            pushed += [newest] * (len(plant.pushed) - count)
+        text = written(plant.channel)
+        assert pushed == [*range(30, 40), *range(44, 60)] and not plant.faults, (window, behind, pushed)
+        assert numbers.items_of(text.encode())[-1].number == 59 and "DISCONTINUITY\n" not in text, text
 
 
 def test_a_text_is_kept_by_what_changed_in_it(room):
@@ -271,15 +154,18 @@ def test_a_text_is_kept_by_what_changed_in_it(room):
 
 # ---- renditions of a programme
 
+def siblings_of(one, them):
+    """Those of `them` that aren't `one`, as its repairer sees them."""
+    return Siblings([Sibling(f"http://origin.example/{it.name}/i.m3u8", it.repairer.past + it.repairer.last, it.repairer.held_since is not None) for it in them if it is not one])
+
+
 class Rendition:
     """A packager of segments of 2 s that may be away and begin again, with the repairer of its lists, as one of `all_of_them`."""
 
     def __init__(self, name, all_of_them, is_timed):
         self.name, self.is_timed, self.begun = name, is_timed, 0
         self.repairer, self.rules = Repairer(Choices()), Rules()
-        self.repairer.siblings = Siblings(lambda: [Sibling(
-            f"http://origin.example/{it.name}/i.m3u8", lambda it=it: it.repairer.past + it.repairer.last, lambda it=it: it.repairer.held_since is not None)
-            for it in all_of_them if it is not self])
+        self.them = all_of_them
 
     def listed(self, first, last):
         """Its list of the segments `first` to `last`, numbered from where it began."""
@@ -293,6 +179,7 @@ class Rendition:
         """Looks at its list when the segment `newest` is there; answers what is pushed, if anything is."""
         for look in (0, 0.7, 1.4):
             text = self.listed(max(self.begun, newest - window + 1), newest)
+            self.repairer.siblings = siblings_of(self, self.them)
             found = self.repairer.take(text, 2 * newest + look, CLOCK + int((2 * newest + look) * 10**9))
             if found.found is not None:
                 said = self.rules.push(found.body())
@@ -348,8 +235,7 @@ class Drawn:
     def __init__(self, name, shift, window, them):
         self.name, self.shift, self.window, self.made, self.run, self.late, self.away = name, shift, window, [], 0, 0, 0
         self.repairer, self.rules, self.read, self.pushed, self.shortest = Repairer(Choices()), Rules(), set(), {}, 99
-        self.repairer.siblings = Siblings(lambda: [Sibling(f"http://origin.example/{it.name}/i.m3u8", lambda it=it: it.repairer.past + it.repairer.last,
-                                                           lambda it=it: it.repairer.held_since is not None) for it in them if it is not self])
+        self.them = them
         self.own = []  # (n, URI) of this run's segments
 
     def begin_again(self, away):
@@ -370,6 +256,7 @@ class Drawn:
         for n, uri in listed[-self.window:]:
             lines += [f"#EXT-X-PROGRAM-DATE-TIME:{instant(2 * n + self.shift)}", "#EXTINF:2,", uri]
         self.read |= {uri for _, uri in listed[-self.window:]}
+        self.repairer.siblings = siblings_of(self, self.them)
         found = self.repairer.take(("\n".join(lines) + "\n").encode(), seconds, CLOCK + int(seconds * 10**9))
         if found.found is not None:
             said = self.rules.push(found.body())
@@ -449,18 +336,13 @@ def test_a_long_list_that_begins_again_is_taken_in_time(room):
 
 
 def test_two_packagers_by_turns_are_told_once(room):
-    told, seconds = [], [0.0]
-    settings = Settings("news", "x", "http://h", URL)
-    lists = Lists(settings, lambda *it: told.append(it), quiet, signalling(settings), lambda: seconds[0], lambda: CLOCK)
-    rules = Rules()
+    plant = Plant(None)
     for turn in range(40):
-        seconds[0] = float(turn)
+        plant.seconds = float(turn)
         newest = 10 + turn // 2
         text = with_breaks(newest - 5, newest, [])
-        lists.came_in(text if turn % 2 == 0 else text.replace(b"\ns", b"\nother-"))
-        while (body := lists.next()) is not None:
-            lists.sending()
-            rules.push(body)
-            lists.taken()
-    assert [it[2] for it in told] == ["Held", ""], told
-    assert rules.last.segments[-1].number == 29 and rules.last.segments[-1].discontinuity == 0
+        plant.read(text if turn % 2 == 0 else text.replace(b"\ns", b"\nother-"))
+    words = {it.fault for it in plant.told if it.who == "list"}
+    assert words == {"Held", ""} and all(it.is_quiet for it in plant.told if it.who == "list"), words
+    items = numbers.items_of(written(plant.channel).encode())
+    assert (items[-1].number, items[-1].discontinuity) == (29, 0), items[-1]

@@ -9,8 +9,8 @@ from tools import OUT, PLANT, apart, instant
 sys.path.insert(0, PLANT)
 from adsplice_plant import packaged, spelling  # noqa: E402
 from adsplice_plant.pods import Pods  # noqa: E402
+from adsplice_plant.programme import as_listed  # noqa: E402
 from adsplice_plant.reckoning import Moment, Reckoned, Store, kept_break, known_after, reckoned  # noqa: E402
-from adsplice_plant.signalling import as_listed  # noqa: E402
 from adsplice_rules.channel import Channel, decide, refreshed  # noqa: E402
 from adsplice_rules.values import Fault  # noqa: E402
 
@@ -60,7 +60,7 @@ def follow(dice, case):
                 channel = decide(channel, body)
             except Fault:
                 continue  # (a break that is used, or has no pod)
-            pods.given(body, True)
+            pods.given(body)
         if dice.random() < 0.2 and it.newest is not None and newest - it.newest < window:
             continue  # (a list that nobody read)
         text = programme.listed(newest - window + 1, newest)

@@ -142,7 +142,7 @@ def test_a_programme_of_which_one_fallback_is_gone_has_none_until_it_is_there(ro
     feed.sees("news fallback - Missing: news-2 has no fallback file; no rendition has a fallback until all have one")
     for name in ("1", "2"):
         feed.sees(f"news-{name} adsplice 204 -: the list is taken")
-    assert set(controller.puts("decisions")) == {b'{"fallback":null}'}, controller.puts("decisions")
+    assert set(controller.puts("decisions")) <= {b'{"fallback":null}'}, controller.puts("decisions")
     room.write("f-2.json", FALLBACK)
     until(lambda: controller.puts("decisions")[-2:] == [FALLBACK.encode()] * 2, 10, "the fallback of both")
 

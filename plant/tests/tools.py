@@ -166,7 +166,8 @@ class FakeOrigin(FakeServer):
 
 
 class FakeController(FakeServer):
-    """A controller that takes everything, but for `refusals`: (method, end of the path) to a list of (status, body) to answer first."""
+    """A controller that takes everything, but for `refusals`: (method, end of the path, with the channel's name or without) to a list of
+    (status, body) to answer first."""
 
     def __init__(self, port=0):
         self.refusals, self.channels = {}, set()
@@ -179,7 +180,7 @@ class FakeController(FakeServer):
     def answer(self, method, path, body, fields):
         name = path.split("/")[2]
         what = path.split("/")[3] if path.count("/") > 2 else ""
-        waiting = self.refusals.get((method, what))
+        waiting = self.refusals.get((method, f"{name}/{what}")) or self.refusals.get((method, what))
         if waiting:
             said = waiting.pop(0)
             if said is None:

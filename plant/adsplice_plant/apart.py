@@ -1,0 +1,74 @@
+"""The numbers of a programme's renditions beside one another: equal at equal segments, or it is told (RFC 8216, 6.2.4)."""
+from __future__ import annotations
+
+from copy import copy
+
+from .ranges import starts_in
+from .state import Standing
+from .turn import Turn
+
+
+def compare(turn: Turn) -> None:
+    """Compares the numbers that viewers have of the newest segment that all renditions have. If they come apart, it is told, and the
+    discontinuities that a rendition lacks are added where no break may begin: within one they might be replaced."""
+    lists = {channel: it.stands for channel, it in turn.renditions()}
+    if len(lists) < 2 or any(not it.repairer.last or it.viewed.is_replaced for it in lists.values()):
+        return
+    common = set.intersection(*({one.number for one in it.repairer.last} & it.viewed.begins.keys() for it in lists.values()))
+    known = [number for number in common if number > turn.state.equal_after]
+    if not known:
+        return
+    found = {channel: it.viewed.begins[max(known)] for channel, it in lists.items()}
+    usual = max(found.values(), key=list(found.values()).count)
+    odd = {channel: it for channel, it in found.items() if it != usual}
+    for channel in odd.keys() ^ turn.state.is_apart:
+        turn.note([channel], "apart", int(channel in odd), "")
+    if not odd:
+        if turn.state.is_apart:
+            turn.tell("", "ladder", 0, "-", "the renditions' numbers are equal", is_again=True)
+        turn.set(is_apart=frozenset())
+        return
+    tell_apart(turn, odd, usual, [channel for channel, it in found.items() if it[0] < max(media for media, _ in found.values())])
+    turn.set(is_apart=frozenset(odd))
+    if not any(may_enter(it, turn.state.translator.tolerance) for it in lists.values()):
+        most = max(discontinuity for _, discontinuity in found.values())
+        for channel, it in lists.items():
+            repairer = copy(it.repairer)
+            repairer.owed = most - found[channel][1]
+            turn.put_standing(channel, repairer=repairer)
+        turn.set(equal_after=max(it.repairer.last[-1].number for it in lists.values()) + 1)
+
+
+def level(turn: Turn, channel: str) -> None:
+    """The `channel` has no list: it begins with the greatest media number that viewers have of one segment, if the renditions' are apart. If all
+    channels are new, so do their discontinuity numbers; else the feed adds discontinuities where they lack."""
+    lists = [it for _, it in turn.renditions()]
+    common = set.intersection(*(set(it.stands.viewed.begins) for it in lists)) if turn.state.is_apart else set()
+    if not common:
+        return
+    found = [it.stands.viewed.begins[max(common)] for it in lists]
+    own = turn.state.renditions[channel].stands.viewed.begins[max(common)]
+    is_all = all(it.controller.took < 0 for it in lists)
+    viewed = turn.state.renditions[channel].stands.viewed.copy()
+    viewed.rise(max(it[0] for it in found) - own[0], max(it[1] for it in found) - own[1] if is_all else 0)
+    turn.put_standing(channel, viewed=viewed)
+
+
+def tell_apart(turn: Turn, odd: dict[str, tuple[int, int]], usual: tuple[int, int], lower: list[str]) -> None:
+    """Tells which renditions are `odd`, with their numbers, beside the `usual` ones: once until all are equal again. Those that are
+    `lower` in their media numbers have to be made anew."""
+    if turn.state.is_apart:
+        return
+    text = "; ".join(f"{name} ends with media number {it[0]} and discontinuity number {it[1]}" for name, it in odd.items())
+    does = "the discontinuities are added as soon as no break may begin" if all(it[0] == usual[0] for it in odd.values()) else \
+        f"media numbers stay so: DELETE {', '.join(lower)} while no break is listed"
+    turn.tell("", "ladder", 0, "Apart", f"the renditions' numbers come apart: {text}, and the others with {usual[0]} and {usual[1]}; {does}", is_again=True)
+
+
+def may_enter(stands: Standing, tolerance: int) -> bool:
+    """Whether a break may begin with the next segment: one is listed whose start is within `tolerance` of the newest segment's end, or somewhat
+    after it. A break that began before isn't entered any more."""
+    last = stands.repairer.last[-1]
+    end = (last.begins or 0) + last.duration
+    starts = starts_in([line for line, number in stands.viewed.ranges.values() if number >= last.number])
+    return any(-tolerance <= it - end <= tolerance + last.duration for it in starts.values())

@@ -1,0 +1,439 @@
+"""What a programme's controllers are sent, and what their answers say: one way for one that is new, killed, slow or found as it is.
+
+A controller acknowledges entries of the log. What it is sent next follows from the state and from what it acknowledged: first the channel,
+then the decisions up to its next list, and that list, which has all that it lacks. Nothing depends on how it came to lack them.
+"""
+from __future__ import annotations
+
+import re
+from copy import copy
+from dataclasses import replace
+
+from . import apart, decided, faults, numbers, packaged, replay
+from .decisions import NO_FALLBACK, OVER
+from .events import Answered, Find, Found, Request, Send, What
+from .numbers import Viewed
+from .packaged import PackagedList, PackagedSegment
+from .reckoning import Numbers, Reckoned, Store
+from .repair import Head, Repaired, Repairer
+from .state import Controller, Decided, Rendition, Standing, Way
+from .turn import MOST, Turn, history_of
+
+JUDGED = (409, 413, 422)  # statuses by which adsplice refuses what it was given; after others the same is tried again with pauses
+NO_PUT = (403, 404, 405)  # statuses by which no adsplice answers the making of a channel
+FIRST_PAUSE, LONGEST_PAUSE = 0.5, 5.0  # seconds
+UNFIT = 2  # refusals in a row of lists that don't go on after the last one, after which its numbers are to be found
+LOOK = 60.0  # seconds between two looks at the written playlist while no break begins or ends
+STAYS = "if that stays, only a new channel takes it, which a person makes by a DELETE of this one"
+SEQUENCES = tuple(re.compile(rb"^#EXT-X-%s-SEQUENCE:(\d+)$" % name, re.M) for name in (b"MEDIA", b"DISCONTINUITY"))
+EXTINF, END = b"\n#EXTINF:", b"#EXT-X-ENDLIST"
+LISTED = "the list is taken"
+
+
+# ---- requests
+
+def send(turn: Turn) -> None:
+    """Sends each controller what comes next, once the state is kept."""
+    for channel in list(turn.state.renditions):
+        it = turn.state.renditions[channel]
+        if it.controller.sent is None and turn.at >= it.controller.retry_at:
+            request = next_request(turn, channel)
+            if request is not None:
+                turn.put_controller(channel, sent=request)
+                turn.keep()
+                turn.actions.append(Send(channel, request))
+    turn.keep()
+
+
+def next_request(turn: Turn, channel: str) -> Request | None:
+    """What the controller of the `channel` is to be sent next; none if it has all."""
+    it = turn.state.renditions[channel]
+    if it.controller.way is Way.UNKNOWN:
+        return Request(What.MAKE, it.settings.body())
+    if it.controller.way is Way.MADE:
+        return Request(What.LOOK)
+    if it.controller.is_unseen:
+        return Request(What.CHECK)
+    has_list = it.stands.entry > it.controller.listed
+    decision = next_decision(turn, channel)
+    if decision is not None and (not has_list or decision.entry <= it.stands.entry):
+        return Request(What.DECIDE, decision.bodies[channel], decision.entry, is_own=decision.is_own, why=OVER if decision.is_own and not decision.file else "")
+    if not has_list:
+        return None
+    if it.controller.took < 0 and (body := next(iter(first_of(it)), None)) is not None:
+        return Request(What.DECIDE, body)
+    return push(turn, channel)
+
+
+def first_of(it: Rendition) -> list[bytes]:
+    """The decisions that a channel without a list still needs before its first one, so that its breaks begin as they did for viewers."""
+    return [body for body in it.stands.pods.again() if body not in it.controller.first]
+
+
+def next_decision(turn: Turn, channel: str) -> Decided | None:
+    """The next decision of the log that the controller of the `channel` hasn't acknowledged; none if it has all."""
+    it = turn.state.renditions[channel]
+    for one in turn.state.decisions:
+        if one.entry > it.controller.decided and (one.entry > it.controller.anew or not is_idle(turn, channel, one)):
+            return one
+    return None
+
+
+def is_idle(turn: Turn, channel: str, one: Decided) -> bool:
+    """Whether the decision `one` says nothing to a channel without a list: a later one takes its place, or takes it back."""
+    later = [it for it in turn.state.decisions if it.entry > one.entry]
+    if one.kind == decided.FALLBACK:
+        return any(it.kind == decided.FALLBACK for it in later) or one.bodies[channel] == NO_FALLBACK
+    held = turn.state.renditions[channel].stands.pods.held
+    return one.kind == decided.WITHDRAW or bool(one.ids) and not any(name in held for name in one.ids)
+
+
+# ---- lists
+
+def push(turn: Turn, channel: str) -> Request:
+    """The list that the controller of the `channel` lacks."""
+    it = turn.state.renditions[channel]
+    stands, controller = it.stands, it.controller
+    if not it.settings.repair or not stands.repairer.last:
+        return Request(What.PUSH, stands.text, stands.entry)
+    if controller.took < 0:
+        text, is_ahead = first_list(turn, channel)
+        return Request(What.PUSH, text, stands.entry, is_ahead)
+    if controller.listed >= stands.after and stands.ahead and controller.led < stands.entry:
+        return Request(What.PUSH, shifted(stands, stands.ahead, controller.ahead), stands.entry, True)
+    if controller.listed >= stands.after:
+        return Request(What.PUSH, shifted(stands, stands.text, controller.ahead), stands.entry)
+    history = history_of(stands)
+    least = min(controller.took + 1, stands.repairer.last[0].number)
+    place = next((place for place, one in enumerate(history) if one.number >= least), 0)
+    return Request(What.PUSH, listed_from(stands, place, controller.ahead), stands.entry)
+
+
+def first_list(turn: Turn, channel: str) -> tuple[bytes, bool]:
+    """The first list of a channel that was made anew: it begins where its numbers are known that viewers have, and goes on with them. Whether it is a
+    part that comes ahead, up to where the packager's clock went back within a break."""
+    stands, controller = turn.state.renditions[channel].stands, turn.state.renditions[channel].controller
+    history = history_of(stands)
+    place = numbers.first_needed(stands.viewed, history, least_of(stands, controller.reached))
+    if place is None:
+        turn.put_controller(channel, ahead=(0, 0))
+        turn.put_standing(channel, viewed=reckoned_anew(turn, stands))
+        return stands.text, False
+    if controller.led:
+        return listed_from(stands, place, controller.ahead), False
+    first = history[place]
+    media, steps = stands.viewed.begins[first.number]
+    ahead = media - first.number, steps - first.discontinuity
+    if ahead != controller.ahead:
+        turn.put_controller(channel, ahead=ahead)
+        turn.is_kept = False
+    if (until := replay.turned_at(stands, place)) is not None:
+        return listed_from(stands, place, ahead, until), True
+    is_whole = first is stands.repairer.last[0] and not stands.pods.missed and all(replay.as_it_ran(stands, line) == line for line, _ in stands.viewed.ranges.values())
+    return (shifted(stands, stands.text, ahead) if is_whole and ahead == (0, 0) else listed_from(stands, place, ahead)), False
+
+
+def least_of(stands: Standing, reached: int) -> int:
+    """The media number with which a new channel begins, of which the one before had `reached` a number: what viewers don't have yet is listed, too, as far
+    as it may be there. (A segment stays for as long as a list lasts after it left that: RFC 8216, 6.2.2.)"""
+    first = stands.repairer.last[0].number
+    return first if reached < 0 else max(min(first, reached + 1), first - len(stands.repairer.last))
+
+
+def reckoned_anew(turn: Turn, stands: Standing) -> Viewed:
+    """What viewers have of a new channel whose first list is that of `stands`, if nothing is known of what they had."""
+    viewed, last = Viewed(reckoned=Reckoned(), ranges=dict(stands.viewed.ranges)), stands.repairer.last
+    lines = [line for line, number in viewed.ranges.values() if number >= last[-1].number]
+    target = stands.repairer.head.target if stands.repairer.head else 0
+    viewed.reckon(last, lines, Store(stands.pods.held, stands.pods.fallback), turn.state.translator.tolerance, target)
+    return viewed
+
+
+def listed_from(stands: Standing, place: int, ahead: Numbers, until: int | None = None) -> bytes:
+    """The list of the segments from the `place` in the history on, with numbers that are `ahead`; up to before the place `until`, if one is named. It says
+    nothing of breaks that were missed, and of others where they ended for viewers by then."""
+    segments, head = history_of(stands)[place:until], stands.repairer.head
+    assert head is not None
+    said = [line for name, (line, number) in stands.viewed.ranges.items() if number >= segments[0].number and name not in stands.pods.missed]
+    lines = [replay.as_it_ran(stands, line) if until is None else replay.as_it_began(line) for line in said]
+    found = PackagedList(head.version, head.target, kind=head.kind, segments=moved(segments, ahead))
+    front = stands.text[:max(0, stands.text.find(EXTINF))]
+    found.is_independent, found.is_ended = b"#EXT-X-INDEPENDENT-SEGMENTS" in front, stands.text.rstrip().endswith(END)
+    return packaged.write(found, lines)
+
+
+def moved(segments: list[PackagedSegment], ahead: Numbers) -> list[PackagedSegment]:
+    """The `segments` with numbers that are `ahead`. The first one has no more discontinuities before it than its number counts (RFC 8216, 4.3.3.3)."""
+    found = segments if ahead == (0, 0) else [replace(it, number=it.number + ahead[0], discontinuity=it.discontinuity + ahead[1]) for it in segments]
+    first = found[0]
+    return found if first.discontinuities <= first.discontinuity else [replace(first, discontinuities=max(0, first.discontinuity)), *found[1:]]
+
+
+def shifted(stands: Standing, text: bytes, ahead: Numbers) -> bytes:
+    """The `text` of the newest list with numbers that are `ahead`. (A key whose IV is the media number states it then: RFC 8216, 5.2.)"""
+    if ahead == (0, 0):
+        return text
+    first = stands.repairer.last[0]
+    if first.discontinuity + ahead[1] < first.discontinuities or any(key.takes_number() for it in stands.repairer.last for key in it.keys):
+        return listed_from(stands, len(stands.repairer.past), ahead)
+    front, rest = text[:text.find(EXTINF)], text[text.find(EXTINF):]
+    for tag, by, name in zip(SEQUENCES, ahead, (b"MEDIA", b"DISCONTINUITY")):
+        found = tag.search(front)
+        line = b"#EXT-X-%s-SEQUENCE:%d" % (name, (int(found[1]) if found else 0) + by)
+        if found:
+            front = front[:found.start()] + line + front[found.end():]
+        elif by:
+            begin, _, end = front.partition(b"\n")
+            front = begin + b"\n" + line + b"\n" + end if name == b"MEDIA" else SEQUENCES[0].sub(rb"\g<0>\n" + line, front, count=1)
+    return front + rest
+
+
+# ---- answers
+
+def answered(turn: Turn, event: Answered) -> None:
+    """Takes in an answer of a controller."""
+    it = turn.state.renditions.get(event.channel)
+    if it is None or it.controller.sent is not event.request and it.controller.sent != event.request:
+        return
+    turn.put_controller(event.channel, sent=None)
+    what = event.request.what
+    if what is What.MAKE:
+        made(turn, event)
+    elif what is What.LOOK:
+        looked(turn, event)
+    elif what is What.CHECK:
+        checked(turn, event)
+    elif event.status == 204:
+        turn.put_controller(event.channel, trials=0)
+        acknowledged(turn, event)
+    elif event.status in JUDGED:
+        turn.put_controller(event.channel, trials=0)
+        refused(turn, event)
+    else:
+        unanswered(turn, event)
+
+
+def unanswered(turn: Turn, event: Answered) -> None:
+    """The controller did nothing that is known: it is away, or was started anew (404)."""
+    if event.status == 404:
+        turn.put_controller(event.channel, way=Way.UNKNOWN, trials=0)
+        failed(turn, event, "makes it, and gives it fallback, decisions and list")
+    else:
+        wait(turn, event.channel)
+        failed(turn, event, "tries again with growing pauses")
+        if event.request.entry and (one := decision_of(turn, event.request.entry)) is not None:
+            decided.taken(turn, one)  # (what is told needn't wait for it)
+
+
+def wait(turn: Turn, channel: str) -> None:
+    """The controller of the `channel` is tried again after a pause, which grows up to a target duration."""
+    trials = turn.state.renditions[channel].controller.trials
+    pause = min(FIRST_PAUSE * 2 ** min(trials, 8), LONGEST_PAUSE, max(1.0, min(MOST, turn.target())))
+    turn.put_controller(channel, trials=trials + 1, retry_at=turn.at + pause)
+
+
+def failed(turn: Turn, event: Answered, does: str) -> None:
+    """Tells that adsplice, or a server in front of it, didn't do what it was asked, and what the feed `does`."""
+    what = event.why or faults.meaning(event.status, event.line)
+    turn.tell(event.channel, "adsplice", event.status, faults.name_of(event.line), f"{what}; {does}")
+
+
+def made(turn: Turn, event: Answered) -> None:
+    """The making of a channel was answered."""
+    channel = event.channel
+    if event.status == 201:
+        turn.put_controller(channel, trials=0)
+        begin_anew(turn, channel)
+        turn.tell(channel, "adsplice", 201, "", "makes the channel")
+    elif event.status == 409:
+        turn.put_controller(channel, way=Way.MADE, trials=0)
+    else:
+        wait(turn, channel)
+        does = f"makes {channel} with the other renditions as soon as it can" if turn.is_ladder() else "makes the channel as soon as it can"
+        if event.status in NO_PUT:
+            at = turn.state.renditions[channel].settings.at
+            turn.tell(channel, "adsplice", event.status, "", f"{at} takes no PUT of a channel: perhaps it is the viewers' address, and `at` is to be adsplice's for PUT; {does}")
+        else:
+            failed(turn, event, does)
+
+
+def looked(turn: Turn, event: Answered) -> None:
+    """It was asked whether a channel that is there has a list."""
+    if event.status == 0 or event.status >= 500:
+        wait(turn, event.channel)
+        failed(turn, event, "looks again whether the channel has a list as soon as it can")
+        return
+    turn.put_controller(event.channel, trials=0)
+    turn.tell(event.channel, "adsplice", 409, "", "the channel is there already; goes on with it")
+    if event.status == 404:
+        begin_anew(turn, event.channel)
+    else:
+        go_on(turn, event.channel)
+
+
+def go_on(turn: Turn, channel: str) -> None:
+    """The channel has a list, of which the log may know nothing: then its numbers are to be seen."""
+    controller = turn.put_controller(channel, way=Way.THERE)
+    if controller.took < 0 and not controller.led:
+        it = turn.state.renditions[channel]
+        viewed = it.stands.viewed.copy()
+        viewed.reckoned = None
+        turn.put_standing(channel, viewed=viewed)
+        turn.put_controller(channel, took=it.stands.repairer.last[-1].number if it.stands.repairer.last else 0)
+
+
+def begin_anew(turn: Turn, channel: str) -> None:
+    """The channel has no list: it is given all that is open, and begins where viewers' list stood."""
+    it = turn.state.renditions[channel]
+    turn.put(channel, controller=Controller(Way.THERE, reached=max(it.controller.took, it.controller.reached), anew=turn.state.entry), before=None)
+    stands = it.stands
+    if it.is_blocked:
+        stands = Standing(Repairer(stands.repairer.choices), Viewed(end=stands.viewed.end, reckoned=Reckoned()), pods=stands.pods, repairs=stands.repairs)
+        turn.put(channel, is_blocked=False, is_new=it.came is not None)
+    elif not stands.repairer.last:
+        viewed = stands.viewed.copy()
+        viewed.reckoned = Reckoned()
+        stands = replace(stands, viewed=viewed)
+    elif it.settings.target is not None and stands.repairer.head is not None:
+        repairer = copy(stands.repairer)
+        repairer.head = replace(stands.repairer.head, target=it.settings.target)  # (a new channel may have another one)
+        stands = replace(stands, repairer=repairer)
+    turn.put(channel, stands=stands)
+    apart.level(turn, channel)
+    translator = turn.state.translator.copy()
+    for one in translator.breaks.known:
+        one.is_in_step = False  # (it is shown all of a list's segments at once)
+    turn.set(translator=translator)
+
+
+def acknowledged(turn: Turn, event: Answered) -> None:
+    """The controller took a decision or a list."""
+    channel, request = event.channel, event.request
+    it = turn.state.renditions[channel]
+    if request.what is What.DECIDE and not request.entry:
+        turn.put_controller(channel, first=(*it.controller.first, request.body))
+    elif request.what is What.DECIDE:
+        turn.put_controller(channel, decided=request.entry)
+        if (one := decision_of(turn, request.entry)) is not None:
+            decided.taken(turn, one)
+    elif request.is_ahead:
+        turn.put_controller(channel, led=request.entry)
+    else:
+        listed(turn, channel, request.entry)
+        turn.tell(channel, "adsplice", 204, "", LISTED)
+
+
+def listed(turn: Turn, channel: str, entry: int) -> None:
+    """The controller of the `channel` has the list of the `entry`."""
+    it = turn.state.renditions[channel]
+    last = it.stands.repairer.last
+    took = last[-1].number if last else 0
+    if entry == it.stands.entry:
+        turn.put(channel, before=None)
+    reckoned = it.stands.viewed.reckoned
+    is_unseen = it.settings.repair and bool(last) and (reckoned is None or reckoned.is_marked or turn.at - it.seen_at >= LOOK)
+    turn.put_controller(channel, listed=max(entry, it.controller.listed), took=took, first=(), unfit=0, is_unseen=is_unseen)
+
+
+def decision_of(turn: Turn, entry: int) -> Decided | None:
+    """The decision of the `entry`; none if nobody needs it any more."""
+    return next((it for it in turn.state.decisions if it.entry == entry), None)
+
+
+def refused(turn: Turn, event: Answered) -> None:
+    """The controller refused a decision or a list."""
+    channel, request = event.channel, event.request
+    if request.what is What.DECIDE and not request.entry:
+        turn.put_controller(channel, first=(*turn.state.renditions[channel].controller.first, request.body))
+    elif request.what is What.DECIDE:
+        turn.put_controller(channel, decided=request.entry)
+        if (one := decision_of(turn, request.entry)) is not None:
+            decided.refused(turn, channel, one, event.status, event.line)
+    elif request.is_ahead:
+        turn.put_controller(channel, led=request.entry)
+    else:
+        list_refused(turn, event)
+
+
+def list_refused(turn: Turn, event: Answered) -> None:
+    """The controller refused a list: the next one follows the one before it. If two in a row don't go on after its last one, it has other
+    numbers than the log: those are found."""
+    channel, line = event.channel, event.line
+    it = turn.state.renditions[channel]
+    if it.before is not None and event.request.entry == it.stands.entry:
+        entry = turn.next_entry()
+        pods = it.stands.pods.copy()
+        pods.entered, pods.missed = dict(it.before.pods.entered), set(it.before.pods.missed)
+        turn.put(channel, stands=replace(it.before, entry=entry, after=entry, pods=pods, repairs=it.stands.repairs), before=None)
+    is_unfit = faults.follows_badly(line)
+    controller = turn.put_controller(channel, listed=turn.state.renditions[channel].stands.entry, unfit=it.controller.unfit + 1 if is_unfit else 0)
+    if controller.unfit >= UNFIT and it.settings.repair and it.came is not None and faults.code_of(line) not in ("N4", "N9"):
+        afresh = Repairer(it.stands.repairer.choices).take(it.came, turn.at, turn.clock).found
+        if afresh is not None:
+            turn.put_controller(channel, sent=Request(What.FIND), unfit=0)
+            turn.actions.append(Find(channel, afresh))
+            return
+    tell_refused(turn, channel, event.status, line, is_unfit)
+
+
+def tell_refused(turn: Turn, channel: str, status: int, line: str, is_unfit: bool) -> None:
+    """Tells that the list of the `channel` was refused; `is_unfit`: since it doesn't go on after the last one."""
+    what = faults.meaning(status, line) + (f" ({line})" if is_unfit else "")
+    turn.tell(channel, "adsplice", status, line, f"{what}; waits for the next list" + (f"; {STAYS}" if is_unfit else ""))
+
+
+def found(turn: Turn, event: Found) -> None:
+    """The numbers of a controller were found, or weren't."""
+    channel, list_ = event.channel, event.found
+    it = turn.state.renditions.get(channel)
+    if it is None or it.controller.sent is None or it.controller.sent.what is not What.FIND:
+        return
+    turn.put_controller(channel, sent=None)
+    if list_ is None:
+        turn.tell(channel, "adsplice", 409, "Unfound", f"the numbers of its list aren't known; waits for the next list; {STAYS}")
+        return
+    entry = turn.next_entry()
+    repairer = Repairer(it.stands.repairer.choices)
+    repairer.accept(Repaired(list_, Head(list_.version, list_.target or 1, list_.kind)))
+    viewed = Viewed()
+    viewed.note(list_.date_ranges(), list_.segments[-1].number)
+    pods = it.stands.pods.of(viewed.ranges)
+    turn.put(channel, stands=Standing(repairer, viewed, entry, packaged.write(list_), b"", pods, it.stands.repairs, after=entry), before=None, is_new=False)
+    turn.put_controller(channel, ahead=(0, 0))
+    listed(turn, channel, entry)
+    turn.tell(channel, "numbers", 0, "Found", f"adsplice holds other numbers than the feed knew: goes on at {list_.segments[0].number} with one discontinuity")
+
+
+def checked(turn: Turn, event: Answered) -> None:
+    """The written playlist was looked at: if it has other numbers than were reckoned, these hold."""
+    channel = event.channel
+    it = turn.put(channel, seen_at=turn.at)
+    turn.put_controller(channel, is_unseen=False)
+    if event.status == 404:
+        unanswered(turn, event)
+        return
+    end, last, viewed = numbers.end_of(event.body) if event.status == 200 else None, it.stands.repairer.last, it.stands.viewed.copy()
+    if end is None or not last or it.controller.listed < it.stands.entry:
+        return
+    if viewed.reckoned is not None and (viewed.reckoned.end() == end or it.stands.text.rstrip().endswith(END)):
+        turn.tell(channel, "written", 0, "", "")
+        return
+    if viewed.reckoned is not None:
+        turn.tell(channel, "written", 0, "Others", f"adsplice's list ends with media number {end[0]} and discontinuity number {end[1]}, and not with "
+                                                   "what it was given here: perhaps somebody else gave it a decision; goes by what it wrote")
+    viewed.see(numbers.items_of(event.body), last)
+    viewed.learn(last, [line for line, number in viewed.ranges.values() if number >= last[-1].number])
+    turn.put_standing(channel, viewed=viewed)
+    apart.compare(turn)
+
+
+def is_long_away(it: Rendition) -> bool:
+    """Whether nobody waits for the controller of the rendition."""
+    return it.controller.trials > 0 or it.controller.way is Way.UNKNOWN and it.stands.entry > 0
+
+
+def is_busy(it: Rendition) -> bool:
+    """Whether the controller of the rendition is about to take a list: the next one waits for that."""
+    return not is_long_away(it) and (it.controller.way is not Way.THERE or it.stands.entry > it.controller.listed)
+
+

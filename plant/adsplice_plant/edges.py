@@ -1,0 +1,51 @@
+"""One edge for all renditions of a programme: what is given ends where all of them have come (RFC 8216, 6.2.4)."""
+from __future__ import annotations
+
+from .packaged import duration_of
+from .siblings import Reach, reach_of
+from .state import Rendition
+from .turn import Turn
+
+PATIENCE = 2.0  # target durations without a new list, after which nobody waits for a rendition
+MOST_APART = 4  # segments by which media numbers of lists without instants may differ and still be of one count
+EXTINF = b"#EXTINF:"
+
+
+def edge_of(turn: Turn, channel: str) -> Reach | None:
+    """How far the list of the `channel` is given: up to where each other rendition has come that is waited for; none if none is."""
+    reaches = [reach for name, it in turn.renditions() if name != channel and (reach := awaited(turn, it)) is not None]
+    timed = [it for it in reaches if it.instant is not None]
+    if timed:
+        return min(timed, key=lambda it: it.instant or 0)
+    return min(reaches, key=lambda it: it.number) if reaches else None
+
+
+def awaited(turn: Turn, it: Rendition) -> Reach | None:
+    """How far the rendition has come; none if nobody waits for it, since it has had no new list for a while, or is about to begin again."""
+    if it.came is None or turn.at - it.came_at >= PATIENCE * turn.target() or it.older or it.stands.repairer.held_since is not None:
+        return None
+    return reach_of(it.came)
+
+
+def up_to(body: bytes, edge: Reach) -> bytes:
+    """The list `body` without the segments at its end that lie past the `edge`; its first segment stays."""
+    mine, at = reach_of(body), len(body)
+    end, number, first = mine.instant, mine.number, body.find(EXTINF)
+    if end is None or edge.instant is None:
+        if abs(number - edge.number) > MOST_APART:
+            return body
+    while (place := body.rfind(EXTINF, 0, at)) > first:
+        duration = duration_of(body[place + len(EXTINF):body.find(b"\n", place)].decode("utf-8", "replace")) or 0
+        if edge.covers(Reach(end, number, duration)) if end is None or edge.instant is None else end <= edge.instant + duration // 2:
+            break
+        end, number, at = None if end is None else end - duration, number - 1, place
+    return body if at == len(body) else body[:end_of_segment(body, body.rfind(EXTINF, 0, at))]
+
+
+def end_of_segment(body: bytes, place: int) -> int:
+    """Where the line of the URI ends that follows the EXTINF at the `place` in `body`."""
+    while 0 < (end := body.find(b"\n", place) + 1):
+        if body[place:place + 1] != b"#" and body[place:end].strip():
+            return end
+        place = end
+    return len(body)

@@ -1,0 +1,135 @@
+"""A channel of a programme that is fed: its files, its origin, its controller, and what is kept and told of it."""
+from __future__ import annotations
+
+from collections.abc import Callable
+from contextlib import suppress
+from dataclasses import dataclass
+from threading import RLock
+
+from .decided import BREAKS, FALLBACK
+from .events import Answered, Event, Found, Note
+from .folders import DecisionFolder, Fallback
+from .journal import BEAT
+from .journal import Event as Kept
+from .origins import Choice
+from .reading import Reading
+from .sending import Sending
+from .settings import Settings
+from .state import FileState, State
+from .telling import Noting, Telling
+from .web import Client
+from .words import now_text
+
+BETWEEN = 1.0  # seconds between two signs that the feed goes on
+
+
+@dataclass(frozen=True)
+class Limits:
+    """Of a feed: the seconds of a request with its answer (`timeout`), the longest pause between two trials in seconds, and the days for which
+    decision files that are over are kept."""
+
+    timeout: float = 5.0
+    longest_pause: float = 5.0
+    keep_days: float = 7.0
+
+
+@dataclass(frozen=True)
+class Around:
+    """What the channels of a programme have in common: its `limits`, the origin that they read (`choice`; none for a channel by itself), who tells
+    its lines, the lock that is held while an event is taken (`together`), its `state`, who takes its events (`post`) and its controllers' answers
+    (`answered`), and who shows that it goes on (`beat`)."""
+
+    limits: Limits
+    choice: Choice | None
+    telling: Telling
+    together: RLock
+    state: Callable[[], State]
+    post: Callable[[Event], None]
+    answered: Callable[[Answered | Found], None]
+    beat: Callable[[], None]
+
+
+class Fed:
+    """The channel that `settings` tell of; `around`: its programme."""
+
+    def __init__(self, settings: Settings, around: Around) -> None:
+        self.settings, self.around, self.name = settings, around, settings.name
+        limits = around.limits
+        self.together = around.together
+        self.noting = Noting(settings, around.telling, self.opening)
+        self.beat_at = settings.keep / f"{self.name}{BEAT}" if settings.keep else None
+        self.beaten = float("-inf")  # when it was shown last that the feed goes on
+        self.reading = Reading(settings, self.client, around.choice, limits.longest_pause, around.telling, self.noting, around.post, self.target)
+        self.sending = Sending(settings, self.client(), self.noting, around.answered, around.beat)
+        self.folder = DecisionFolder(self.name, settings.decisions, limits.keep_days, self.tell) if settings.decisions else None
+        self.fallback = Fallback(self.name, settings.fallback, self.tell) if settings.fallback else None
+
+    def client(self) -> Client:
+        """A client with connections of its own."""
+        return Client(self.around.limits.timeout, self.settings.redirects)
+
+    def tell(self, who: str, status: int, fault: str, text: str) -> None:
+        """Prints a line of `who`, unless it is in the same state as before."""
+        self.around.telling.tell(self.name, who, status, fault, text)
+
+    def begin(self) -> None:
+        """Tells what is to be known of it at first."""
+        for text in self.settings.idle:
+            self.tell(f"settings/{text}", 0, "Idle", text)
+        if (path := self.settings.fallback) is not None and not path.is_file():
+            self.tell("fallback", 0, "", f"there is no file {path}; goes on without it until it is there")
+        if (place := self.reading.place()) is not None:
+            self.noting.note(Note(self.name, "place", place, ""))
+
+    def target(self) -> int | None:
+        """The target duration in seconds; none if it isn't known."""
+        head = self.around.state().renditions[self.name].stands.repairer.head
+        return head.target if head is not None else None
+
+    def is_given(self, name: str) -> bool:
+        """Whether adsplice has the decision file `name`, or is about to be given it."""
+        found = self.around.state().files.get(name)
+        return found is not None and found.state is FileState.GIVEN and self.name in found.stamps
+
+    def look(self) -> list[Event]:
+        """What has changed of its fallback and its decision files."""
+        found = (self.fallback.look() if self.fallback else None, self.folder.look() if self.folder else None)
+        return [it for it in found if it is not None]
+
+    def finish(self, name: str) -> None:
+        """The decision file `name` is over."""
+        if self.folder is not None:
+            self.folder.finish(name)
+
+    def forget(self) -> None:
+        """All that is known of it is an event again; nobody waits for the answers to what was sent."""
+        self.sending.forget()
+        self.reading.again()
+        for it in (self.folder, self.fallback):
+            if it is not None:
+                it.forget()
+
+    def beat(self, now: float) -> None:
+        """Shows that the feed goes on, `now`: a file has the time of its last step as its own, once in a second at the most."""
+        if self.beat_at is not None and now - self.beaten >= BETWEEN:
+            self.beaten = now
+            with suppress(OSError):  # (the monitor then tells that the feed hangs)
+                self.beat_at.touch()
+
+    def opening(self) -> list[Kept]:
+        """What a new file of kept events begins with: the channel, and the decisions that it holds."""
+        state = self.around.state()
+        found, place = [Kept(now_text(), "channel", 201, "", self.settings.body().decode())], self.reading.place()
+        if place is not None:
+            found.append(Kept(now_text(), "place", place, ""))
+        if self.name in state.is_apart:
+            found.append(Kept(now_text(), "apart", 1, ""))
+        return found + [Kept(now_text(), "decisions", 204, "", it.decode("utf-8", "replace")) for it in held(state, self.name)]
+
+
+def held(state: State, channel: str) -> list[bytes]:
+    """The decisions that the controller of a `channel` holds, each once: the newest fallback, those on breaks, and those that breaks began with."""
+    pods = state.renditions[channel].stands.pods
+    fallbacks = [it.bodies[channel] for it in state.decisions if it.kind == FALLBACK and channel in it.bodies]
+    breaks = [it.bodies[channel] for it in state.decisions if it.kind == BREAKS and channel in it.bodies and any(name in pods.held for name in it.ids)]
+    return list(dict.fromkeys([*(fallbacks[-1:] if pods.fallback is not None else ()), *breaks, *pods.again()]))

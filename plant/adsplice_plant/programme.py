@@ -1,0 +1,466 @@
+"""The feed of a programme as a function: a state and an event make the next state, and what is to be done.
+
+All renditions of a programme are read, put right and translated together, and given as one entry of its log. That is kept before any
+controller gets something of it. No clock, file or socket is known here (shell).
+"""
+from __future__ import annotations
+
+from collections import Counter
+from collections.abc import Collection
+from copy import copy
+from dataclasses import dataclass, replace
+
+from . import apart, controllers, decided, packaged, ranges, repairs, spelling
+from .edges import edge_of, up_to
+from .breaks import Line
+from .events import Action, Answered, Ask, AskedInVain, Began, Event, FallbackRead, FolderRead, Found, ListRead, OriginChanged
+from .events import Repaired as RepairTold
+from .packaged import PackagedList, PackagedSegment
+from .playlist import SECOND
+from .reckoning import Store
+from .repair import Repaired, Repairer
+from .siblings import Sibling, Siblings
+from .state import FileState, Rendition, Standing, State, Way
+from .translator import Translator
+from .turn import Turn, window_of
+
+STEP = 3.0  # target durations that the first lists of renditions have to come into step
+MOST_OLDER = 4  # lists that wait to be taken in before the newest one
+MOST_REMEMBERED = 120  # segments that left a list, for other renditions
+SHARE = 0.45  # of a target duration: no list waits longer for a decision
+LOOKS = 0.02  # seconds between two looks while a list waits
+OFTEN = 0.25  # seconds between two looks while something else does
+WORDS = {repairs.LAGS: "Lags", repairs.EMPTY: "Empty", "": ""}
+
+
+def step(state: State, event: Event, at: float, clock: int) -> tuple[State, list[Action]]:
+    """The state after the `event`, and what is to be done in this order. `at`: seconds of a clock that never goes back; `clock`: the time of day
+    in nanoseconds from 1970."""
+    turn = Turn(state, at, clock)
+    take(turn, event)
+    give(turn)
+    controllers.send(turn)
+    return turn.state, turn.actions
+
+
+def wake(state: State, at: float) -> float | None:
+    """The moment from `at` on at which time alone brings something about; none if nothing waits for it."""
+    found = [it.controller.retry_at for it in state.renditions.values() if it.controller.sent is None and it.controller.retry_at > at]
+    if any(it.is_new for it in state.renditions.values()):
+        found.append(at + (LOOKS if at < state.waits_until else OFTEN))
+    if any(it.state is FileState.NEW for it in state.files.values()):
+        found.append(at + OFTEN)
+    return min(found, default=None)
+
+
+def target_of(state: State, channel: str) -> int | None:
+    """The target duration of the newest list of the `channel`, in seconds; none if it isn't known."""
+    head = state.renditions[channel].stands.repairer.head
+    return head.target if head is not None else None
+
+
+# ---- events
+
+def take(turn: Turn, event: Event) -> None:
+    """Takes in the `event`."""
+    if isinstance(event, ListRead):
+        take_list(turn, event)
+    elif isinstance(event, OriginChanged):
+        turn.put(event.channel, is_other=True)
+    elif isinstance(event, FolderRead):
+        decided.take_folders(turn, {event.channel: event.files})
+        turn.set(waits_until=0.0)
+    elif isinstance(event, FallbackRead):
+        turn.put(event.channel, fallback=event.body)
+    elif isinstance(event, Answered):
+        controllers.answered(turn, event)
+    elif isinstance(event, Found):
+        controllers.found(turn, event)
+    elif isinstance(event, AskedInVain):
+        turn.set(asked={**turn.state.asked, event.id: turn.at}, waits_until=0.0)
+    elif isinstance(event, Began):
+        begin_again(turn)
+        decided.take_folders(turn, event.folders)
+        for channel, body in event.fallbacks.items():
+            turn.put(channel, fallback=body)
+
+
+def take_list(turn: Turn, event: ListRead) -> None:
+    """The list of a channel was read."""
+    it = turn.state.renditions[event.channel]
+    if it.came == event.body:
+        return
+    turn.put(event.channel, came=event.body, came_at=turn.at, is_new=True, older=older_than(it, event.body))
+    turn.set(waits_until=0.0)
+
+
+def older_than(it: Rendition, body: bytes) -> tuple[bytes, ...]:
+    """The lists of the rendition that are to be taken in before the newest one, which has the `body`: those that it doesn't go on from. Of lists that are
+    held back those that have what left the newest one; none if it goes on from the last one that was taken in."""
+    if not it.is_new or it.came is None:
+        return it.older
+    if it.stands.repairer.held_since is None:
+        is_left = newest_of(it.came) not in body
+    elif it.stands.repairer.last and it.stands.repairer.last[-1].uri.partition("?")[0].encode() in body:
+        return ()
+    else:
+        is_left = (newest_of(it.older[-1]) if it.older else oldest_of(it.came)) not in body
+    return (*it.older, it.came)[-MOST_OLDER:] if is_left else it.older
+
+
+def newest_of(body: bytes) -> bytes:
+    """The path of the last URI of the list `body`."""
+    return next((line.partition(b"?")[0] for line in reversed(body.splitlines()) if line.strip() and not line.startswith(b"#")), b"")
+
+
+def oldest_of(body: bytes) -> bytes:
+    """The path of the first URI of the list `body`."""
+    return next((line.partition(b"?")[0] for line in body.splitlines() if line.strip() and not line.startswith(b"#")), b"")
+
+
+def begin_again(turn: Turn) -> None:
+    """The feed has begun: whether the controllers are there isn't known. Nobody waits any more for what an earlier feed waited for."""
+    for channel, it in turn.renditions():
+        turn.put_controller(channel, way=Way.UNKNOWN, sent=None, trials=0, retry_at=0.0, is_unseen=False)
+        turn.put(channel, came_at=float("-inf") if it.came is None else turn.at)
+    turn.set(asked=dict.fromkeys(turn.state.asked, turn.at), waits_until=0.0, in_step_since=None)
+
+
+# ---- a turn
+
+def give(turn: Turn) -> None:
+    """Gives what is new: the fallback, lists with the decisions that they need, and other decisions."""
+    if turn.at < turn.state.waits_until:
+        return
+    decided.give_fallback(turn)
+    take_lists(turn)
+    listed = listed_ids(turn)
+    give_files(turn, listed)
+    if all(it.listed is not None for _, it in turn.renditions()):
+        decided.retire(turn, frozenset[str]().union(*(it.listed or () for _, it in turn.renditions())))
+        decided.make_room(turn)
+        decided.forget_past(turn)
+
+
+def give_files(turn: Turn, listed: Collection[str]) -> None:
+    """Gives the decision files that lists with the breaks `listed` need, and others once the controllers have what was given."""
+    there = [it.controller for _, it in turn.renditions() if it.controller.way is Way.THERE and not it.controller.trials]
+    newest = max((it.entry for it in turn.state.decisions), default=0)
+    has_list = all(it.came is not None or it.stands.entry for _, it in turn.renditions())
+    decided.give_files(turn, listed, has_list and all(it.decided >= newest for it in there))
+
+
+def listed_ids(turn: Turn) -> set[str]:
+    """The IDs of the date ranges that the next lists may have: those of the newest lists, also of those that weren't taken in, and those that
+    viewers have."""
+    found: set[str] = set()
+    for _, it in turn.renditions():
+        found |= (it.listed or frozenset()) | it.stands.viewed.ranges.keys()
+        if it.is_new and it.came is not None:
+            found |= ranges.ids_in(ranges.ranges_in(it.came))
+    return found
+
+
+@dataclass
+class Taken:
+    """A list of a channel that was put right: by the `repairer` it became `repaired`; its text was the `body`. `is_part`: more of it is to come."""
+
+    repairer: Repairer
+    repaired: Repaired
+    body: bytes
+    is_part: bool
+
+    def found(self) -> PackagedList:
+        """What it lists; nothing if that isn't known."""
+        return self.repaired.found or PackagedList()
+
+
+def take_lists(turn: Turn) -> None:
+    """Takes in the lists that are new: puts them right, translates them, and gives them as one entry, once the decisions are there that they
+    wait for."""
+    due = [channel for channel, it in turn.renditions() if it.is_new and not controllers.is_busy(it)]
+    if not due or not may_begin(turn):
+        return
+    found: dict[str, Taken] = {}
+    older = {channel: turn.state.renditions[channel].older for channel in due}
+    for channel in due:
+        if (taken := put_right(turn, channel, found)) is not None:
+            found[channel] = taken
+    if not found:
+        return
+    translator = turn.state.translator.copy()
+    told = translate(turn, translator, found) if turn.state.renditions[due[0]].settings.signals else []
+    learn(turn, found)
+    pass_over(turn, translator, found)
+    if waits(turn, translator, found):
+        for channel in found:
+            turn.put(channel, is_new=True, older=older[channel])
+        return
+    for line in told:
+        turn.tell("", line.who, 0, line.word, line.text, is_again=True)
+    listed = listed_ids(turn) | {name for it in found.values() for name in ranges.ids_in(it.found().date_ranges())}
+    decided.give_files(turn, listed, False)
+    if not any(it.stands.entry for _, it in turn.renditions()):
+        decided.give_files(turn, listed, True)
+    enter(turn, translator, found)
+
+
+def may_begin(turn: Turn) -> bool:
+    """Whether lists may be given. The first ones wait for all channels, and in a ladder for lists in step."""
+    if any(it.stands.entry for _, it in turn.renditions()):
+        return True
+    if any(it.controller.way is not Way.THERE for _, it in turn.renditions()):
+        return False
+    if len(turn.state.renditions) == 1:
+        return True
+    since = turn.state.in_step_since if turn.state.in_step_since is not None else turn.at
+    turn.set(in_step_since=since)
+    if is_in_step(turn):
+        return True
+    targets = [packaged.read(spelling.lines_of(it.came[:4096], set())).target or 1 for _, it in turn.renditions() if it.came is not None]
+    if turn.at - since < STEP * max(targets, default=1):
+        return False
+    turn.tell("", "ladder", 0, "Unequal", "the renditions' lists don't begin and end with the same media numbers; gives them all the same")
+    return True
+
+
+def is_in_step(turn: Turn) -> bool:
+    """Whether all renditions' newest lists have as many segments, and the same first media number or the same first instant."""
+    listed = [segments_of(it.came) if it.came is not None else [] for _, it in turn.renditions()]
+    if not all(listed) or len({len(it) for it in listed}) > 1:
+        return False
+    begins = [it[0].stated or 0 for it in listed]
+    return len({it[0].own for it in listed}) == 1 or (all(begins) and max(begins) - min(begins) < SECOND // 2)
+
+
+def segments_of(body: bytes) -> list[PackagedSegment]:
+    """The segments of the list `body` as it came; none if it isn't read."""
+    return read(body).segments
+
+
+def put_right(turn: Turn, channel: str, found: dict[str, Taken]) -> Taken | None:
+    """The list of the `channel` that is to be taken in now, put right up to the edge; none if nothing of it is to be given. `found`: those of
+    other renditions that come with it."""
+    it = turn.state.renditions[channel]
+    body = it.older[0] if it.older else it.came
+    assert body is not None
+    if not it.settings.repair:
+        turn.put(channel, is_new=False)
+        return Taken(it.stands.repairer, Repaired(as_listed(read(body)), came=body), body, False)
+    edge = edge_of(turn, channel) if len(turn.state.renditions) > 1 and not it.older else None
+    text = up_to(body, edge) if edge is not None else body
+    repairer = copy(it.stands.repairer)
+    repairer.siblings = siblings_of(turn, channel, found) if len(turn.state.renditions) > 1 else None
+    if it.is_other:
+        repairer.held_since = float("-inf")
+    repaired = repairer.take(text, turn.at, turn.clock)
+    repairer.siblings = None
+    tell_why(turn, channel, repaired)
+    older = it.older if repaired.waits else it.older[1:]
+    turn.put(channel, is_new=repaired.waits or bool(it.older) or text is not body, older=older, is_blocked=repaired.why == repairs.SECTIONS)
+    turn.put_standing(channel, repairer=with_hold(it.stands.repairer, repairer.held_since))
+    if repaired.why == repairs.SECTIONS and it.stands.text:
+        turn.put_controller(channel, listed=it.stands.entry - 1)  # (it is pushed again, so that it is seen if a person deletes the channel)
+    if repaired.found is None and repaired.came is None:
+        return None
+    tell_repairs(turn, channel, repaired)
+    return Taken(repairer, repaired, text, text is not body)
+
+
+def with_hold(it: Repairer, since: float | None) -> Repairer:
+    """The repairer `it`, whose lists are held back `since` a moment."""
+    found = copy(it)
+    found.held_since = since
+    return found
+
+
+def siblings_of(turn: Turn, channel: str, found: dict[str, Taken]) -> Siblings:
+    """The other renditions, as the one of the `channel` sees them; of those that have no list yet the first ones, which were `found`."""
+    group = turn.state.renditions[channel].settings.group
+    segments = {name: it.stands.repairer.past[-MOST_REMEMBERED:] + it.stands.repairer.last or (found[name].found().segments if name in found else [])
+                for name, it in turn.renditions()}
+    return Siblings([Sibling(it.settings.base, segments[name], it.stands.repairer.held_since is not None, it.settings.group == group)
+                     for name, it in turn.renditions() if name != channel])
+
+
+def tell_why(turn: Turn, channel: str, repaired: Repaired) -> None:
+    """Tells why nothing is given of a list, or that lists are given again."""
+    word = WORDS.get(repaired.why, "Held" if repaired.waits else "Untaken")
+    turn.tell(channel, "list", 0, word, repaired.why or "the lists go on", is_quiet=True)
+
+
+def tell_repairs(turn: Turn, channel: str, repaired: Repaired) -> None:
+    """Counts the repairs of a list, and tells them."""
+    if repaired.kinds:
+        turn.put_standing(channel, repairs=dict(Counter(turn.state.renditions[channel].stands.repairs) + Counter(dict.fromkeys(repaired.kinds, 1))))
+    turn.actions += [RepairTold(channel, kind, detail) for kind, detail in repaired.kinds.items()]
+
+
+# ---- signals
+
+def translate(turn: Turn, translator: Translator, found: dict[str, Taken]) -> list[Line]:
+    """Puts date ranges that adsplice knows in place of the signals of the lists that were `found`. What any of them signals is the
+    programme's: all are looked at before the first one is written. Answers what is to be told."""
+    lists = {channel: it.found() for channel, it in found.items() if it.found().segments}
+    told: list[Line] = []
+    if len(lists) > 1:
+        for channel, it in lists.items():
+            told += translator.take(it, turn.state.renditions[channel].settings.rendition()).told
+    for channel, it in lists.items():
+        said = translator.take(it, turn.state.renditions[channel].settings.rendition())
+        told += said.told
+        it.signals = said.ranges
+    return told
+
+
+def learn(turn: Turn, found: dict[str, Taken]) -> None:
+    """Learns which breaks the lists that were `found` have."""
+    for channel, it in found.items():
+        turn.put(channel, listed=frozenset(ranges.ids_in(it.found().date_ranges())))
+
+
+def pass_over(turn: Turn, translator: Translator, found: dict[str, Taken]) -> None:
+    """A break whose start a rendition of several has passed without it begins in none: the others haven't come there, or it was away. The lists
+    that were `found` may be of a clock that went back."""
+    if len(turn.state.renditions) == 1:
+        return
+    lists = {channel: it.stands for channel, it in turn.renditions() if it.stands.repairer.last}
+    reached = {channel: passed(it, found[channel].found() if channel in found else PackagedList()) for channel, it in lists.items()}
+    for one in translator.breaks.known:
+        there = [channel for channel, it in lists.items() if one.clock is None or it.repairer.last[-1].number > one.clock]
+        if any(one.id in it.pods.entered for it in lists.values()) or all(reached[channel] <= one.start for channel in there):
+            continue
+        for channel, it in turn.renditions():
+            if one.id not in it.stands.pods.missed:
+                pods = it.stands.pods.copy()
+                pods.missed.add(one.id)
+                turn.put_standing(channel, pods=pods)
+
+
+def passed(stands: Standing, found: PackagedList) -> int:
+    """The instant before which a rendition whose lists stand so has passed all breaks, once its list `found` has come."""
+    last = stands.repairer.last[-1]
+    begins = min([last.begins or 0] + [it.begins for it in found.segments[-1:] if it.begins is not None])
+    return begins + last.duration // 2
+
+
+def waits(turn: Turn, translator: Translator, found: dict[str, Taken]) -> bool:
+    """Asks for the decisions of the breaks that became known. Whether the lists that were `found` wait for one."""
+    first = next(iter(turn.state.renditions.values())).settings
+    if not first.ask:
+        return False
+    known = translator.breaks.known
+    end = max((end_of(it.found()) for it in found.values()), default=0)
+    target = max((it.found().target or 0 for it in found.values()), default=0) or round(turn.target())
+    new = [it for it in known if it.id not in turn.state.asked and not is_decided(turn, it.id)]
+    asked = {name: until for name, until in turn.state.asked.items() if any(it.id == name for it in known)}
+    asked |= {it.id: turn.at + min(first.hold, SHARE * target) for it in new}
+    turn.set(asked=asked)
+    if new:
+        turn.actions.append(Ask(tuple(new), target, end))
+    awaited = [asked[it.id] for it in known if it.start < end and turn.at < asked.get(it.id, 0.0) and not is_decided(turn, it.id) and not decided.begun_of(turn, [it.id])]
+    if awaited:
+        turn.set(waits_until=max(awaited))
+    return bool(awaited)
+
+
+def is_decided(turn: Turn, name: str) -> bool:
+    """Whether there is a decision on the break `name` in all renditions."""
+    files = [it for it in turn.state.files.values() if name in it.ids and it.state in (FileState.NEW, FileState.GIVEN)]
+    return any(it.stamps.keys() >= turn.state.renditions.keys() for it in files) or all(name in it.stands.pods.held for _, it in turn.renditions())
+
+
+def end_of(found: PackagedList) -> int:
+    """The instant at which the list `found` ends."""
+    return (found.segments[-1].begins or 0) + found.segments[-1].duration if found.segments else 0
+
+
+# ---- an entry
+
+def enter(turn: Turn, translator: Translator, found: dict[str, Taken]) -> None:
+    """The lists that were `found` are the log's next entry, as far as they are new."""
+    texts = {channel: text_of(turn, channel, it) for channel, it in found.items()}
+    new = {channel: it for channel, it in found.items() if texts[channel] != turn.state.renditions[channel].stands.text and not is_front_alone(turn, channel, it)}
+    for channel, it in found.items():
+        if it.is_part or channel not in new:
+            turn.put(channel, is_other=False)
+    if not new:
+        return
+    entry = turn.next_entry()
+    turn.set(translator=translator)
+    for channel, it in new.items():
+        stand(turn, channel, it, texts[channel], entry)
+    apart.compare(turn)
+
+
+def is_front_alone(turn: Turn, channel: str, it: Taken) -> bool:
+    """Whether the list `it`, of which more is to come, has no segment yet that the `channel` hasn't: it has lost some at its front alone."""
+    last, segments = turn.state.renditions[channel].stands.repairer.last, it.found().segments
+    return it.is_part and bool(last) and bool(segments) and segments[-1].number == last[-1].number
+
+
+def text_of(turn: Turn, channel: str, it: Taken) -> bytes:
+    """The text of the list `it`. In a ladder it says nothing of breaks that are passed over."""
+    found, missed = it.repaired.found, turn.state.renditions[channel].stands.pods.missed
+    if found is not None and len(turn.state.renditions) > 1 and missed:
+        lines = [line for line in found.date_ranges() if not ranges.ids_in([line]) & missed]
+        if len(lines) < len(found.date_ranges()):
+            found.signals = lines
+    if it.repaired.head is None and found is not None:
+        return it.body if found.signals is None else packaged.write(found)
+    return it.repaired.body()
+
+
+def stand(turn: Turn, channel: str, it: Taken, text: bytes, entry: int) -> None:
+    """The list `it`, whose text is `text`, is that of the `entry`: so stands the `channel` then."""
+    rendition = turn.state.renditions[channel]
+    before, tolerance = rendition.stands, turn.state.translator.tolerance
+    found = it.repaired.found
+    if found is None or it.repaired.head is None:  # (it isn't put right: adsplice judges it)
+        viewed = before.viewed.copy()
+        viewed.note(it.found().date_ranges(), it.found().segments[-1].number if it.found().segments else 0)
+        stands = replace(before, viewed=viewed, text=text, ahead=b"", entry=entry, after=before.entry)
+    else:
+        it.repairer.accept(it.repaired)
+        stands = standing(before, it, text, entry, tolerance, turn.state.translator.tolerance)
+    turn.put(channel, stands=stands, before=before if rendition.controller.trials == 0 else None, is_other=False)
+
+
+def standing(before: Standing, it: Taken, text: bytes, entry: int, tolerance: int, near: int) -> Standing:
+    """Where a channel that stood as `before` stands with the list `it`, whose text is `text`, as the `entry`."""
+    repairer, viewed = it.repairer, before.viewed.copy()
+    lines = it.found().date_ranges()
+    last, listed = before.repairer.last, repairer.last
+    viewed.note(lines, listed[-1].number)
+    viewed.forget((repairer.past or listed)[0].number)
+    new = listed[max(0, len(listed) - (listed[-1].number - last[-1].number)):] if last and listed[-1].number >= last[-1].number else listed
+    stands = Standing(repairer, viewed, entry, text, ranges.without_moved(before.text, text, tolerance) or b"", before.pods, before.repairs, before.entry)
+    pods = before.pods.of(window_of(stands) | ranges.ids_in(lines)).copy()
+    pods.enter(ranges.starts_in(lines), before.viewed.ranges.keys(), [one.begins for one in new if one.begins is not None], near)
+    target = repairer.head.target if repairer.head is not None else 0
+    viewed.reckon(listed, lines, Store(pods.held, pods.fallback), tolerance, target)
+    return replace(stands, pods=pods)
+
+
+# ---- lists
+
+def read(body: bytes) -> PackagedList:
+    """What the list `body` says as it came; nothing if it isn't read."""
+    try:
+        return packaged.read(spelling.lines_of(body, set()))
+    except spelling.Unread:
+        return PackagedList()
+
+
+def as_listed(found: PackagedList) -> PackagedList:
+    """The list `found` with the packager's own numbers and instants, for a feed that doesn't put lists right (RFC 8216, 4.3.2.6)."""
+    discontinuity, begins = found.discontinuity_sequence, None
+    for it in found.segments:
+        discontinuity += it.discontinuities
+        it.number, it.discontinuity = it.own, discontinuity
+        it.begins = begins = it.stated if it.stated is not None else begins
+        begins = None if begins is None else begins + it.duration
+    for it, later in zip(reversed(found.segments[:-1]), reversed(found.segments)):
+        if it.begins is None and later.begins is not None:
+            it.begins = later.begins - it.duration
+    return found

@@ -1,0 +1,87 @@
+"""What a channel that is made anew is told of breaks, so that it shows what viewers have of them: as they ran, and not as they are known now."""
+from __future__ import annotations
+
+from typing import NamedTuple
+
+from . import packaged
+from .breaks import TOLERANCE
+from .date_ranges import read_range
+from .packaged import PackagedSegment
+from .playlist import instant_text, seconds_text
+from .signals import duration_of, pieces_of
+from .state import Standing
+from .turn import history_of
+
+ENDED = ("END-DATE", "DURATION", "SCTE35-IN")  # attributes that say where a break ended (RFC 8216, 4.3.2.7)
+ENDS = (*ENDED, "PLANNED-DURATION")  # and where it is to end
+
+
+class Run(NamedTuple):
+    """A break that viewers had filled: from the segment at the place `first` in the history, which begins at the instant `start`, to before the one
+    at the place `last`; none if it isn't over. `end`: the instant at which that begins."""
+
+    start: int
+    first: int
+    last: int | None = None
+    end: int = 0
+
+    def is_turned(self) -> bool:
+        """Whether it is over, and the packager's clock went back within it."""
+        return self.last is not None and self.end <= self.start
+
+
+def run_of(stands: Standing, history: list[PackagedSegment], line: str) -> Run | None:
+    """How the break of the EXT-X-DATERANGE `line` ran in the `history`; none if it wasn't filled there."""
+    start = start_of(stands, line)
+    starts = [it for other, _ in stands.viewed.ranges.values() if (it := start_of(stands, other)) is not None]
+    places = [place for place, it in enumerate(history) if it.begins is not None and (it.number in stands.viewed.begins or is_near(it.begins, starts))]
+    first = next((n for n in range(len(places) - 1, -1, -1) if start is not None and abs((history[places[n]].begins or 0) - start) <= TOLERANCE), None)
+    if start is None or first is None:
+        return None
+    if first + 1 == len(places):
+        return Run(start, places[first])
+    return Run(start, places[first], places[first + 1], history[places[first + 1]].begins or 0)
+
+
+def start_of(stands: Standing, line: str) -> int | None:
+    """Where the break of the EXT-X-DATERANGE `line` begins, if viewers had it filled."""
+    found = read_range(line)
+    return found.start() if found.id in stands.pods.entered else None
+
+
+def is_near(instant: int, starts: list[int]) -> bool:
+    """Whether one of the `starts` is at the `instant`."""
+    return any(abs(it - instant) <= TOLERANCE for it in starts)
+
+
+def as_it_ran(stands: Standing, line: str) -> str:
+    """The EXT-X-DATERANGE `line` of a break that is over, with the end that it had for viewers: what says where it ends may have come later than
+    the segments after it, and of a break without an end its pod said it."""
+    run, found = run_of(stands, history_of(stands), line), read_range(line)
+    if run is None or run.last is None:
+        return line
+    if run.is_turned():
+        return f'{without(line, ENDED)},END-DATE="{instant_text(run.end)}"'
+    length = found.length(run.start) or duration_of(found.said.get("PLANNED-DURATION", ""))
+    if length is not None and abs(run.start + length - run.end) <= TOLERANCE:
+        return line
+    return f"{without(line, ENDS)},DURATION={seconds_text(run.end - run.start)}"
+
+
+def without(line: str, names: tuple[str, ...]) -> str:
+    """The EXT-X-DATERANGE `line` without the attributes of the `names`."""
+    return packaged.DATE_RANGE + ",".join(it for it in pieces_of(line.partition(":")[2]) if it.partition("=")[0] not in names)
+
+
+def turned_at(stands: Standing, place: int) -> int | None:
+    """The place in the history, from `place` on, of the first segment after the packager's clock went back within a break; none if there is none. A list
+    up to there comes first: of one list alone adsplice would say that the break was over before it began."""
+    history = history_of(stands)
+    runs = [run for line, _ in stands.viewed.ranges.values() if (run := run_of(stands, history, line)) is not None and run.first >= place]
+    turns = [at for at in range(place + 1, len(history)) if (history[at].begins or 0) < (history[at - 1].begins or 0)]
+    return next((at for at in turns if any(run.first < at <= (len(history) if run.last is None else run.last) for run in runs)), None)
+
+
+def as_it_began(line: str) -> str:
+    """The EXT-X-DATERANGE `line` of a break that hasn't ended."""
+    return without(line, ENDED)

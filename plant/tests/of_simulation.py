@@ -1,0 +1,163 @@
+"""Tests of the feed by days of a programme that are played by a clock of their own (simulated.py), and of what plays them."""
+import json
+import os
+import random
+import sys
+from dataclasses import replace
+
+from of_reckoning import Programme, pod
+from tools import PLANT, apart
+
+sys.path.insert(0, PLANT)
+import simulated  # noqa: E402
+from adsplice_rules.edge import Edge, Request  # noqa: E402
+from simulation.controller import Controller  # noqa: E402
+from simulation.named import ALONE, CALM, NAMED, UNDECIDED, of  # noqa: E402
+from simulation.packager import BASE, Packager  # noqa: E402
+from simulation.plan import Fault, draw  # noqa: E402
+from simulation.viewers import Ads, Viewers  # noqa: E402
+from simulation.world import World  # noqa: E402
+
+NEEDS = ()
+DRAWN = range(1, 25)  # seeds of days
+FAILED = os.path.join(os.path.dirname(os.path.abspath(__file__)), "failed_seeds")
+
+
+class Both:
+    """A controller twice: the fast one, and the one of the rules. Both have to answer each request alike, and to write the same list."""
+
+    def __init__(self):
+        self.fast, self.rules, self.answers = Controller(), Edge(), {}
+
+    def answer(self, request):
+        """What both answer."""
+        found, owed = self.fast.answer(request), self.rules.answer(request)
+        assert (found.status, found.body) == (owed.status, owed.body), (request, found, owed)
+        key = found.status, found.body.partition(" ")[0] if found.status in (409, 422) else ""
+        self.answers[key] = self.answers.get(key, 0) + 1
+        if request.target.endswith("/origin") and found.status == 204:
+            self.answer(Request("GET", request.target.replace("/origin", "/live.m3u8"), b""))
+        return found
+
+    def items(self, name):
+        """What viewers have."""
+        return self.fast.items(name)
+
+
+def drawn_lists(dice, both):
+    """Lists and decisions of a drawn programme, some of which don't follow the last ones."""
+    programme, window = Programme(dice), dice.choice((3, 5, 8))
+    both.answer(Request("PUT", "/channels/v", b'{"base":"http://o.example/v/index.m3u8"}'))
+    newest = window
+    while newest < 50:
+        for name in [one[0] for one in programme.breaks if dice.random() < 0.2] + [""] * (dice.random() < 0.1):
+            bodies = pod(dice, name), pod(dice, name), b'{"fallback":null}' if not name else json.dumps({"withdraw": name}).encode()
+            both.answer(Request("PUT", "/channels/v/decisions", dice.choice(bodies)))
+        first, last = newest - window + 1, newest
+        if dice.random() < 0.1:
+            first, last = first + dice.choice((-2, 0, 1, 2)), last + dice.choice((-1, 0, 1, window + 1))
+        body = programme.listed(first, last)
+        if dice.random() < 0.05:
+            body = dice.choice((body.replace(b"s%d.ts" % (newest - 1), b"x.ts"), body.replace(b"#EXTINF:2", b"#EXTINF:3"), body.replace(b"EXTINF:", b"EXTINF:x"), body[:40]))
+        for _ in range(dice.choice((1, 1, 2))):
+            both.answer(Request("PUT", "/channels/v/origin", body))
+        newest += dice.choice((0, 1, 1, 1, 2, 3))
+
+
+@apart
+def test_a_simulated_controller_answers_as_the_rules(room):
+    answers = {}
+    for case in range(12):
+        both = Both()
+        drawn_lists(random.Random(case), both)
+        answers |= both.answers
+    assert answers.keys() >= {(201, ""), (204, ""), (200, ""), (409, "J9"), (409, "J11"), (409, "N6"), (409, "N8"), (422, "P10")}, answers
+    made = []
+    for seed in (3, 4, 8):
+        world = World(replace(draw(seed), length=120.0), lambda: made.append(Both()) or made[-1])
+        world.run()
+    assert sum(it.answers.get((200, ""), 0) for it in made) > 100, [it.answers for it in made]
+
+
+def test_a_day_is_the_same_each_time(room):
+    plan = replace(draw(1088), length=150.0)
+    first, second = simulated.play(plan, True), simulated.play(plan, True)
+    assert first.log == second.log and len(first.log) > 100, (len(first.log), len(second.log))
+    assert [it.kind for it in first.found] == [it.kind for it in second.found], (first.found, second.found)
+
+
+@apart
+def test_named_days_break_no_promise(room):
+    broken = {name: [str(it) for it in found[:2]] for name, plan in NAMED.items() if (found := simulated.play(plan).found)}
+    assert not broken, "\n".join(f"{name}: {found}" for name, found in broken.items())
+
+
+@apart
+def test_days_that_once_broke_a_promise_break_none(room):
+    with open(FAILED, encoding="utf-8") as it:
+        days = [line.split() for line in it if not line.startswith("#")]
+    assert days
+    broken = {seed: [str(it) for it in found[:2]] for seed, each in days if (found := simulated.play(draw(int(seed), float(each))).found)}
+    assert not broken, broken
+
+
+@apart
+def test_drawn_days_break_no_promise(room):
+    broken = {seed: [str(it) for it in found[:2]] for seed in DRAWN if (found := simulated.play(draw(seed)).found)}
+    assert not broken, f"plant/tests/simulated.py --shrink SEED: {broken}"
+
+
+def test_breaks_of_a_calm_day_are_filled(room):
+    world = simulated.play(CALM)
+    assert not world.found and (world.tally["breaks"], world.tally["own pods"]) == (3, 3), (world.found, world.tally)
+    world = simulated.play(of(*UNDECIDED))
+    assert not world.found and (world.tally["filled"], world.tally["own pods"]) == (3, 0), (world.found, world.tally)
+
+
+def test_faults_are_left_out_one_by_one(room):
+    """A day whose viewers see numbers twice as soon as one fault happens, whatever the others are."""
+    others = tuple(Fault(10.0 + place, "list cut off", "v", 0.0, 1) for place in range(6))
+    plan = of(*others[:4], Fault(50.0, "controller killed", "v", 1.0), *others[4:], plan=ALONE)
+    whole = World.fault_controller_killed
+
+    def spoil(world, fault, names):
+        whole(world, fault, names)
+        world.viewers["v"].see([(20, "http://ads.example/v/x/0/0-0.ts", 0)], world.now)
+    World.fault_controller_killed = spoil
+    try:
+        assert [it.kind for it in simulated.shrunk(plan, "two contents").faults] == ["controller killed"]
+    finally:
+        World.fault_controller_killed = whole
+
+
+def seen(*lists):
+    """The kinds of breaches for viewers who see these lists of (number, URI, discontinuity number)."""
+    packager, ads = Packager(CALM, "v"), Ads({("v", "b0", "0"): ["http://ads.example/v/b0/0/0-0.ts", "http://ads.example/v/b0/0/0-1.ts"]}, {("v", "b0", "0"): 12_000})
+    packager.go_on(60_000)
+    viewers = Viewers(CALM, packager, {"v": packager}, ads, {uri: 0.0 for uri in packager.truth})
+    for one in lists:
+        viewers.see(one, 1.0)
+    return [it.kind for it in viewers.breaches]
+
+
+def programme(first, last, number=None):
+    """Those segments of the programme whose cuts have the numbers `first` to `last`, with media numbers from `number` on."""
+    return [((first if number is None else number) + place, f"{BASE}/v/0/{cut}.ts", 0) for place, cut in enumerate(range(first, last + 1))]
+
+
+def test_viewers_see_what_is_wrong(room):
+    pods = [(16, "http://ads.example/v/b0/0/0-0.ts", 1), (17, "http://ads.example/v/b0/0/0-1.ts", 1)]  # in the break from 30 s to 42 s
+    after = [(18 + place, f"{BASE}/v/0/{cut}.ts", 2) for place, cut in enumerate((22, 23))]
+    assert seen(programme(3, 8), programme(5, 10)) == []
+    assert seen(programme(10, 15) + pods + after) == []
+    assert seen(programme(3, 8), programme(5, 7)) == ["goes back"]
+    assert seen(programme(3, 8), programme(6, 9, 5)) == ["two contents"] * 4 + ["goes back"] * 0
+    assert seen(programme(3, 8), [(5, f"{BASE}/v/0/5.ts", 1)] + programme(6, 8)) == ["two discontinuity numbers"]
+    assert seen(programme(3, 8), programme(11, 12)) == ["leaves numbers out", "lost"]
+    assert seen(programme(3, 8) + programme(10, 11, 9)) == ["lost"]
+    assert seen(programme(3, 8) + programme(8, 9, 9)) == ["doubled"]
+    assert seen(programme(5, 8) + programme(4, 4, 9)) == ["out of order"]
+    assert seen(programme(10, 15) + pods[:1] + [(17, *after[0][1:])]) == ["pod in part"]
+    assert seen(programme(10, 15) + [(16, *pods[1][1:])] + [(17, *after[0][1:])]) == ["pod in part"]
+    assert seen(programme(10, 15) + pods + [(18, f"{BASE}/v/0/23.ts", 2)]) == ["lost"]
+    assert "pod at another place" in seen(programme(3, 8) + [(9 + place, *it[1:]) for place, it in enumerate(pods)])

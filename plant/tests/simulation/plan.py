@@ -1,0 +1,137 @@
+"""The plan of a simulated day: a programme, its breaks, who is around it, and the faults, all by a seed.
+
+A plan is a value. A day that is played from it is the same each time, and a fault that is left out changes no other one.
+"""
+from __future__ import annotations
+
+import random
+from dataclasses import dataclass, field
+from typing import NamedTuple
+
+ALL = "all"  # in place of a rendition: each of them
+FALLBACK = "fallback"
+
+
+class Span(NamedTuple):
+    """A break of the programme: its `name`, its `start`, its real `end` and the `planned` one, in milliseconds of the programme; how long
+    before its start a date range `announces` it; and how long before its start it is decided, if nobody asks (`ahead`)."""
+
+    name: str
+    start: int
+    end: int
+    planned: int
+    announces: int
+    ahead: int
+
+
+class Fault(NamedTuple):
+    """A fault of a `kind` at the moment `at` (in seconds), of a rendition or ALL (`who`), with a `size` (mostly seconds) and a `number`."""
+
+    at: float
+    kind: str
+    who: str = ALL
+    size: float = 0.0
+    number: int = 0
+
+    def __str__(self) -> str:
+        return f"Fault({self.at}, {self.kind!r}, {self.who!r}, {self.size}, {self.number})"
+
+
+@dataclass(frozen=True)
+class Plan:
+    """A day of `length` seconds with the renditions `names`, the first of which is the picture. `target`: milliseconds of a segment; `window`:
+    segments of a list; `cuts`: where the sound is cut (milliseconds of its shift, or -1: at frames); `style` of the signals; `speakers`:
+    who signals; `processes`: whether each rendition has a controller of its own; `has_fallback`; `asks`: whether decisions are asked for;
+    `marks`: whether the packager has discontinuities where breaks begin and end; `in_step`: whether they number alike."""
+
+    seed: int
+    names: tuple[str, ...] = ("v", "a")
+    length: float = 240.0
+    target: int = 2000
+    window: int = 8
+    cuts: int = 0
+    style: str = "ranges"  # cues, cues without a duration, ranges
+    speakers: tuple[str, ...] = ("v", "a")
+    processes: bool = True
+    has_fallback: bool = True
+    asks: bool = False
+    marks: bool = False
+    in_step: bool = True
+    breaks: tuple[Span, ...] = ()
+    faults: tuple[Fault, ...] = field(default=())
+
+    def channel(self, name: str) -> str:
+        """The name of the channel of the rendition `name`."""
+        return f"p-{name}" if len(self.names) > 1 else "p"
+
+
+STYLES = ("cues", "cues", "endless cues", "ranges", "ranges")
+
+
+def breaks_of(dice: random.Random, length: float, target: int) -> tuple[Span, ...]:
+    """The breaks of a programme of `length` seconds: some end early, some aren't as long as whole segments."""
+    found, at = [], 12 + dice.randint(0, 4)
+    while at * target < (length - 20) * 1000:
+        count = dice.choice((2, 3, 5, 8))
+        planned = count * target - dice.choice((0, 0, 0, 0, target // 10))
+        end = planned - target if count > 2 and dice.random() < 0.2 else planned
+        found.append(Span(f"b{len(found)}", at * target, at * target + end, at * target + planned, dice.randint(0, 3) * target, dice.choice((1500, 5000, 30_000))))
+        at += count + dice.choice((0, 4, 8, 12, 16))
+    return tuple(found)
+
+
+KINDS: dict[str, tuple[tuple[float, ...], tuple[int, ...]]] = {  # of each fault the sizes and the numbers that it may have
+    "begins again": ((0, 2, 4, 6), (0,)),
+    "lags": ((0.5, 1.5, 3.0, 5.0), (4, 10, 20)),
+    "stands still": ((8.0, 20.0, 40.0), (0,)),
+    "list cut off": ((0.0,), (1, 2, 3)),
+    "caches by turns": ((2.0, 4.0), (5, 20)),
+    "signals late": ((2.0, 4.0, 6.0), (0,)),
+    "list late": ((1.0, 3.0, 6.0), (2, 5)),
+    "spelled otherwise": ((0.0,), (1, 2, 0)),
+    "unread": ((1.0, 3.0, 6.0, 9.0), (0,)),
+    "request lost": ((0.0, 1.0), (0, 1, 2)),
+    "answer lost": ((0.0, 1.0), (0, 1, 2)),
+    "controller slow": ((0.3, 1.5, 3.0, 7.0), (3, 8)),
+    "controller killed": ((0.1, 1.0, 3.0, 6.0), (0,)),
+    "feed ended": ((0.1, 0.5, 2.0, 5.0), (0, 1, 2, 3, 4, 5, 6)),
+    "packager's clock": ((-180.0, -1.0, 0.5, 3600.0), (0,)),
+    "machine's clock": ((-3600.0, -1.0, 5.0, 3600.0), (0,)),
+    "decision late": ((1.0, 3.0, 8.0), (0,)),
+    "decision removed": ((0.1, 1.0, 4.0, 15.0), (0,)),
+    "decision changed": ((0.1, 1.0, 4.0, 15.0), (0,)),
+    "decision wrong": ((0.0,), (0, 1, 2, 3)),
+    "no decision": ((0.0,), (0,)),
+    "decision withdrawn": ((0.1, 2.0, 10.0), (0,)),
+    "decisions apart": ((0.5, 1.5, 4.0), (0,)),
+    "fallback changed": ((0.0, 0.7, 3.0), (0,)),
+    "fallback removed": ((0.0, 5.0), (0,)),
+    "store refuses": ((1.0, 4.0, 12.0), (0,)),
+}
+
+
+def faults_of(dice: random.Random, length: float, names: tuple[str, ...], each: float) -> tuple[Fault, ...]:
+    """Faults of some kinds, one in each `each` seconds on the average."""
+    kinds = [it for it in KINDS if dice.random() < 0.5] or ["controller killed"]
+    found, at = [], dice.expovariate(1 / each)
+    while at < length - 15:
+        kind = dice.choice(kinds)
+        sizes, numbers = KINDS[kind]
+        who = ALL if dice.random() < 0.4 else dice.choice(names)
+        found.append(Fault(round(at, 2), kind, who, dice.choice(sizes), dice.choice(numbers)))
+        at += dice.expovariate(1 / each)
+    return tuple(found)
+
+
+def draw(seed: int, each: float = 20.0) -> Plan:
+    """The plan of a `seed`, with a fault in each `each` seconds."""
+    dice = random.Random(seed)
+    names = ("v", "a", "w")[:dice.choice((1, 2, 2, 3))]
+    target, length = dice.choice((2000, 2000, 4000, 6000)), 240.0
+    style = dice.choice(STYLES)
+    speakers = names if dice.random() < 0.5 else names[:1]
+    asks = style != "ranges" or dice.random() < 0.5
+    plan = Plan(seed, names, length, target, dice.choice((6, 8, 12)), dice.choice((0, 0, 20, 700, -1)), style, speakers, dice.random() < 0.5,
+                dice.random() < 0.7, asks, dice.random() < 0.3, dice.random() < 0.8)
+    breaks = breaks_of(dice, length, target)
+    return Plan(**{**vars(plan), "breaks": breaks, "faults": faults_of(dice, length, names, each)})

@@ -1,0 +1,192 @@
+"""What the viewers of a rendition have, and whether that is the programme: looked at with each list that a controller wrote."""
+from __future__ import annotations
+
+from bisect import bisect_left, bisect_right
+from collections.abc import Iterable, Mapping, Sequence
+from dataclasses import dataclass, field
+from typing import NamedTuple
+
+from .packager import BASE, Cut, Packager
+from .plan import FALLBACK, Plan, Span
+
+ADS = "http://ads.example/"
+TOLERANCE = 100  # milliseconds
+NEAR = 60  # milliseconds by which cuts and instants may be apart
+MOST_AWAY = 120_000  # milliseconds that a packager is away
+
+
+class Breach(NamedTuple):
+    """A promise that was broken: of a `kind`, at the moment `at`, in the rendition `who`, with a `text`."""
+
+    kind: str
+    at: float
+    who: str
+    text: str
+
+
+class Pod(NamedTuple):
+    """The pod that viewers had: of the break `name` or FALLBACK, in a `version`, in the break `place` of the programme (-1: in none)."""
+
+    name: str
+    version: str
+    place: int
+    at: float
+
+
+@dataclass
+class Ads:
+    """All pods that were ever decided, by rendition, break and version: their URIs, and how long they last in milliseconds."""
+
+    uris: dict[tuple[str, str, str], list[str]] = field(default_factory=dict)
+    lasts: dict[tuple[str, str, str], int] = field(default_factory=dict)
+
+
+@dataclass
+class Viewers:
+    """The viewers of the rendition of a `packager`; `others` are all packagers by their renditions. `read` are the segments that the feed read
+    in lists, by their URIs. `ledger`: what they have by media numbers."""
+
+    plan: Plan
+    packager: Packager
+    others: Mapping[str, Packager]
+    ads: Ads
+    read: dict[str, float]
+    ledger: dict[int, tuple[str, int]] = field(default_factory=dict)
+    last: int = -1
+    reached: int | None = None  # the millisecond of the programme up to which they have it
+    seen: dict[str, int] = field(default_factory=dict)  # the media number of each segment of the programme
+    left: list[str] = field(default_factory=list)  # of the pod that is shown now
+    pods: list[Pod] = field(default_factory=list)
+    since: list[Pod] = field(default_factory=list)  # pods since the newest segment of the programme
+    breaches: list[Breach] = field(default_factory=list)
+    now: float = 0.0
+
+    def breach(self, kind: str, text: str) -> None:
+        """A promise of a `kind` was broken."""
+        self.breaches.append(Breach(kind, self.now, self.packager.name, text))
+
+    def see(self, items: Iterable[tuple[int, str, int]], now: float, is_ahead: bool = False) -> None:
+        """They load the written `items` at the moment `now`. A list that comes ahead of another one (`is_ahead`) may be shorter than the last one: the
+        next one comes at once."""
+        self.now, number = now, -1
+        for number, uri, discontinuity in items:
+            had = self.ledger.get(number)
+            if had is None:
+                self.ledger[number] = uri, discontinuity
+                self.take(number, uri)
+            elif had[0] != uri:
+                self.breach("two contents", f"number {number} was {had[0]}, and is {uri}")
+            elif had[1] != discontinuity:
+                self.breach("two discontinuity numbers", f"number {number} ({uri}) had {had[1]}, and has {discontinuity}")
+        if 0 <= number < self.last and not is_ahead:
+            self.breach("goes back", f"from {self.last} to {number}")
+        self.last = max(self.last, number)
+
+    def take(self, number: int, uri: str) -> None:
+        """The segment `uri` is new to them."""
+        if self.last >= 0 and number < self.last - len(self.ledger):
+            self.breach("goes back", f"number {number} is new, and before those that they have")
+        if self.ledger and number - 1 not in self.ledger and len(self.ledger) > 1:
+            self.breach("leaves numbers out", f"{self.last + 1} to {number - 1}")
+            self.left, self.since = [], []
+        if uri.startswith(ADS):
+            self.take_ad(uri)
+        else:
+            self.take_programme(number, uri)
+
+    def numbers(self) -> dict[int, tuple[int, int]]:
+        """The media number and the discontinuity number of each cut of the programme, whosever segment that was."""
+        return {int(path.rpartition("/")[2][:-3]): (number, self.ledger[number][1]) for path, number in self.seen.items()}
+
+    # ---- pods
+
+    def take_ad(self, uri: str) -> None:
+        """A segment of a pod comes next."""
+        if self.left and self.left[0] == uri:
+            self.left.pop(0)
+            return
+        if self.left:
+            self.breach("pod in part", f"{uri} in place of {self.left[0]}")
+        rendition, name, version, _ = uri.removeprefix(ADS).split("/")
+        known = self.ads.uris.get((rendition, name, version), [])
+        if rendition != self.packager.name:
+            self.breach("pod of another rendition", uri)
+        if not known or known[0] != uri:
+            self.breach("pod in part", f"begins with {uri}" + (", again" if any(it.name == name for it in self.since) else ""))
+        self.left = known[known.index(uri) + 1:] if uri in known else []
+        place = self.place_of_pod()
+        one = Pod(name, version, place, self.now)
+        if name != FALLBACK and (place < 0 or self.plan.breaks[place].name != name):
+            self.breach("pod at another place", f"{uri} after {self.reached}, where {self.plan.breaks[place].name if place >= 0 else 'no break'} begins")
+        elif place < 0:
+            self.breach("pod where no break begins", f"{uri} after {self.reached}")
+        if any(it.place == place >= 0 for it in self.pods):
+            self.breach("pod doubled", f"{uri} in the break {self.plan.breaks[place].name}, which had one")
+        self.pods.append(one)
+        self.since.append(one)
+
+    def place_of_pod(self) -> int:
+        """The break of the programme that a pod fills which comes now; -1 if none begins here."""
+        if self.reached is None:
+            return self.at_first()
+        after = self.plan.breaks[self.since[-1].place].end if self.since and self.since[-1].place >= 0 else self.reached
+        next_one = next((it.begin for it in self.between(after, after + MOST_AWAY) if self.was_read(it)), after)  # (what lies before that is nobody's)
+        near = [(min(abs(it.start - after), abs(it.start - next_one)), place) for place, it in enumerate(self.plan.breaks)
+                if min(abs(it.start - after), abs(it.start - next_one)) <= self.plan.target // 2 + NEAR]
+        return min(near)[1] if near else -1
+
+    def was_read(self, it: Cut) -> bool:
+        """Whether the feed read a segment of the packager in a list."""
+        return f"{BASE}/{self.packager.name}/{it.uri}" in self.read
+
+    def at_first(self) -> int:
+        """The break within which the very first segment is."""
+        first = self.packager.all[0].begin if self.packager.all else 0
+        return next((place for place, it in enumerate(self.plan.breaks) if it.planned > first), -1)
+
+    # ---- the programme
+
+    def take_programme(self, number: int, uri: str) -> None:
+        """A segment of the programme comes next."""
+        if self.left:
+            self.breach("pod in part", f"{len(self.left)} segments of it are missing before {uri}")
+        self.left = []
+        path = uri.partition("?")[0]
+        found = next((it.truth[path] for it in (self.packager, *self.others.values()) if path in it.truth), None)
+        if found is None:
+            self.breach("segment of nobody", uri)
+            return
+        if path in self.seen:
+            self.breach("doubled", uri)
+        elif self.reached is not None and (found.begin + found.end) // 2 < self.reached:
+            self.breach("out of order", f"{uri} begins at {found.begin}, and they had the programme up to {self.reached}")
+        elif self.reached is not None:
+            self.look_for_lost(self.reached, found.begin, uri)
+        self.seen[path] = number
+        self.reached, self.since = max(found.end, self.reached or 0), []
+
+    def look_for_lost(self, begin: int, end: int, uri: str) -> None:
+        """They have the programme up to `begin`, and then from `end` on, with the segment `uri`."""
+        lost = [it for it in self.between(begin, end) if self.was_read(it) and not self.is_replaced(it.begin)]
+        if lost:
+            self.breach("lost", f"{', '.join(it.uri for it in lost[:3])} ({len(lost)} segments from {lost[0].begin}) before {uri}")
+
+    def between(self, begin: int, end: int) -> Sequence[Cut]:
+        """The packager's own segments whose middles are in that time."""
+        cuts = self.packager.all
+        low, high = bisect_left(cuts, begin, key=lambda it: (it.begin + it.end) // 2), bisect_right(cuts, end, key=lambda it: (it.begin + it.end) // 2)
+        return cuts[low:high]
+
+    def is_replaced(self, begin: int) -> bool:
+        """Whether a pod that they had since the last segment stands for the one that begins there."""
+        for pod in self.since:
+            if pod.place >= 0:
+                one = self.plan.breaks[pod.place]
+                if one.start - self.plan.target // 2 - NEAR <= begin < self.end_of(one, pod) - TOLERANCE + NEAR:
+                    return True
+        return False
+
+    def end_of(self, one: Span, pod: Pod) -> int:
+        """The last moment at which the break `one` with this `pod` may end."""
+        lasts = self.ads.lasts.get((self.packager.name, pod.name, pod.version), 0)
+        return max(one.end, one.planned, one.start + lasts if self.plan.style == "endless cues" else 0)
