@@ -21,7 +21,7 @@ from .turn import MOST, Turn, history_of
 
 JUDGED = (409, 413, 422)  # statuses by which adsplice refuses what it was given; after others the same is tried again with pauses
 NO_PUT = (403, 404, 405)  # statuses by which no adsplice answers the making of a channel
-FIRST_PAUSE, LONGEST_PAUSE = 0.5, 5.0  # seconds
+FIRST_PAUSE = 0.5  # seconds
 UNFIT = 2  # refusals in a row of lists that don't go on after the last one, after which its numbers are to be found
 LOOK = 60.0  # seconds between two looks at the written playlist while no break begins or ends
 STAYS = "if that stays, only a new channel takes it, which a person makes by a DELETE of this one"
@@ -60,13 +60,13 @@ def next_request(turn: Turn, channel: str) -> Request | None:
         return Request(What.DECIDE, decision.bodies[channel], decision.entry, is_own=decision.is_own, why=OVER if decision.is_own and not decision.file else "")
     if not has_list:
         return None
-    if it.controller.took < 0 and (body := next(iter(first_of(it)), None)) is not None:
-        return Request(What.DECIDE, body)
+    if (it.controller.took < 0 or it.controller.listed < it.stands.after) and (body := next(iter(first_of(it)), None)) is not None:
+        return Request(What.DECIDE, body, is_own=True)
     return push(turn, channel)
 
 
 def first_of(it: Rendition) -> list[bytes]:
-    """The decisions that a channel without a list still needs before its first one, so that its breaks begin as they did for viewers."""
+    """The decisions that a channel which lacks lists still needs before the next one, so that its breaks begin as they do by the log."""
     return [body for body in it.stands.pods.again() if body not in it.controller.first]
 
 
@@ -106,7 +106,8 @@ def push(turn: Turn, channel: str) -> Request:
     history = history_of(stands)
     least = min(controller.took + 1, stands.repairer.last[0].number)
     place = next((place for place, one in enumerate(history) if one.number >= least), 0)
-    return Request(What.PUSH, listed_from(stands, place, controller.ahead), stands.entry)
+    since = min(controller.took + 1, stands.repairer.last[-1].number)
+    return Request(What.PUSH, listed_from(stands, place, controller.ahead, since=since), stands.entry)
 
 
 def first_list(turn: Turn, channel: str) -> tuple[bytes, bool]:
@@ -149,12 +150,14 @@ def reckoned_anew(turn: Turn, stands: Standing) -> Viewed:
     return viewed
 
 
-def listed_from(stands: Standing, place: int, ahead: Numbers, until: int | None = None) -> bytes:
+def listed_from(stands: Standing, place: int, ahead: Numbers, until: int | None = None, since: int = 0) -> bytes:
     """The list of the segments from the `place` in the history on, with numbers that are `ahead`; up to before the place `until`, if one is named. It says
-    nothing of breaks that were missed, and of others where they ended for viewers by then."""
+    of breaks what was listed since the media number `since`: nothing of those that were missed and would have a pod now, and of others where they ended
+    for viewers by then."""
     segments, head = history_of(stands)[place:until], stands.repairer.head
     assert head is not None
-    said = [line for name, (line, number) in stands.viewed.ranges.items() if number >= segments[0].number and name not in stands.pods.missed]
+    missed = {name for name in stands.pods.missed if stands.pods.at_hand(name) is not None}
+    said = [line for name, (line, number) in stands.viewed.ranges.items() if number >= max(since, segments[0].number) and name not in missed]
     lines = [replay.as_it_ran(stands, line) if until is None else replay.as_it_began(line) for line in said]
     found = PackagedList(head.version, head.target, kind=head.kind, segments=moved(segments, ahead))
     front = stands.text[:max(0, stands.text.find(EXTINF))]
@@ -228,7 +231,7 @@ def unanswered(turn: Turn, event: Answered) -> None:
 def wait(turn: Turn, channel: str) -> None:
     """The controller of the `channel` is tried again after a pause, which grows up to a target duration."""
     trials = turn.state.renditions[channel].controller.trials
-    pause = min(FIRST_PAUSE * 2 ** min(trials, 8), LONGEST_PAUSE, max(1.0, min(MOST, turn.target())))
+    pause = min(FIRST_PAUSE * 2 ** min(trials, 8), turn.state.longest_pause, max(1.0, min(MOST, turn.target())))
     turn.put_controller(channel, trials=trials + 1, retry_at=turn.at + pause)
 
 
@@ -429,7 +432,7 @@ def checked(turn: Turn, event: Answered) -> None:
 
 def is_long_away(it: Rendition) -> bool:
     """Whether nobody waits for the controller of the rendition."""
-    return it.controller.trials > 0 or it.controller.way is Way.UNKNOWN and it.stands.entry > 0
+    return it.controller.trials > 0
 
 
 def is_busy(it: Rendition) -> bool:

@@ -118,7 +118,7 @@ def read_words(arguments: list[str]) -> argparse.Namespace:
     it.add_argument("--check", action="store_true", help="says whether all that the channels need is there, and ends")
     it.add_argument("--door", type=address_of, metavar="ADDRESS", help="takes decisions over HTTP at 127.0.0.1:PORT or on the Unix socket of a path")
     it.add_argument("--timeout", type=words.seconds, default=5.0, metavar="SECONDS", help="for a request with its answer (5)")
-    it.add_argument("--longest-pause", type=words.seconds, default=5.0, metavar="SECONDS", help="between two trials of an origin or the log (5; of an origin no more than a target duration)")
+    it.add_argument("--longest-pause", type=words.seconds, default=5.0, metavar="SECONDS", help="between two trials (5, and no more than a target duration)")
     it.add_argument("--keep-days", type=float, default=7.0, metavar="DAYS", help="that files are kept in DIR/done (7)")
     said = it.parse_args(arguments)
     if said.config is None and not (said.channel and said.origin and said.at):

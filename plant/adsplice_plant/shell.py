@@ -67,7 +67,7 @@ class Feeding:
         """The state that is kept; the one that is `known`, if it isn't or doesn't read."""
         first = self.settings[0]
         tolerance = playlist.read_duration(first.tolerance) if first.tolerance else TOLERANCE
-        fresh = state.begin(self.settings, tolerance or 0)
+        fresh = state.begin(self.settings, tolerance or 0, self.limits.longest_pause)
         if self.store is None:
             return known or fresh
         found = self.store.load(fresh)

@@ -169,14 +169,16 @@ class State:
     fallback: Mapping[str, bytes] = field(default_factory=dict)
     waits_until: float = 0.0
     removed: Mapping[str, Removed] = field(default_factory=dict)  # files whose withdrawals aren't all answered, by their names
+    longest_pause: float = 5.0  # seconds until a controller that doesn't answer is tried again
     in_step_since: float | None = None  # since when the first lists wait for one another
     equal_after: int = -1  # the media number up to which discontinuities were added so that the renditions' numbers are equal
     is_apart: frozenset[str] = frozenset()  # the channels whose numbers aren't those of the others
 
 
-def begin(settings: list[Settings], tolerance: int) -> State:
-    """The state of a programme of the channels that `settings` tell of, of which nothing is known. `tolerance`: theirs, in nanoseconds."""
+def begin(settings: list[Settings], tolerance: int, longest_pause: float = 5.0) -> State:
+    """The state of a programme of the channels that `settings` tell of, of which nothing is known. `tolerance`: theirs, in nanoseconds;
+    `longest_pause`: the seconds after which a controller that doesn't answer is tried again at the latest."""
     first = settings[0]
     choices = {it.name: Choices(it.target, it.endless, it.times) for it in settings}
     renditions = {it.name: Rendition(it, Standing(Repairer(choices[it.name]))) for it in settings}
-    return State(first.programme or first.name, renditions, Translator(first.types, first.nearest, tolerance))
+    return State(first.programme or first.name, renditions, Translator(first.types, first.nearest, tolerance), longest_pause=longest_pause)

@@ -38,7 +38,7 @@ from adsplice_rules.channel import Channel, decide, refreshed, written  # noqa: 
 
 NEEDS = ()
 ENDS = {  # what ends with a process, by the class whose member it is
-    "State": {"in_step_since", "waits_until"}, "Rendition": {"settings", "came", "older", "came_at", "is_new", "seen_at", "is_other"},
+    "State": {"in_step_since", "waits_until", "longest_pause"}, "Rendition": {"settings", "came", "older", "came_at", "is_new", "seen_at", "is_other"},
     "Controller": {"sent", "trials", "retry_at", "is_unseen"},
     "Repairer": {"siblings", "accepted", "held_since"}, "Viewed": {"origin"}, "File": {"since"}, "Breaks": {"told", "recent"}, "Decided": {"tells"}}
 
