@@ -28,8 +28,10 @@ STEP = 3.0  # target durations that the first lists of renditions have to come i
 MOST_OLDER = 4  # lists that wait to be taken in before the newest one
 MOST_REMEMBERED = 120  # segments that left a list, for other renditions
 SHARE = 0.45  # of a target duration: no list waits longer for a decision
-LOOKS = 0.02  # seconds between two looks while a list waits
-OFTEN = 0.25  # seconds between two looks while something else does
+HEAD = 4096  # bytes of a list in which its target duration is looked for
+LOOKS = 0.02  # seconds between two looks while a list waits for a decision
+HELD = 0.5  # the same while one is held back
+OFTEN = 0.25  # the same while a decision file waits
 WORDS = {repairs.LAGS: "Lags", repairs.EMPTY: "Empty", "": ""}
 
 
@@ -47,7 +49,7 @@ def wake(state: State, at: float) -> float | None:
     """The moment from `at` on at which time alone brings something about; none if nothing waits for it."""
     found = [it.controller.retry_at for it in state.renditions.values() if it.controller.sent is None and it.controller.retry_at > at]
     if any(it.is_new for it in state.renditions.values()):
-        found.append(at + (LOOKS if at < state.waits_until else OFTEN))
+        found.append(at + (LOOKS if at < state.waits_until else HELD))
     if any(it.state is FileState.NEW for it in state.files.values()):
         found.append(at + OFTEN)
     return min(found, default=None)
@@ -217,7 +219,7 @@ def may_begin(turn: Turn) -> bool:
     turn.set(in_step_since=since)
     if is_in_step(turn):
         return True
-    targets = [packaged.read(spelling.lines_of(it.came[:4096], set())).target or 1 for _, it in turn.renditions() if it.came is not None]
+    targets = [read(it.came[:HEAD]).target or 1 for _, it in turn.renditions() if it.came is not None]
     if turn.at - since < STEP * max(targets, default=1):
         return False
     turn.tell("", "ladder", 0, "Unequal", "the renditions' lists don't begin and end with the same media numbers; gives them all the same")
