@@ -440,6 +440,8 @@ def standing(before: Standing, it: Taken, text: bytes, entry: int, tolerance: in
     pods = before.pods.of(window_of(stands) | ranges.ids_in(lines)).copy()
     pods.enter(ranges.starts_in(lines), before.viewed.ranges.keys(), [one.begins for one in new if one.begins is not None], near)
     target = repairer.head.target if repairer.head is not None else 0
+    if stands.ahead and last:  # (adsplice forgets what that list doesn't have)
+        viewed.reckon(last, ranges.ranges_in(stands.ahead), Store(pods.held, pods.fallback), tolerance, target)
     viewed.reckon(listed, lines, Store(pods.held, pods.fallback), tolerance, target)
     return replace(stands, pods=pods)
 
