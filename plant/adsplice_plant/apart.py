@@ -41,7 +41,7 @@ def compare(turn: Turn) -> None:
 
 def level(turn: Turn, channel: str) -> None:
     """The `channel` has no list: it begins with the greatest media number that viewers have of one segment, if the renditions' are apart. If all
-    channels are new, so do their discontinuity numbers; else the feed adds discontinuities where they lack."""
+    channels are new, so do the discontinuity numbers of those whose media numbers change; else the feed adds discontinuities where they lack."""
     lists = [it for _, it in turn.renditions()]
     common = set.intersection(*(set(it.stands.viewed.begins) for it in lists)) if turn.state.is_apart else set()
     if not common:
@@ -50,7 +50,8 @@ def level(turn: Turn, channel: str) -> None:
     own = turn.state.renditions[channel].stands.viewed.begins[max(common)]
     is_all = all(it.controller.took < 0 for it in lists)
     viewed = turn.state.renditions[channel].stands.viewed.copy()
-    viewed.rise(max(it[0] for it in found) - own[0], max(it[1] for it in found) - own[1] if is_all else 0)
+    media, steps = max(it[0] for it in found) - own[0], max(it[1] for it in found) - own[1]
+    viewed.rise(media, steps if is_all and media else 0)  # (a media number that viewers have keeps its discontinuity number)
     turn.put_standing(channel, viewed=viewed)
 
 
