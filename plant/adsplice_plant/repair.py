@@ -194,7 +194,7 @@ class Repairer:
         if lags(self.past, self.last, found.segments, has_instants, max(1, patience)):
             return Repaired(why=repairs.LAGS)
         self.held_since = now if self.held_since is None else self.held_since
-        if now - self.held_since < patience:
+        if now - self.held_since < patience and not self.is_later(found.segments):
             return Repaired(why=repairs.HELD.format(patience), waits=True)
         self.set_times(found, True)
         if clock is not None:
@@ -203,6 +203,15 @@ class Repairer:
         if self.siblings and now - self.held_since < 2 * patience and self.siblings.is_awaited(first.begins, first.duration):
             return Repaired(why=repairs.HELD.format(2 * patience), waits=True)
         return None
+
+    def is_later(self, segments: list[PackagedSegment]) -> bool:
+        """Whether the listed `segments` go on from the last list after some that nobody read: by the packager's numbers, and by the instants that
+        it states."""
+        first, last = segments[0], self.last[-1]
+        if first.own <= last.own or first.stated is None or last.begins is None or self.adds:
+            return False
+        missed = (first.own - last.own - 1) * lasting(segments) // len(segments)
+        return abs(first.stated - last.begins - last.duration - missed) <= max(it.duration for it in segments) // 2
 
     def accept(self, repaired: Repaired) -> None:
         """The list `repaired` was pushed and taken: the next one follows it."""
