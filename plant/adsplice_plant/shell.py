@@ -183,7 +183,9 @@ class Feeding:
             self.inbox.post_first(one)
 
     def looks_at(self) -> float:
-        """When the files are to be looked at again."""
+        """When the files are to be looked at again; never if there are none."""
+        if not any(it.folder or it.fallback for it in self.channels.values()):
+            return float("inf")
         return self.looked_at + (LOOKS if time.monotonic() < self.state.waits_until else OFTEN)
 
     def look_soon(self) -> None:
