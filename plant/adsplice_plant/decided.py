@@ -443,6 +443,9 @@ def give_fallback(turn: Turn) -> None:
         wanted = dict.fromkeys(turn.state.renditions, NO_FALLBACK)
     if not wanted or wanted == turn.state.fallback:
         return
+    if len({shape_of(body) for body in wanted.values()} - {""}) > 1:  # (files are written one by one: the last ones stay meanwhile)
+        turn.tell("", "fallback", 0, "Unequal", "the renditions' fallback files don't have ads and segments of the same lengths; goes on with those before")
+        return
     is_changed = bool(turn.state.fallback) or any(it.stands.entry for _, it in turn.renditions())
     turn.set(fallback=wanted)
     if (wrong := note_wrong(turn, wanted)) and turn.is_ladder():
