@@ -9,7 +9,7 @@ import re
 from copy import copy
 from dataclasses import replace
 
-from . import apart, decided, faults, numbers, packaged, replay
+from . import apart, decided, faults, numbers, packaged, ranges, replay
 from .decisions import NO_FALLBACK, OVER
 from .events import Answered, Find, Found, Request, Send, What
 from .numbers import Viewed
@@ -17,6 +17,7 @@ from .packaged import PackagedList, PackagedSegment
 from .reckoning import Numbers, Reckoned, Store
 from .repair import Head, Repaired, Repairer
 from .state import Controller, Decided, Rendition, Standing, Way
+from .translator import Translator
 from .turn import MOST, Turn, history_of
 
 JUDGED = (409, 413, 422)  # statuses by which adsplice refuses what it was given; after others the same is tried again with pauses
@@ -291,7 +292,9 @@ def begin_anew(turn: Turn, channel: str) -> None:
     turn.put(channel, controller=Controller(Way.THERE, reached=max(it.controller.took, it.controller.reached), anew=turn.state.entry), before=None)
     stands = it.stands
     if it.is_blocked:
-        stands = Standing(Repairer(stands.repairer.choices), Viewed(end=stands.viewed.end, reckoned=Reckoned()), pods=stands.pods, repairs=stands.repairs)
+        last = stands.repairer.last[-1]
+        end = stands.viewed.end or (last.number, last.discontinuity)
+        stands = Standing(Repairer(stands.repairer.choices), Viewed(end=end, reckoned=Reckoned()), pods=stands.pods, repairs=stands.repairs)
         turn.put(channel, is_blocked=False, is_new=it.came is not None)
     elif not stands.repairer.last:
         viewed = stands.viewed.copy()
@@ -301,12 +304,28 @@ def begin_anew(turn: Turn, channel: str) -> None:
         repairer = copy(stands.repairer)
         repairer.head = replace(stands.repairer.head, target=it.settings.target)  # (a new channel may have another one)
         stands = replace(stands, repairer=repairer)
-    turn.put(channel, stands=stands)
-    apart.level(turn, channel)
     translator = turn.state.translator.copy()
     for one in translator.breaks.known:
         one.is_in_step = False  # (it is shown all of a list's segments at once)
+    turn.put(channel, stands=told_at_once(it, stands, translator))
     turn.set(translator=translator)
+    apart.level(turn, channel)
+
+
+def told_at_once(it: Rendition, stands: Standing, translator: Translator) -> Standing:
+    """What stands of the rendition `it`, with the date ranges by which its breaks end where they do in a channel that is shown all segments at once."""
+    head, text = stands.repairer.head, stands.text
+    if not it.settings.signals or not it.settings.repair or head is None or not stands.repairer.last:
+        return stands
+    front = text[:max(0, text.find(EXTINF))]
+    found = PackagedList(head.version, head.target, kind=head.kind, segments=stands.repairer.last)
+    found.is_independent, found.is_ended = b"#EXT-X-INDEPENDENT-SEGMENTS" in front, text.rstrip().endswith(END)
+    said, told = translator.take(found, it.settings.rendition()), ranges.ids_in(ranges.ranges_in(text))
+    if said.ranges is None:
+        return stands
+    lines, viewed = [line for line in said.ranges if packaged.id_in(line) in told], stands.viewed.copy()
+    viewed.note(lines, stands.repairer.last[-1].number)
+    return replace(stands, viewed=viewed, text=packaged.write(found, lines))
 
 
 def acknowledged(turn: Turn, event: Answered) -> None:

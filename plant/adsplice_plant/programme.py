@@ -17,8 +17,8 @@ from .events import Action, Answered, Ask, AskedInVain, Began, Event, FallbackRe
 from .events import Repaired as RepairTold
 from .packaged import PackagedList, PackagedSegment
 from .playlist import SECOND
-from .reckoning import Store
-from .repair import Repaired, Repairer
+from .reckoning import Numbers, Store
+from .repair import Repaired, Repairer, count_on
 from .siblings import Sibling, Siblings
 from .state import FileState, Rendition, Standing, State, Way
 from .translator import Translator
@@ -256,6 +256,8 @@ def put_right(turn: Turn, channel: str, found: dict[str, Taken]) -> Taken | None
     if it.is_other:
         repairer.held_since = float("-inf")
     repaired = repairer.take(text, turn.at, turn.clock)
+    if not repairer.last and it.stands.viewed.end is not None:
+        go_on_after(repaired, it.stands.viewed.end)
     repairer.siblings = None
     tell_why(turn, channel, repaired)
     older = it.older if repaired.waits else it.older[1:]
@@ -267,6 +269,15 @@ def put_right(turn: Turn, channel: str, found: dict[str, Taken]) -> Taken | None
         return None
     tell_repairs(turn, channel, repaired)
     return Taken(repairer, repaired, text, text is not body)
+
+
+def go_on_after(repaired: Repaired, end: Numbers) -> None:
+    """The list `repaired` is the first one of a new channel, since it has other initialisation sections than what viewers have: it goes on right after
+    that, whose last segment has the numbers `end`, with a discontinuity."""
+    if repaired.found is not None:
+        repaired.found.segments[0].discontinuities = max(1, repaired.found.segments[0].discontinuities)
+        count_on(PackagedSegment("", 0, number=end[0], discontinuity=end[1]), repaired.found.segments)
+        repaired.came = repaired.accepted = None
 
 
 def with_hold(it: Repairer, since: float | None) -> Repairer:
