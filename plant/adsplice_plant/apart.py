@@ -30,8 +30,8 @@ def compare(turn: Turn) -> None:
         return
     tell_apart(turn, odd, usual, [channel for channel, it in found.items() if it[0] < max(media for media, _ in found.values())])
     turn.set(is_apart=frozenset(odd))
-    if not any(may_enter(it, turn.state.translator.tolerance) for it in lists.values()):
-        most = max(discontinuity for _, discontinuity in found.values())
+    most = max(discontinuity for _, discontinuity in found.values())
+    if any(it[1] < most for it in found.values()) and not any(may_enter(it, turn.state.translator.tolerance) for it in lists.values()):
         for channel, it in lists.items():
             repairer = copy(it.repairer)
             repairer.owed = most - found[channel][1]

@@ -355,6 +355,8 @@ def listed(turn: Turn, channel: str, entry: int) -> None:
     reckoned = it.stands.viewed.reckoned
     is_unseen = it.settings.repair and bool(last) and (reckoned is None or reckoned.is_marked or turn.at - it.seen_at >= LOOK)
     turn.put_controller(channel, listed=max(entry, it.controller.listed), took=took, first=(), unfit=0, is_unseen=is_unseen)
+    if turn.state.is_apart:
+        apart.compare(turn)
 
 
 def decision_of(turn: Turn, entry: int) -> Decided | None:
