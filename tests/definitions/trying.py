@@ -36,12 +36,14 @@ class Row(NamedTuple):
 
 
 class Turned(NamedTuple):
-    """A turned equation: its definition, which of its equations, how it is named, and the definition's whole text."""
+    """A turned equation: its definition, which of its equations, how it is named, and the definition's whole text. Where several are turned
+    at once, the texts of the other definitions too."""
 
     key: Key
     equation: int
     label: str
     text: str
+    others: tuple[tuple[Key, str], ...] = ()
 
     @property
     def place(self) -> str:
@@ -157,11 +159,33 @@ class Trials:
 
         return turning.Around(sibling, types_of, lambda name: self.names.is_constructor(key[:2], name))
 
+    def turner(self, key: Key) -> turning.Turner:
+        text = self.names.module(*key[:2]).definitions[key[2]]
+        return turning.Turner(text, self.machine.definition(key), self.types, self.around(key))
+
+    def turned_at_once(self, keys: Iterable[Key]) -> Iterator[Turned]:
+        """The definitions of each crate, with all of its texts compared in another way."""
+        texts: dict[tuple[str, str], list[tuple[Key, str]]] = {}
+        for key in keys:
+            turner = self.turner(key)
+            turner.all()
+            for way, turns in turner.compared.items():
+                text = turner.text
+                for it in sorted(turns, key=lambda it: -it.start):
+                    text = text[: it.start] + it.new + text[it.end :]
+                if turns and self.is_computed(key):
+                    texts.setdefault((key[0], way), []).append((key, text))
+        for (crate, way), those in texts.items():
+            if len(those) > 1:
+                (key, text), *others = those
+                yield Turned(key, 0, f"{crate}: all texts: compared by {way}", text, tuple(others))
+
     def turned(self, key: Key) -> Iterator[Turned]:
         """The turned equations of a definition."""
-        text = self.names.module(*key[:2]).definitions[key[2]]
+        turner = self.turner(key)
+        text = turner.text
         counts: Counter[str] = Counter()
-        for it in turning.Turner(text, self.machine.definition(key), self.types, self.around(key)).all():
+        for it in turner.all():
             label = f"{place_of(key)}: {key[2]} {it.equation + 1}: {flat(text[it.start : it.end])} => {flat(it.new)}"
             counts[label] += 1
             number = f" (place {counts[label]})" if counts[label] > 1 else ""
@@ -181,7 +205,7 @@ class Trials:
 
     def verdict(self, it: Turned) -> Verdict:
         """What the rows that rest on a turned equation say of it."""
-        return self.judged_with({it.key: it.text}, self.marks_of(it))
+        return self.judged_with({it.key: it.text} | dict(it.others), None if it.others else self.marks_of(it))
 
     def judged_with(self, texts: dict[Key, str], marks: Iterable[int] | None = None) -> Verdict:
         """What the rows say of definitions with these texts; `marks`: those of the changed equations, if the others are as they were."""

@@ -19,6 +19,13 @@ OVER_LISTS = {"map", "filter", "list_any", "list_all", "find", "length", "sum", 
 FRONTS = {True: 40, False: 3}  # how much of a list is taken: of bytes, and of others
 SIDES = {"&&": ("||",), "||": ("&&",), "+ℤ": ("-ℤ",), "-ℤ": ("+ℤ",), "+": (), "-": (), "++": (), "*": (), "/": (), "%": ()}
 CONSTANTS = {"Bool": ("true", "false"), "ℕ": ("0",)}
+# how else two texts are compared
+COMPARED = {
+    "their lengths": "(length {0} == length {1})",
+    "their first bytes": "(bytes_eq (take 1 {0}) (take 1 {1}))",
+    "their first 8 bytes": "(bytes_eq (take 8 {0}) (take 8 {1}))",
+    "all but their first bytes": "(bytes_eq (drop 1 {0}) (drop 1 {1}))",
+}
 
 
 class Turn(NamedTuple):
@@ -67,6 +74,7 @@ class Turner:
         self.text, self.definition, self.types = text, definition, types
         self.sibling, self.types_of, self.is_constructor = around
         self.turns: dict[Turn, None] = {}
+        self.compared: dict[str, list[Turn]] = {it: [] for it in COMPARED}  # (each place where texts are compared, in each of these ways)
         self.at, self.variables = 0, {}
 
     def said(self, it: Node) -> str:
@@ -198,8 +206,8 @@ class Turner:
                 self.add(it, self.closed(right))
             for other in SIDES[sign]:
                 self.add(it, f"({self.closed(left)} {other} {self.closed(right)})")
-        if sign == "++":
-            self.add(it, f"({self.closed(right)} ++ {self.closed(left)})")
+        if sign in ("++", "-", "-ℤ", "/", "%"):
+            self.add(it, f"({self.closed(right)} {sign} {self.closed(left)})")
         elif sign == "==":
             if right.parts != (0,):
                 self.add(it, f"(nat_le {self.closed(left)} {self.closed(right)})")
@@ -254,6 +262,8 @@ class Turner:
             self.of_refusal(it, *refusal)
         elif name == "not":
             self.add(it, self.closed(arguments[0]))
+        elif name == "bytes_eq":
+            self.of_compared(it, arguments)
         elif name in ("filter", "reverse", "take", "drop"):
             self.add(it, self.closed(arguments[-1]))
         if name in OVER_LISTS and (len(arguments) > 1 or name in ("length", "sum", "reverse")):
@@ -261,6 +271,14 @@ class Turner:
         said = self.types_of(name) if function.kind in ("name", "field") else None
         if said:
             self.of_arguments(it, [plain(one) for one in said[:-1]], arguments)
+
+    def of_compared(self, it: Node, texts: tuple[Node, ...]) -> None:
+        """Two texts, of which the second may come later, compared by another thing than all of them."""
+        first, second = (*map(self.closed, texts), "other")[:2]
+        for way, said in COMPARED.items():
+            new = said.format(first, second) if len(texts) == 2 else f"(λ (other : List ℕ). {said.format(first, second)})"
+            self.add(it, new)
+            self.compared[way].append(Turn(self.at, it.start, it.end, new))
 
     def of_arguments(self, it: Node, said: list[str], arguments: tuple[Node, ...]) -> None:
         """Two arguments of a type in each other's place, or a front of a list."""

@@ -1,5 +1,5 @@
 -- The replies of a run, channel by channel.
-use Rattle.std.proofs.Common.{List, [], ◌∷◌, refl, sym, subst, inl, inr, arith}
+use Rattle.std.proofs.Common.{List, [], ◌∷◌, refl, sym, subst, inl, inr}
 use Rattle.http_edge.specs.Edges.{NamedChannel}
 use Rattle.http_edge.specs.Served.{IsServed}
 use Rattle.http_edge.specs.Isolation.{Exchange}
@@ -37,4 +37,13 @@ exchanged first [] last h = record { exchanges = []; asked = refl; run = h }
 exchanged first (s ∷ before) last h = with_one first h.0 last s before (exchanged first before h.0 h.1) h.2
 
 pub clients_are_isolated : ClientsAreIsolated
-clients_are_isolated first last events vacant new run = grind (arith, served, exchanged, isolated_runs)
+clients_are_isolated first last events vacant new run =
+    let it = served first last events vacant run in
+    let them = exchanged first.edge it.services last.edge it.turns in record {
+      services = it.services;
+      pieces = it.pieces;
+      each = it.each;
+      exchanges = them.exchanges;
+      asked = them.asked;
+      isolated = λ name. isolated_runs name first.edge last.edge them.exchanges new them.run;
+    }

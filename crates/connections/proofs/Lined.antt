@@ -1,6 +1,6 @@
 -- Who stands in line comes nearer with each call.
-use Rattle.std.proofs.Common.{◌≡◌, ℕ, ◌+◌, ◌≤◌, ◌==◌, Bool, true, false, cond, List, [], ◌∷◌, ◌++◌, drop, filter, refl, sym, arith, true≢false}
-use Rattle.connections.specs.Lines.{is_in_line, is_other, is_first, ahead, LineEvent, joins, leaves, calls, line_after, calls_in, Waits, LineIsKept}
+use Rattle.std.proofs.Common.{◌≡◌, ℕ, ◌+◌, ◌≤◌, ◌==◌, Bool, true, false, cond, List, [], ◌∷◌, ◌++◌, drop, filter, length, refl, sym, arith, true≢false}
+use Rattle.connections.specs.Lines.{is_in_line, is_other, is_first, ahead, LineEvent, joins, leaves, calls, line_after, calls_in, Waits, CallEach, events_in, RoundsAreFew, LineIsKept}
 
 -- ---- one joins
 
@@ -47,3 +47,18 @@ nearer place line (calls ∷ before) waits =
 
 pub line_is_kept : LineIsKept
 line_is_kept place line events waits = grind (arith, nearer)
+
+-- ---- rounds
+
+calls_of_both : (round before : List LineEvent) → calls_in (round ++ before) ≡ calls_in round + calls_in before
+calls_of_both [] before = grind arith
+calls_of_both (joins k ∷ round) before = calls_of_both round before
+calls_of_both (leaves k ∷ round) before = calls_of_both round before
+calls_of_both (calls ∷ round) before = grind (arith, calls_of_both round before)
+
+one_each : (rounds : List (List LineEvent)) → CallEach rounds → length rounds ≤ calls_in (events_in rounds)
+one_each [] each = omega arith
+one_each (round ∷ before) each = let rest = one_each before each.1 in let all = calls_of_both round (events_in before) in omega (arith, rest, all, each.0)
+
+pub rounds_are_few : RoundsAreFew
+rounds_are_few place line rounds each waits = omega (arith, one_each rounds each, line_is_kept place line (events_in rounds) waits)

@@ -1,6 +1,6 @@
--- A reply grows shorter with each turn that goes on.
+-- A reply grows shorter, and what was read of a request longer, with each turn that goes on.
 use Rattle.std.proofs.Common.{◌≡◌, ℕ, zero, suc, List, [], ◌∷◌, ap, arith}
-use Rattle.connections.specs.Clients.{AreElsewhere, RepliesAreSent, WentOn}
+use Rattle.connections.specs.Clients.{AreElsewhere, RepliesAreSent, RequestsAreHeard, WentOn}
 use Rattle.connections.specs.Runs.{EventsLeadTo}
 use Rattle.connections.specs.Table.{State, ClientEvent, arrival, request_bytes, reply_bytes, departure, at}
 
@@ -9,8 +9,13 @@ stays_elsewhere : (place : ℕ) (first last : State) (events : List ClientEvent)
 stays_elsewhere place first last [] run others = ap (λ s. at s place) run
 stays_elsewhere place first last (arrival k ∷ before) (middle, run, h) others = grind (arith, stays_elsewhere place first middle before run others.1)
 stays_elsewhere place first last (request_bytes k piece ∷ before) (middle, run, h) others = grind (arith, stays_elsewhere place first middle before run others.1)
-stays_elsewhere place first last (reply_bytes k count ∷ before) (middle, run, h) others = grind (arith, stays_elsewhere place first middle before run others.1)
+stays_elsewhere place first last (reply_bytes k piece ∷ before) (middle, run, h) others = grind (arith, stays_elsewhere place first middle before run others.1)
 stays_elsewhere place first last (departure k ∷ before) (middle, run, h) others = grind (arith, stays_elsewhere place first middle before run others.1)
+
+pub requests_are_heard : RequestsAreHeard
+unfolding WentOn
+requests_are_heard zero place old new same = grind arith
+requests_are_heard (suc n) place old new (before, middle, events, went, run, others, read) = grind (arith, stays_elsewhere, requests_are_heard n place old before went)
 
 pub replies_are_sent : RepliesAreSent
 unfolding WentOn

@@ -12,7 +12,7 @@ use Rattle.connections.specs.Devices.{DeviceStand, AreNext}
 use Rattle.connections.specs.Limits.{reads_in_turn, writes_in_turn}
 use Rattle.connections.specs.Runs.{EventsLeadTo}
 use Rattle.connections.specs.Table.{State, ClientEvent, arrival, request_bytes, reply_bytes, departure, at, left_of, part_of_request}
-use Rattle.connections.specs.Turns.{MovedEach, HasListened, HasListenedUntil, HasNoMore, HasSpoken, HasSpokenUntil, is_client_read_out}
+use Rattle.connections.specs.Turns.{AreRead, MovedEach, HasListened, HasListenedUntil, HasNoMore, HasSpoken, HasSpokenUntil, is_client_read_out}
 
 -- its device, its place, whether its end alone is awaited, and whether the system was asked to tell of it
 pub record ClientAt (X : Type 0) : Type 0 where
@@ -90,16 +90,20 @@ abbrev pub AreElsewhere : ℕ → List ClientEvent → Type 0
 AreElsewhere place [] = Unit {0}
 AreElsewhere place (arrival k ∷ before) = (place ≢ k) × AreElsewhere place before
 AreElsewhere place (request_bytes k piece ∷ before) = (place ≢ k) × AreElsewhere place before
-AreElsewhere place (reply_bytes k count ∷ before) = (place ≢ k) × AreElsewhere place before
+AreElsewhere place (reply_bytes k piece ∷ before) = (place ≢ k) × AreElsewhere place before
 AreElsewhere place (departure k ∷ before) = (place ≢ k) × AreElsewhere place before
 
--- so many turns of a client that is answered went on; before each of them others may have had theirs
-unfoldable pub WentOn : ℕ → ℕ → State → State → Type 0
-WentOn zero place old new = new ≡ old
-WentOn (suc n) place old new =
+-- so many turns of a client went on, in each of which this was done; before each of them others may have had theirs
+unfoldable pub WentOn : (ℕ → State → State → Type 0) → ℕ → ℕ → State → State → Type 0
+WentOn Moves zero place old new = new ≡ old
+WentOn Moves (suc n) place old new =
     (before middle : State) × (events : List ClientEvent)
-    × WentOn n place old before × EventsLeadTo before events middle × AreElsewhere place events × AreSent writes_in_turn place middle new
+    × WentOn Moves n place old before × EventsLeadTo before events middle × AreElsewhere place events × Moves place middle new
 
 -- after so many turns that went on, four times as many bytes of the reply are gone, at least
 abbrev pub RepliesAreSent : Type 0
-RepliesAreSent = (turns place : ℕ) (old new : State) → WentOn turns place old new → AreSent (writes_in_turn * turns) place old new
+RepliesAreSent = (turns place : ℕ) (old new : State) → WentOn (AreSent writes_in_turn) turns place old new → AreSent (writes_in_turn * turns) place old new
+
+-- after so many turns that left a client asking, four times as many bytes of its request are there, at least
+abbrev pub RequestsAreHeard : Type 0
+RequestsAreHeard = (turns place : ℕ) (old new : State) → WentOn (AreRead reads_in_turn) turns place old new → AreRead (reads_in_turn * turns) place old new

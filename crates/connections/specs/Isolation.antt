@@ -6,7 +6,7 @@ use Rattle.http_messages.specs.Replies.{refusal_reply, sends_body, text_sent}
 use Rattle.http_edge.specs.Edges.{RepresentsRequests}
 use Rattle.http_edge.specs.Isolation.{Exchange, IsIsolatedIn}
 use Rattle.connections.specs.Table.{State, at, ClientEvent}
-use Rattle.connections.specs.Runs.{Service, AreOf, ConversationStandsAt, EventsLeadTo}
+use Rattle.connections.specs.Runs.{Service, AreOf, AreServed, AtEachFront, EventsLeadTo}
 
 -- the service's bytes ask this request, and its text is that of this reply
 pub record IsExchange (s : Service) (e : Exchange) : Type 0 where
@@ -25,12 +25,12 @@ AreExchanges [] exchanges = exchanges ≡ []
 AreExchanges (s ∷ before) [] = IsRefusal s × AreExchanges before []
 AreExchanges (s ∷ before) (e ∷ earlier) = (IsExchange s e × AreExchanges before earlier) ⊎ (IsRefusal s × AreExchanges before (e ∷ earlier))
 
--- each client is sent the reply to what it said itself; and on each channel these replies, except 503, are those that the requests
--- on this channel alone are owed, in the order in which they became whole
-pub record IsIsolatedRun (events : List ClientEvent) (last : State) : Type 0 where
+-- each client is sent the reply to what it said itself, at each front of the run; and on each channel these replies, except 503, are those
+-- that the requests on this channel alone are owed, in the order in which they became whole
+pub record IsIsolatedRun (first : State) (events : List ClientEvent) (last : State) (run : EventsLeadTo first events last) : Type 0 where
   pub services : List Service
   pub pieces : AreOf events services
-  pub each : (place : ℕ) → ConversationStandsAt place events services (at last place)
+  pub each : AtEachFront (AreServed services) first events last run
   pub exchanges : List Exchange
   pub asked : AreExchanges services exchanges
   pub isolated : (name : List ℕ) → IsIsolatedIn name exchanges
@@ -38,4 +38,5 @@ pub record IsIsolatedRun (events : List ClientEvent) (last : State) : Type 0 whe
 -- whatever clients come, say, take and leave, from an edge that stands for no request and nobody there on
 abbrev pub ClientsAreIsolated : Type 0
 ClientsAreIsolated =
-    (first last : State) (events : List ClientEvent) → ((place : ℕ) → at first place ≡ None) → RepresentsRequests first.edge [] → EventsLeadTo first events last → IsIsolatedRun events last
+    (first last : State) (events : List ClientEvent) → ((place : ℕ) → at first place ≡ None) → RepresentsRequests first.edge [] → (run : EventsLeadTo first events last)
+    → IsIsolatedRun first events last run

@@ -24,6 +24,10 @@ reads_in_turn = 4
 abbrev pub writes_in_turn : ℕ
 writes_in_turn = 4
 
+-- how many bytes are written at once at the most
+abbrev pub most_written : ℕ
+most_written = 65536
+
 -- how often what it still sends is passed over
 abbrev pub drains_in_turn : ℕ
 drains_in_turn = 32

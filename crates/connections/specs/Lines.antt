@@ -1,5 +1,5 @@
 -- Those that stand in line for their turn.
-use Rattle.std.specs.Prelude.{◌≡◌, ℕ, ◌+◌, ◌≤◌, ◌==◌, ◌||◌, Bool, true, false, not, List, [], ◌∷◌, ◌++◌, drop, filter, Option, Some, None, if◌then◌else◌}
+use Rattle.std.specs.Prelude.{◌≡◌, ℕ, ◌+◌, ◌≤◌, ◌==◌, ◌||◌, Bool, true, false, not, List, [], ◌∷◌, ◌++◌, drop, filter, length, Option, Some, None, if◌then◌else◌}
 
 -- ---- a line, the first one first
 
@@ -66,6 +66,20 @@ concerns place calls line = is_first place line
 abbrev pub Waits : ℕ → List ℕ → List LineEvent → Type 0
 Waits place line [] = is_in_line place line ≡ true
 Waits place line (e ∷ before) = Waits place line before × (concerns place e (line_after line before) ≡ false)
+
+-- in each of these rounds one is called, at least
+abbrev pub CallEach : List (List LineEvent) → Type 0
+CallEach [] = Unit {0}
+CallEach (round ∷ before) = (1 ≤ calls_in round) × CallEach before
+
+-- what happens in rounds, the newest first
+abbrev pub events_in : List (List LineEvent) → List LineEvent
+events_in [] = []
+events_in (round ∷ before) = round ++ events_in before
+
+-- while a client waits, no more rounds go by than clients stood before it, if one is called in each: so it is called in the next one
+abbrev pub RoundsAreFew : Type 0
+RoundsAreFew = (place : ℕ) (line : List ℕ) (rounds : List (List LineEvent)) → CallEach rounds → Waits place line (events_in rounds) → length rounds ≤ ahead place line
 
 -- while a client waits, no more calls are made than clients stood before it: so none that joined later is called before it
 abbrev pub LineIsKept : Type 0

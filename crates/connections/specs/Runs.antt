@@ -1,5 +1,5 @@
 -- Runs of any number of connections: what happens one after another, and what each one is answered.
-use Rattle.std.specs.Prelude.{◌≡◌, ℕ, ◌+◌, ◌==◌, List, [], ◌∷◌, ◌++◌, drop, Option, Some, None, if◌then◌else◌, ◌⊎◌}
+use Rattle.std.specs.Prelude.{◌≡◌, ℕ, ◌+◌, ◌==◌, List, [], ◌∷◌, ◌++◌, Option, Some, None, if◌then◌else◌, ◌⊎◌}
 use Rattle.http_messages.specs.Requests.{IsUnfinished}
 use Rattle.http_edge.specs.Edges.{NamedChannel}
 use Rattle.http_edge.specs.Served.{IsServed}
@@ -14,7 +14,7 @@ abbrev pub visits : ℕ → List ClientEvent → ℕ
 visits place [] = 0
 visits place (arrival k ∷ before) = if k == place then visits place before + 1 else visits place before
 visits place (request_bytes k piece ∷ before) = visits place before
-visits place (reply_bytes k count ∷ before) = visits place before
+visits place (reply_bytes k bytes ∷ before) = visits place before
 visits place (departure k ∷ before) = visits place before
 
 -- what the last of them said since it came
@@ -22,16 +22,16 @@ abbrev pub said : ℕ → List ClientEvent → List ℕ
 said place [] = []
 said place (arrival k ∷ before) = if k == place then [] else said place before
 said place (request_bytes k piece ∷ before) = if k == place then said place before ++ piece else said place before
-said place (reply_bytes k count ∷ before) = said place before
+said place (reply_bytes k bytes ∷ before) = said place before
 said place (departure k ∷ before) = said place before
 
--- how many bytes it took of its reply
-abbrev pub reply_bytes_taken : ℕ → List ClientEvent → ℕ
-reply_bytes_taken place [] = 0
-reply_bytes_taken place (arrival k ∷ before) = if k == place then 0 else reply_bytes_taken place before
-reply_bytes_taken place (request_bytes k piece ∷ before) = reply_bytes_taken place before
-reply_bytes_taken place (reply_bytes k count ∷ before) = if k == place then reply_bytes_taken place before + count else reply_bytes_taken place before
-reply_bytes_taken place (departure k ∷ before) = reply_bytes_taken place before
+-- what it was sent of its reply
+abbrev pub was_sent : ℕ → List ClientEvent → List ℕ
+was_sent place [] = []
+was_sent place (arrival k ∷ before) = if k == place then [] else was_sent place before
+was_sent place (request_bytes k piece ∷ before) = was_sent place before
+was_sent place (reply_bytes k bytes ∷ before) = if k == place then was_sent place before ++ bytes else was_sent place before
+was_sent place (departure k ∷ before) = was_sent place before
 
 -- ---- what is served
 
@@ -59,7 +59,7 @@ pub record IsNewly (k : ℕ) (piece : List ℕ) (before : List ClientEvent) (s :
 abbrev pub AreOf : List ClientEvent → List Service → Type 0
 AreOf [] services = services ≡ []
 AreOf (arrival k ∷ before) services = AreOf before services
-AreOf (reply_bytes k count ∷ before) services = AreOf before services
+AreOf (reply_bytes k bytes ∷ before) services = AreOf before services
 AreOf (departure k ∷ before) services = AreOf before services
 AreOf (request_bytes k piece ∷ before) [] = AreOf before []
 AreOf (request_bytes k piece ∷ before) (s ∷ earlier) = AreOf before (s ∷ earlier) ⊎ (IsNewly k piece before s × AreOf before earlier)
@@ -74,9 +74,9 @@ IsOneOf s (one ∷ more) = (s ≡ one) ⊎ IsOneOf s more
 pub record IsAsking (place : ℕ) (events : List ClientEvent) (bytes : List ℕ) : Type 0 where
   pub all : bytes ≡ said place events
   pub unfinished : IsUnfinished bytes
-  pub untaken : reply_bytes_taken place events ≡ 0
+  pub unsent : was_sent place events ≡ []
 
--- it was served by what it said first itself, and is still owed all of that reply that it didn't take
+-- it was served by what it said first itself: the text of its reply is what it was sent, and then what is left
 pub record HasReply (place : ℕ) (events : List ClientEvent) (services : List Service) (rest : List ℕ) (status : ℕ) : Type 0 where
   pub service : Service
   pub one : IsOneOf service services
@@ -85,7 +85,7 @@ pub record HasReply (place : ℕ) (events : List ClientEvent) (services : List S
   pub more : List ℕ
   pub said_is : said place events ≡ service.bytes ++ more
   pub status_is : status ≡ service.status
-  pub rest_is : rest ≡ drop (reply_bytes_taken place events) service.text
+  pub text_is : service.text ≡ was_sent place events ++ rest
 
 abbrev pub ConversationStandsAt : ℕ → List ClientEvent → List Service → Option Conversation → Type 0
 ConversationStandsAt place events services None = Unit {0}
@@ -103,14 +103,24 @@ pub record HasRun (old new : State) : Type 0 where
   pub events : List ClientEvent
   pub run : EventsLeadTo old events new
 
--- all that was served, in the order in which it became whole, and each connection by itself
-pub record IsServedRun (first : State) (events : List ClientEvent) (last : State) : Type 0 where
+-- it is so of each front of a run and of what this led to
+abbrev pub AtEachFront : (List ClientEvent → State → Type 0) → (first : State) (events : List ClientEvent) (last : State) → EventsLeadTo first events last → Type 0
+AtEachFront P first [] last run = P [] last
+AtEachFront P first (e ∷ before) last run = AtEachFront P first before run.0 run.1 × P (e ∷ before) last
+
+-- each connection stands as these services say
+abbrev pub AreServed : List Service → List ClientEvent → State → Type 0
+AreServed services events s = (place : ℕ) → ConversationStandsAt place events services (at s place)
+
+-- all that was served, in the order in which it became whole; and each connection by itself at each front of the run, so also who
+-- has gone since
+pub record IsServedRun (first : State) (events : List ClientEvent) (last : State) (run : EventsLeadTo first events last) : Type 0 where
   pub services : List Service
   pub turns : InTurn first.edge services last.edge
   pub pieces : AreOf events services
-  pub each : (place : ℕ) → ConversationStandsAt place events services (at last place)
+  pub each : AtEachFront (AreServed services) first events last run
 
 -- whatever happens, from no connections on
 abbrev pub ConnectionsAreServed : Type 0
 ConnectionsAreServed =
-    (first last : State) (events : List ClientEvent) → ((place : ℕ) → at first place ≡ None) → EventsLeadTo first events last → IsServedRun first events last
+    (first last : State) (events : List ClientEvent) → ((place : ℕ) → at first place ≡ None) → (run : EventsLeadTo first events last) → IsServedRun first events last run

@@ -1,5 +1,5 @@
 -- The connections by their places, and what happens to them.
-use Rattle.std.specs.Prelude.{◌≡◌, ◌≢◌, ℕ, ◌≤◌, List, [], drop, length, slice_index_or, Option, Some, None, sum_by}
+use Rattle.std.specs.Prelude.{◌≡◌, ◌≢◌, ℕ, List, [], ◌++◌, length, slice_index_or, Option, Some, None, sum_by}
 use Rattle.http_edge.specs.Edges.{NamedChannel}
 use Rattle.connections.specs.declared.conversation.Conversation.{Conversation}
 use Rattle.connections.specs.declared.conversation.Conversation.TheVariants.{Asking, Answering}
@@ -51,8 +51,8 @@ pub data ClientEvent : Type 0 where
   arrival : ℕ → ClientEvent
   -- it gave its next bytes
   request_bytes : ℕ → List ℕ → ClientEvent
-  -- it took so many bytes of its reply
-  reply_bytes : ℕ → ℕ → ClientEvent
+  -- it was sent these bytes of its reply
+  reply_bytes : ℕ → List ℕ → ClientEvent
   -- it went, or was given up
   departure : ℕ → ClientEvent
 
@@ -68,15 +68,15 @@ ConversationGoesOn None old place piece new = PutsAtPlace old new place None × 
 ConversationGoesOn (Some conversation) old place piece new =
     (after : Conversation) × Goes conversation piece old.edge new.edge after × PutsAtPlace old new place (Some after)
 
--- so many bytes of the reply are gone
-abbrev pub taken_of : ℕ → Option Conversation → Option Conversation
-taken_of count (Some (Answering rest status)) = Some (Answering (drop count rest) status)
-taken_of count None = None
-taken_of count (Some (Asking bytes pieces)) = Some (Asking bytes pieces)
+-- this is left of the reply
+abbrev pub with_left : List ℕ → Option Conversation → Option Conversation
+with_left rest (Some (Answering before status)) = Some (Answering rest status)
+with_left rest None = None
+with_left rest (Some (Asking bytes pieces)) = Some (Asking bytes pieces)
 
 abbrev pub Happens : State → ClientEvent → State → Type 0
 Happens old (arrival place) new = PutsAtPlace old new place (Some (Asking [] 0)) × (new.edge ≡ old.edge)
 Happens old (request_bytes place piece) new = ConversationGoesOn (at old place) old place piece new
-Happens old (reply_bytes place count) new =
-    (count ≤ length (left_of (at old place))) × PutsAtPlace old new place (taken_of count (at old place)) × (new.edge ≡ old.edge)
+Happens old (reply_bytes place bytes) new =
+    (rest : List ℕ) × (left_of (at old place) ≡ bytes ++ rest) × PutsAtPlace old new place (with_left rest (at old place)) × (new.edge ≡ old.edge)
 Happens old (departure place) new = PutsAtPlace old new place None × (new.edge ≡ old.edge)

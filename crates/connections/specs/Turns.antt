@@ -1,5 +1,5 @@
 -- What went through a client's device in its turn.
-use Rattle.std.specs.Prelude.{◌≡◌, ℕ, zero, suc, ◌<◌, ◌==◌, Bool, true, false, ◌++◌, List, [], ◌∷◌, map, take, drop, Option, Some, None, ◌⊎◌}
+use Rattle.std.specs.Prelude.{◌≡◌, ℕ, zero, suc, ◌+◌, ◌<◌, ◌≤◌, ◌==◌, Bool, true, false, ◌++◌, List, [], ◌∷◌, length, map, Option, Some, None, ◌⊎◌}
 use Rattle.std.specs.Io.KnownBytes.{Consumes, Appends}
 use Rattle.http_edge.specs.declared.serving.EdgeFault.{EdgeFault}
 use Rattle.connections.specs.declared.devices.Passage.{Passage}
@@ -7,7 +7,8 @@ use Rattle.connections.specs.declared.devices.Passage.TheVariants.{Bytes, WouldW
 use Rattle.connections.specs.declared.turns.Turn.{Turn}
 use Rattle.connections.specs.declared.turns.Turn.TheVariants.{Waits, Goes, Full, Done, Failed}
 use Rattle.connections.specs.Devices.{DeviceStand, Calls, one_call}
-use Rattle.connections.specs.Table.{State, at, left_of, request_bytes, reply_bytes, departure, Happens}
+use Rattle.connections.specs.Table.{State, at, left_of, part_of_request, request_bytes, reply_bytes, departure, Happens}
+use Rattle.connections.specs.Limits.{reads_in_turn}
 use Rattle.connections.specs.Runs.{EventsLeadTo}
 use Rattle.connections.specs.Arrivals.{is_asking}
 use Rattle.connections.specs.Wires.{GoesHeard, GoesTold}
@@ -53,6 +54,19 @@ pub record HasListened (reader_old reader_new : DeviceStand) (place : ℕ) (old 
   pub given : Consumes reader_old.bytes reader_new.bytes (bytes_of_pieces pieces)
   pub run : SaidWhileAsking place old pieces new
 
+-- of its request so many bytes more were read, at least
+abbrev pub AreRead : ℕ → ℕ → State → State → Type 0
+AreRead count place old new = length (part_of_request (at old place)) + count ≤ length (part_of_request (at new place))
+
+-- how far a client that asks still was heard in its turn: its last read would have to wait, or each read gave bytes of its request, or
+-- there is no room for more
+abbrev pub IsHeardOut : Turn → Option Passage → ℕ → State → State → Type 0
+IsHeardOut Waits last place old new = last ≡ Some WouldWait
+IsHeardOut Goes last place old new = AreRead reads_in_turn place old new
+IsHeardOut Full last place old new = Unit {0}
+IsHeardOut Done last place old new = ⊥
+IsHeardOut (Failed fault) last place old new = ⊥
+
 -- so it was until the last call, after which the client went for this fault
 pub record HasListenedUntil (fault : EdgeFault) (reader_old reader_new : DeviceStand) (place : ℕ) (old new : State) : Type 0 where
   pub reader : DeviceStand
@@ -63,13 +77,13 @@ pub record HasListenedUntil (fault : EdgeFault) (reader_old reader_new : DeviceS
 
 -- ---- speaking
 
--- the writer took some bytes, which are the first of what was left of the reply at this place, and are left no more
+-- the writer took some pieces, and they are what the client at this place was sent, in the same order: the first bytes of what was
+-- left of its reply
 pub record HasSpoken (writer_old writer_new : DeviceStand) (place : ℕ) (old new : State) : Type 0 where
-  pub count : ℕ
-  pub taken : Appends writer_old.bytes writer_new.bytes (take count (left_of (at old place)))
-  pub left : left_of (at new place) ≡ drop count (left_of (at old place))
-  pub counts : List ℕ
-  pub run : EventsLeadTo old (map (reply_bytes place) counts) new
+  pub pieces : List (List ℕ)
+  pub taken : Appends writer_old.bytes writer_new.bytes (bytes_of_pieces pieces)
+  pub left : left_of (at old place) ≡ bytes_of_pieces pieces ++ left_of (at new place)
+  pub run : EventsLeadTo old (map (reply_bytes place) pieces) new
 
 -- so it was until the last call, after which the client went for this fault
 pub record HasSpokenUntil (fault : EdgeFault) (writer_old writer_new : DeviceStand) (place : ℕ) (old new : State) : Type 0 where

@@ -1,5 +1,5 @@
 -- What went through a client's socket.
-use Rattle.std.specs.Prelude.{◌≡◌, ℕ, ◌<◌, ◌⊎◌, List, take, length, Option}
+use Rattle.std.specs.Prelude.{◌≡◌, ℕ, ◌<◌, ◌≤◌, ◌⊎◌, List, length, Option}
 use Rattle.std.specs.Io.KnownBytes.{Keeps, Consumes, Appends, IsAtEnd}
 use Rattle.http_edge.specs.declared.serving.EdgeFault.{EdgeFault}
 use Rattle.http_edge.specs.declared.serving.EdgeFault.TheVariants as ends
@@ -10,7 +10,8 @@ use Rattle.connections.specs.declared.wire.Moved.{Moved}
 use Rattle.connections.specs.declared.wire.Moved.TheVariants.{Some, Waits, Nothing, Full, Failed}
 use Rattle.connections.specs.Devices.{DeviceStand, one_call}
 use Rattle.connections.specs.Conversing.{HasTooManyAt}
-use Rattle.connections.specs.Table.{State, at, left_of, request_bytes, reply_bytes, Happens}
+use Rattle.connections.specs.Limits.{most_written}
+use Rattle.connections.specs.Table.{State, request_bytes, reply_bytes, Happens}
 
 -- ---- one call
 
@@ -20,11 +21,11 @@ pub record GavePiece (old new : DeviceStand) (piece : List ℕ) : Type 0 where
   pub some : 0 < length piece
   pub one : new.calls ≡ one_call (Bytes (length piece)) old.calls
 
--- one write took so many bytes of these, from the first one on
-pub record TookFirst (old new : DeviceStand) (count : ℕ) (bytes : List ℕ) : Type 0 where
-  pub taken : Appends old.bytes new.bytes (take count bytes)
-  pub some : 0 < count
-  pub one : new.calls ≡ one_call (Bytes count) old.calls
+-- one write took this piece
+pub record TookPiece (old new : DeviceStand) (piece : List ℕ) : Type 0 where
+  pub taken : Appends old.bytes new.bytes piece
+  pub some : 0 < length piece
+  pub one : new.calls ≡ one_call (Bytes (length piece)) old.calls
 
 -- one call came to this, and moved nothing
 pub record MovedNothing (passage : Passage) (old new : DeviceStand) : Type 0 where
@@ -50,11 +51,12 @@ GoesHeard ends.Write old new it = ⊥
 
 -- ---- saying
 
--- the writer took the first bytes of what was left of the reply at this place
+-- the writer took a piece, which isn't too long, and it is what the client at this place was sent of its reply
 pub record HasSaid (writer_old writer_new : DeviceStand) (place : ℕ) (old new : State) : Type 0 where
-  pub count : ℕ
-  pub took_it : TookFirst writer_old writer_new count (left_of (at old place))
-  pub happens : Happens old (reply_bytes place count) new
+  pub piece : List ℕ
+  pub took_it : TookPiece writer_old writer_new piece
+  pub short : length piece ≤ most_written
+  pub happens : Happens old (reply_bytes place piece) new
 
 -- why a client goes that was told of its reply: the write failed, or took nothing
 abbrev pub GoesTold : EdgeFault → DeviceStand → DeviceStand → Type 0

@@ -6,7 +6,7 @@ ghost use Rattle.connections.specs.Clients.{AreSent, ConnectionHasEnded, HasGive
 ghost use Rattle.connections.specs.Limits.{most_held, drains_in_turn, writes_in_turn};
 ghost use Rattle.connections.specs.Runs.{HasRun};
 ghost use Rattle.connections.specs.Table.{Happens, at, departure, held_in, left_of};
-ghost use Rattle.connections.specs.Turns.{HasNoMore, IfGone, MovedEach, Stays};
+ghost use Rattle.connections.specs.Turns.{HasNoMore, IfGone, IsHeardOut, MovedEach, Stays};
 
 use crate::devices::{Ending, Incoming, Looking, Outgoing, Passage, Socket};
 use crate::line::{Call, When};
@@ -177,7 +177,7 @@ impl<T: Looking> Client<T> {
 impl<T: Incoming + Outgoing> Client<T> {
     #[tactic(auto, using(crate::proofs::Leading::and_then))]
     /// Gives the client its turn, to which it has a `call`: it is heard until its request is whole, then its reply is written, and once it is
-    /// ending what it sends is passed over. `connections` have what it said and what is left of its reply; `block` is room
+    /// ending what it sends is passed over. A client that asks still would have to wait, has no room, or gave bytes at each of 4 reads. `connections` have what it said and what is left of its reply; `block` is room
     /// for a read.
     pub fn take_turn(
         &mut self,
@@ -204,6 +204,12 @@ impl<T: Incoming + Outgoing> Client<T> {
             left_of (at connections.new self.old.place) ≡ [] }
         ensures full { result ≡ Turn.Full →
             most_held < held_in connections.new.places + length block.old }
+
+        // Who asks still was heard as far as it could be.
+        ensures heard { self.old.is_ending ≡ false →
+            is_asking (at connections.new self.old.place) ≡ true →
+            IsHeardOut result (T.Incoming.stand self.new.device).calls.last
+            self.old.place connections.old connections.new }
 
         // A turn that goes on has moved bytes at each call.
         ensures moved { self.old.is_ending ≡ false → result ≡ Turn.Goes →

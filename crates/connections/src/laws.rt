@@ -1,18 +1,20 @@
 //! Laws on runs of many connections.
-ghost use Rattle.connections.specs.Clients.{RepliesAreSent};
+ghost use Rattle.connections.specs.Clients.{RepliesAreSent, RequestsAreHeard};
 ghost use Rattle.connections.specs.Runs.{ConnectionsAreServed};
 ghost use Rattle.connections.specs.Isolation.{ClientsAreIsolated};
-ghost use Rattle.connections.specs.Lines.{LineIsKept};
+ghost use Rattle.connections.specs.Lines.{LineIsKept, RoundsAreFew};
 
 /// Whatever clients come, say, take and leave, in any order: each is answered as `serve` answers what it said itself, in
-/// the order in which the requests became whole, and is sent that reply from its begin on and nothing else.
+/// the order in which the requests became whole, and is sent that reply from its begin on and nothing else. So it is at each
+/// moment of the run, by one list of what was served: also of those that have gone since.
 pub fn connections_are_served()
     ensures { ConnectionsAreServed }
 {}
 
 /// Whatever clients come, say, take and leave, in any order, from a new edge on: a client's reply is that to what it said
 /// itself, and depends on nothing else but the requests to its channel that became whole before it. What was answered 503
-/// counts for nothing.
+/// counts for nothing. One list of what was asked and answered is for each moment of the run: who was sent a reply and has
+/// gone since is in it.
 pub fn clients_are_isolated()
     ensures { ClientsAreIsolated }
 {}
@@ -22,6 +24,19 @@ pub fn clients_are_isolated()
 /// reply, waits for its own socket, or is gone.
 pub fn replies_are_sent()
     ensures { RepliesAreSent }
+{}
+
+/// Whatever others do meanwhile, a turn that leaves a client asking (`Turn::Goes`) leaves at least 4 bytes more of its request
+/// in the table: so a client whose request has so many bytes has it whole after at most a fourth as many turns, unless it has to
+/// be waited for, has no room or is gone.
+pub fn requests_are_heard()
+    ensures { RequestsAreHeard }
+{}
+
+/// If in each round one of those is called that stand in line, whoever stands there is called in the round after as many as
+/// stood before it, at the latest.
+pub fn rounds_are_few()
+    ensures { RoundsAreFew }
 {}
 
 /// Whoever stands in line is called after those that stood before it, and before all that join later: while it waits no

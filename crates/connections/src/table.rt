@@ -1,5 +1,5 @@
 //! The connections by their places.
-ghost use Rattle.std.specs.Prelude.{◌≡◌, ◌<◌, ◌≤◌, ◌+◌, ◌++◌, [], true, None, Some, Decides, length, replicate, IfOk, IfErr, OnOk, OnErr, IsErrOf};
+ghost use Rattle.std.specs.Prelude.{◌≡◌, ◌<◌, ◌≤◌, ◌+◌, ◌++◌, [], true, None, Some, Decides, length, take, drop, replicate, IfOk, IfErr, OnOk, OnErr, IsErrOf};
 ghost use Rattle.http_edge.specs.Edges.{RepresentsRequests};
 ghost use Rattle.http_edge.specs.Served.{BeginsWithRead};
 ghost use Rattle.http_edge.specs.declared.serving.EdgeFault.TheVariants.{TooManyReads};
@@ -8,7 +8,7 @@ ghost use Rattle.connections.specs.Inner.Giving.{IsFaultOfGiving};
 ghost use Rattle.connections.specs.Inner.Reads.{is_playlist_read_by_client};
 ghost use Rattle.connections.specs.Limits.{most_held, place_count};
 ghost use Rattle.connections.specs.Arrivals.{is_asking};
-ghost use Rattle.connections.specs.Table.{at, held_of, held_in, left_of, part_of_request, taken_of, phase_of, PutsAtPlace, Happens};
+ghost use Rattle.connections.specs.Table.{at, held_of, held_in, left_of, part_of_request, with_left, phase_of, PutsAtPlace, Happens};
 ghost use Rattle.connections.specs.Table.{arrival, request_bytes, reply_bytes, departure};
 ghost use Rattle.connections.specs.Seats.{places_below};
 
@@ -227,10 +227,12 @@ impl Connections {
         }
     }
 
-    /// The client at `seat` took `count` bytes more of its reply.
+    /// The client at `seat` took the next `count` bytes of its reply.
     pub(crate) fn advance<T>(&mut self, seat: &Seat<T>, count: usize)
         requires { count ≤ length (left_of (at self.old seat.now)) }
-        ensures { Happens self.old (reply_bytes seat.now count) self.new }
+        ensures { Happens self.old (reply_bytes seat.now
+            (take count (left_of (at self.old seat.now))))
+            self.new }
     {
         let Some(conversation) = self.take_out(seat) else {
             return;
@@ -275,7 +277,8 @@ fn is_playlist_read_by_client(edge: &Edge, asked: &Asked) -> bool
 // The connection when so many bytes of its reply are gone.
 fn advance_connection_reply(conversation: Conversation, count: usize) -> Conversation
     requires { count ≤ length (left_of (Some conversation)) }
-    ensures { Some result ≡ taken_of count (Some conversation) }
+    ensures { Some result ≡ with_left (drop count (left_of (Some conversation)))
+        (Some conversation) }
 {
     match conversation {
         Conversation::Answering(mut leaving, status) => {

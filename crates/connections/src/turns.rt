@@ -6,7 +6,7 @@ ghost use Rattle.connections.specs.Limits.{most_held, reads_in_turn, writes_in_t
 ghost use Rattle.connections.specs.Arrivals.{is_asking};
 ghost use Rattle.connections.specs.Clients.{AreSent};
 ghost use Rattle.connections.specs.Runs.{HasRun};
-ghost use Rattle.connections.specs.Turns.{HasListened, HasListenedUntil, HasSpoken, HasSpokenUntil, IfGone, Stays, HasNoMore, MovedEach, is_client_read_out};
+ghost use Rattle.connections.specs.Turns.{AreRead, HasListened, HasListenedUntil, HasSpoken, HasSpokenUntil, IfGone, Stays, HasNoMore, MovedEach, is_client_read_out};
 
 use crate::devices::{Incoming, Outgoing, Passage};
 use crate::seats::Seat;
@@ -63,6 +63,8 @@ pub fn listen<T: Incoming>(
         seat.now connections.old connections.new) }
     ensures done { result ≡ Turn.Done → is_asking (at connections.new seat.now) ≡ false }
     ensures goes { result ≡ Turn.Goes → is_asking (at connections.new seat.now) ≡ true }
+    ensures heard { result ≡ Turn.Goes →
+        AreRead reads_in_turn seat.now connections.old connections.new }
     ensures read { result ≡ Turn.Goes →
         MovedEach reads_in_turn (T.stand device.old).calls (T.stand device.new).calls }
     ensures full { result ≡ Turn.Full →

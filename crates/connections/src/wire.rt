@@ -1,7 +1,7 @@
 //! What goes through a client's socket: over any device whose calls don't wait.
-ghost use Rattle.std.specs.Prelude.{◌≡◌, ◌<◌, ◌+◌, ◌++◌, [], length, take};
+ghost use Rattle.std.specs.Prelude.{◌≡◌, ◌<◌, ◌≤◌, ◌+◌, ◌++◌, [], length, take};
 ghost use Rattle.http_edge.specs.declared.serving.EdgeFault.TheVariants.{Read, Write, Ended};
-ghost use Rattle.connections.specs.Limits.{most_held};
+ghost use Rattle.connections.specs.Limits.{most_held, most_written};
 ghost use Rattle.connections.specs.Table.{Happens, at, left_of, held_in, departure};
 ghost use Rattle.connections.specs.Runs.{HasRun};
 ghost use Rattle.connections.specs.declared.devices.Passage.TheVariants.{WouldWait};
@@ -92,15 +92,17 @@ pub fn hear<T: Incoming>(
 fn cut_client_text(text: &[u8]) -> &[u8]
     ensures front { result.now ≡ take (length result.now) text.now }
     ensures some { length result.now ≡ 0 → text.now ≡ [] }
+    ensures short { length result.now ≤ most_written }
 {
     &text[..text.len().min(MAX_WRITTEN)]
 }
 
-// A front of two texts: both, if they fit into a block, else the first that isn't empty.
+// A front of two texts: both, if they fit into a block, else of the first that isn't empty.
 fn front_of_client_reply<'a>(block: &'a mut Block, head: &'a [u8], body: &'a [u8]) -> &'a [u8]
     requires { block.old.items ≡ [] }
     ensures front { result.now ≡ take (length result.now) (head.now ++ body.now) }
     ensures some { length result.now ≡ 0 → head.now ++ body.now ≡ [] }
+    ensures short { length result.now ≤ most_written }
 {
     if head.is_empty() {
         return cut_client_text(body);
@@ -108,11 +110,11 @@ fn front_of_client_reply<'a>(block: &'a mut Block, head: &'a [u8], body: &'a [u8
     if fill_message_block(block, head, body) {
         return block.as_slice();
     }
-    head
+    cut_client_text(head)
 }
 
 #[tactic(auto, using(crate::proofs::Leading::stays))]
-/// Writes once to `device`, of what `connections` have left of the reply at the place of `seat`, and nothing else. If
+/// Writes once to `device`, at most 65,536 bytes of what `connections` have left of the reply at the place of `seat`, and nothing else. If
 /// it would wait (`Waits`), or nothing is left (`Nothing`), all is as it was. A client goes (`Failed`) only if the
 /// write failed or took nothing (`Write`).
 pub fn say<T: Outgoing>(device: &mut T, connections: &mut Connections, seat: &Seat<T>) -> Moved

@@ -318,6 +318,16 @@ ChannelsAreApart = HasValues on_a (
     ∷ (live ∷ get (codes "/") ∷ get (codes "/") ∷ get (codes "/") ∷ get (codes "/") ∷ live ∷ live ∷ live ∷ make ∷ [], not_found ∷ not_found ∷ not_found ∷ not_found ∷ bare 201 ∷ [])
     ∷ (first_refresh ∷ get (codes "/") ∷ get (codes "/") ∷ get (codes "/") ∷ get (codes "/") ∷ make ∷ [], bare 204 ∷ bare 201 ∷ []) ∷ [])
 
+-- channels with longer names, and a method that ends as GET does
+abbrev pub LongNamesAreServed : Type 0
+LongNamesAreServed = HasValues answer (
+    (remove (codes "/channels/news-1234-a") ∷ remove (codes "/channels/news-1234-b") ∷ make_named (codes "news-1234-b") ∷ make_named (codes "news-1234-a") ∷ [], Some (bare 204))
+    ∷ (
+      get (codes "/channels/news-1234-b/live.m3u8") ∷ put (codes "/channels/news-1234-b/origin") first_refresh.body ∷ make_named (codes "news-1234-b") ∷ make_named (codes "news-1234-a") ∷ [],
+      Some owed,
+    )
+    ∷ (asks (codes "LET") (codes "/channels/a/live.m3u8") [] ∷ first_refresh ∷ make ∷ [], Some (not_allowed allow.Get)) ∷ [])
+
 -- the same of a channel with a longer name
 abbrev pub LongNamesAreApart : Type 0
 LongNamesAreApart = HasValues (λ (requests : List Request). replies_on (codes "news-1234-a") requests) (

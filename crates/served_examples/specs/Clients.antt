@@ -7,16 +7,16 @@ use Rattle.connections.specs.declared.devices.Passage.TheVariants.{WouldWait, Ha
 use Rattle.connections.specs.declared.arrivals.Arrival.{Arrival}
 use Rattle.connections.specs.declared.conversation.Conversation.TheVariants.{Asking, Answering}
 use Rattle.connections.specs.Arrivals.{gives_place, gives_room}
-use Rattle.connections.specs.Limits.{most_held, place_count, serving_nanos, ending_nanos, reads_in_turn, writes_in_turn, drains_in_turn}
-use Rattle.connections.specs.Runs.{visits, said, reply_bytes_taken}
-use Rattle.connections.specs.Table.{State, ClientEvent, arrival, request_bytes, reply_bytes, departure, held_in, left_of, taken_of}
+use Rattle.connections.specs.Limits.{most_held, place_count, serving_nanos, ending_nanos, reads_in_turn, writes_in_turn, most_written, drains_in_turn}
+use Rattle.connections.specs.Runs.{visits, said, was_sent}
+use Rattle.connections.specs.Table.{State, ClientEvent, arrival, request_bytes, reply_bytes, departure, held_in, left_of, part_of_request, with_left}
 use Rattle.connections.specs.Turns.{bytes_of_pieces}
 use Rattle.worked_examples.specs.Tables.{HasValues}
 
 -- docs/OPERATING.md, "Slow clients": 64 MiB, 512 places, 10 s, a quarter of a second, and the reads and writes of a turn
 abbrev pub ClientsAreLimited : Type 0
 ClientsAreLimited = HasValues (λ (n : ℕ). n) ((most_held, 67108864) ∷ (place_count, 512) ∷ (serving_nanos, 10000000000) ∷ (ending_nanos, 250000000) ∷ (reads_in_turn, 4)
-    ∷ (writes_in_turn, 4) ∷ (drains_in_turn, 32) ∷ [])
+    ∷ (writes_in_turn, 4) ∷ (most_written, 65536) ∷ (drains_in_turn, 32) ∷ [])
 
 -- place 0: a client with a reply on its way; 1: one that has said nothing; 2: one that has said two bytes; 3: nobody
 abbrev pub three : State
@@ -47,24 +47,28 @@ BytesAreHeld = HasValues held_in ((three.places, 2) ∷ (Some (Asking (codes "GE
 abbrev pub RepliesAreLeft : Type 0
 RepliesAreLeft = HasValues left_of ((Some (Answering (codes "xyz") 200), codes "xyz") ∷ (Some (Asking (codes "GE") 1), []) ∷ (None, []) ∷ [])
 
+-- what was read of a request that isn't whole
+abbrev pub PartsAreRead : Type 0
+PartsAreRead = HasValues part_of_request ((Some (Answering (codes "xyz") 200), []) ∷ (Some (Asking (codes "GE") 1), codes "GE") ∷ (None, []) ∷ [])
+
 abbrev pub BytesAreTaken : Type 0
-BytesAreTaken = HasValues (taken_of 2) (
+BytesAreTaken = HasValues (with_left (codes "z")) (
     (Some (Answering (codes "xyz") 200), Some (Answering (codes "z") 200)) ∷ (Some (Asking (codes "GE") 1), Some (Asking (codes "GE") 1)) ∷ (None, None) ∷ [])
 
 -- what happened, the newest first: at place 1 a client went, and another one came
 abbrev pub events : List ClientEvent
 events =
-    reply_bytes 1 2 ∷ reply_bytes 1 3 ∷ request_bytes 2 (codes "Q") ∷ request_bytes 1 (codes "T /") ∷ request_bytes 1 (codes "GE") ∷ arrival 1 ∷ arrival 2 ∷ departure 1 ∷ reply_bytes 1 9 ∷ request_bytes 1 (codes "PUT") ∷ arrival 1 ∷ []
+    reply_bytes 1 (codes "lo") ∷ reply_bytes 1 (codes "hel") ∷ request_bytes 2 (codes "Q") ∷ request_bytes 1 (codes "T /") ∷ request_bytes 1 (codes "GE") ∷ arrival 1 ∷ arrival 2 ∷ departure 1 ∷ reply_bytes 1 (codes "went away") ∷ request_bytes 1 (codes "PUT") ∷ arrival 1 ∷ []
 
 abbrev pub VisitsAreCounted : Type 0
 VisitsAreCounted = HasValues (λ (place : ℕ). visits place events) ((1, 2) ∷ (2, 1) ∷ (3, 0) ∷ [])
 
--- what the last client there said since it came, and how much it took
+-- what the last client there said since it came, and what it was sent
 abbrev pub WordsAreSaid : Type 0
 WordsAreSaid = HasValues (λ (place : ℕ). said place events) ((1, codes "GET /") ∷ (2, codes "Q") ∷ (3, []) ∷ [])
 
-abbrev pub TakenIsCounted : Type 0
-TakenIsCounted = HasValues (λ (place : ℕ). reply_bytes_taken place events) ((1, 5) ∷ (2, 0) ∷ [])
+abbrev pub BytesAreSent : Type 0
+BytesAreSent = HasValues (λ (place : ℕ). was_sent place events) ((1, codes "hello") ∷ (2, []) ∷ [])
 
 abbrev pub PiecesAreJoined : Type 0
 PiecesAreJoined = HasValues bytes_of_pieces (
@@ -73,14 +77,14 @@ PiecesAreJoined = HasValues bytes_of_pieces (
 -- the same of more: a client at place 1 says five pieces, while others come and go before and after it
 abbrev pub many : List ClientEvent
 many =
-    reply_bytes 1 4 ∷ departure 2 ∷ arrival 0 ∷ reply_bytes 2 9 ∷ arrival 2 ∷ request_bytes 2 (codes "x") ∷ reply_bytes 0 2 ∷ request_bytes 1 (codes "/") ∷ request_bytes 1 (codes " ")
-    ∷ reply_bytes 1 3 ∷ request_bytes 1 (codes "T") ∷ request_bytes 1 (codes "E") ∷ request_bytes 1 (codes "G") ∷ arrival 1 ∷ []
+    reply_bytes 1 (codes "lo") ∷ departure 2 ∷ arrival 0 ∷ reply_bytes 2 (codes "yes") ∷ arrival 2 ∷ request_bytes 2 (codes "x") ∷ reply_bytes 0 (codes "no") ∷ request_bytes 1 (codes "/") ∷ request_bytes 1 (codes " ")
+    ∷ reply_bytes 1 (codes "hel") ∷ request_bytes 1 (codes "T") ∷ request_bytes 1 (codes "E") ∷ request_bytes 1 (codes "G") ∷ arrival 1 ∷ []
 
-abbrev pub visits_said_and_taken : ℕ → ℕ × List ℕ × ℕ
-visits_said_and_taken place = (visits place many, said place many, reply_bytes_taken place many)
+abbrev pub visits_said_and_sent : ℕ → ℕ × List ℕ × List ℕ
+visits_said_and_sent place = (visits place many, said place many, was_sent place many)
 
 abbrev pub OthersAreApart : Type 0
-OthersAreApart = HasValues visits_said_and_taken ((0, (1, [], 0)) ∷ (1, (1, codes "GET /", 7)) ∷ (2, (1, [], 9)) ∷ (3, (0, [], 0)) ∷ [])
+OthersAreApart = HasValues visits_said_and_sent ((0, (1, [], [])) ∷ (1, (1, codes "GET /", codes "hello")) ∷ (2, (1, [], codes "yes")) ∷ (3, (0, [], [])) ∷ [])
 
 -- a device's calls, and those that failed: one more each time. A count stays at 2^64 - 1
 abbrev pub CallsAreCounted : Type 0

@@ -3,3 +3,4 @@ pub mod Answers
 pub mod Clients
 pub mod Runs
 pub mod Kept
+pub mod Gone

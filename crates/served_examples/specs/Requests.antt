@@ -77,6 +77,7 @@ BodiesAreFramed = HasValues framing (
     ∷ ((codes "GET", (codes "Content-Length", codes "5") ∷ []), Body 0)
     ∷ ((codes "POST", (codes "Transfer-Encoding", codes "chunked") ∷ []), Body 0)
     ∷ ((codes "put", []), Body 0)
+    ∷ ((codes "CUT", []), Body 0)
     ∷ ((codes "PUT", (codes "A", []) ∷ (codes "B", []) ∷ (codes "C", []) ∷ (codes "D", []) ∷ (codes "Content-Length", codes "5") ∷ []), Body 5)
     ∷ ((codes "PUT", (codes "Content-Length", codes "5") ∷ (codes "B", []) ∷ (codes "C", []) ∷ (codes "D", []) ∷ (codes "Transfer-Encoding", codes "chunked") ∷ []), Refused LengthRequired) ∷ [])
 
@@ -117,7 +118,7 @@ RepliesAreWritten = HasValues (text_sent true) (
 
 -- RFC 9110, 9.3.2: a reply to HEAD is the head alone
 abbrev pub HeadsAreSent : Type 0
-HeadsAreSent = HasValues sends_body ((codes "GET", true) ∷ (codes "PUT", true) ∷ (codes "HEAD", false) ∷ (codes "head", true) ∷ [])
+HeadsAreSent = HasValues sends_body ((codes "GET", true) ∷ (codes "PUT", true) ∷ (codes "HEAD", false) ∷ (codes "head", true) ∷ (codes "HELD", true) ∷ (codes "READ", true) ∷ [])
 
 abbrev pub HeadRepliesAreWritten : Type 0
 HeadRepliesAreWritten = HasValues (text_sent false) (

@@ -4,8 +4,9 @@
 #![tactic(auto, unfolding(crate::proofs::OnLiterals::on_literals))]
 
 ghost use Rattle.served_examples.specs.Requests.{NamesAreChecked, QueriesArePassedOver, RoutesAreFound, OtherPathsAreNone, BodiesAreFramed, HeadsAreFramed, MessagesAreLimited, RepliesAreWritten, HeadsAreSent, HeadRepliesAreWritten, AllFieldsCount};
-ghost use Rattle.served_examples.specs.Answers.{ChannelsAreMade, RefreshesAreAnswered, PlaylistsAreRead, DecisionsAreAnswered, DecisionFaultsAreAnswered, RefreshFaultsAreAnswered, WordsOfWhyAreTold, ReasonsAreAnswered, TablesAreLimited, ChannelsAreApart, LongNamesAreApart, RequestsAreServed, RequestsWereAsked, RequestsWereAnswered, OthersStay, BodyFaultsAreAnswered, BodyFaultsAreTold, ChannelsAreOnce};
-ghost use Rattle.served_examples.specs.Clients.{ClientsAreLimited, PlacesAreGiven, RepliesAreGivenUpLast, RoomIsGiven, BytesAreHeld, RepliesAreLeft, BytesAreTaken, VisitsAreCounted, WordsAreSaid, TakenIsCounted, PiecesAreJoined, CallsAreCounted, FailuresAreCounted, OthersAreApart};
+ghost use Rattle.served_examples.specs.Answers.{ChannelsAreMade, RefreshesAreAnswered, PlaylistsAreRead, DecisionsAreAnswered, DecisionFaultsAreAnswered, RefreshFaultsAreAnswered, WordsOfWhyAreTold, ReasonsAreAnswered, TablesAreLimited, ChannelsAreApart, LongNamesAreServed, LongNamesAreApart, RequestsAreServed, RequestsWereAsked, RequestsWereAnswered, OthersStay, BodyFaultsAreAnswered, BodyFaultsAreTold, ChannelsAreOnce};
+ghost use Rattle.served_examples.specs.Clients.{ClientsAreLimited, PlacesAreGiven, RepliesAreGivenUpLast, RoomIsGiven, BytesAreHeld, RepliesAreLeft, PartsAreRead, BytesAreTaken, VisitsAreCounted, WordsAreSaid, BytesAreSent, PiecesAreJoined, CallsAreCounted, FailuresAreCounted, OthersAreApart};
+ghost use Rattle.served_examples.specs.Gone.{ChannelsAreMadeOnce};
 ghost use Rattle.served_examples.specs.Kept.{StatesAreMeant, SegmentsAreHeld, StoresAreReplaced, TextsAreKept, RefreshesAreOwed, LackOfMemoryIsSeen, DecisionsAreStored, ShownAreMeant, RunsBegin, EndsAreTold, FirstNumbersAreTold, LastWindowsAreTold};
 ghost use Rattle.served_examples.specs.Runs.{ReadsAreLimited, FilesAreTold, FilesAreGiven, BytesAreTold, UrisAreWhole, ReadNumbersRise, ReadSegmentsAreWritten, LinesKeepTheirLimit, InputsAreReadUnderBases, RunsAreTold};
 
@@ -36,6 +37,7 @@ pub fn answers_have_their_values()
     ensures reasons_are_answered { ReasonsAreAnswered }
     ensures tables_are_limited { TablesAreLimited }
     ensures channels_are_apart { ChannelsAreApart }
+    ensures long_names_are_served { LongNamesAreServed }
     ensures long_names_are_apart { LongNamesAreApart }
     ensures requests_are_served { RequestsAreServed }
     ensures requests_were_asked { RequestsWereAsked }
@@ -54,14 +56,20 @@ pub fn clients_have_their_values()
     ensures room_is_given { RoomIsGiven }
     ensures bytes_are_held { BytesAreHeld }
     ensures replies_are_left { RepliesAreLeft }
+    ensures parts_are_read { PartsAreRead }
     ensures bytes_are_taken { BytesAreTaken }
     ensures visits_are_counted { VisitsAreCounted }
     ensures words_are_said { WordsAreSaid }
-    ensures taken_is_counted { TakenIsCounted }
+    ensures bytes_are_sent { BytesAreSent }
     ensures pieces_are_joined { PiecesAreJoined }
     ensures calls_are_counted { CallsAreCounted }
     ensures failures_are_counted { FailuresAreCounted }
     ensures others_are_apart { OthersAreApart }
+{}
+
+/// The law of isolation at one run: a client that was answered and has gone counts.
+pub fn clients_that_went_count()
+    ensures { ChannelsAreMadeOnce }
 {}
 
 /// A run over one playlist, and what a channel was given.

@@ -377,6 +377,8 @@ SegmentsAreChecked = HasValues read_on (
     ∷ (codes "#EXT-X-DISCONTINUITY-SEQUENCE:18446744073709551615" ∷ codes "#EXT-X-DISCONTINUITY" ∷ [], refused_at 4 fault.BadValue)
     ∷ (codes "#EXTINF:1," ∷ codes "#EXT-X-BYTERANGE:5" ∷ codes "a:s" ∷ [], refused_at 5 fault.RangeNoStart)
     ∷ (codes "#EXTINF:1," ∷ codes "#EXT-X-BYTERANGE:5@0" ∷ codes "a:s" ∷ codes "#EXTINF:1," ∷ codes "#EXT-X-BYTERANGE:5" ∷ codes "a:t" ∷ [], refused_at 8 fault.RangeNoStart)
+    ∷ (codes "#EXTINF:1," ∷ codes "#EXT-X-BYTERANGE:5@0" ∷ codes "b:s" ∷ codes "#EXTINF:1," ∷ codes "#EXT-X-BYTERANGE:5" ∷ codes "a:s" ∷ [], refused_at 8 fault.RangeNoStart)
+    ∷ (codes "#EXTINF:1," ∷ codes "#EXT-X-BYTERANGE:5@0" ∷ codes "a:/segment-1" ∷ codes "#EXTINF:1," ∷ codes "#EXT-X-BYTERANGE:5" ∷ codes "a:/segment-2" ∷ [], refused_at 8 fault.RangeNoStart)
     ∷ (codes "#EXTINF:1," ∷ codes "a:s" ∷ codes "#EXTINF:1," ∷ codes "#EXT-X-BYTERANGE:5" ∷ codes "a:s" ∷ [], refused_at 7 fault.RangeNoStart)
     ∷ (codes "#EXTINF:1," ∷ codes "#EXT-X-BYTERANGE:5@0" ∷ codes "a:s" ∷ codes "#EXTINF:1," ∷ codes "a:s" ∷ codes "#EXTINF:1," ∷ codes "#EXT-X-BYTERANGE:5" ∷ codes "a:s" ∷ [], refused_at 10 fault.RangeNoStart)
     ∷ (codes "#EXTINF:1," ∷ codes "#EXT-X-BYTERANGE:5@0" ∷ codes "a:s" ∷ codes "#EXTINF:1," ∷ codes "#EXT-X-BYTERANGE:5" ∷ codes "#" ∷ codes "a:s" ∷ codes "a:t" ∷ [], refused_at 10 fault.NoDuration)
@@ -527,6 +529,7 @@ KeysHaveTheirIvs = HasValues (effective_key 7) (
     ∷ (identity (codes "a:k") (Some 1), identity (codes "a:k") (Some 1))
     ∷ (of_format (codes "identitx") (codes "a:k"), of_format (codes "identitx") (codes "a:k"))
     ∷ (of_format (codes "xdentity") (codes "a:k"), of_format (codes "xdentity") (codes "a:k"))
+    ∷ (of_format (codes "identitys") (codes "a:k"), of_format (codes "identitys") (codes "a:k"))
     ∷ (of_format (codes "f") (codes "a:k"), of_format (codes "f") (codes "a:k")) ∷ [])
 
 abbrev pub stands_at : ℕ × List Key → Option Key
@@ -663,6 +666,27 @@ SegmentsAreCompared = HasValues (same_segment sample) (
     ∷ (record sample { init_section = Some (record under_key_1 { uri = codes "a:j" }) }, false)
     ∷ (record sample { init_section = Some (record under_key_1 { byte_range = Some (record { length = 1; offset = 0 }) }) }, false)
     ∷ (record sample { init_section = Some (record under_key_1 { keys = [] }) }, false) ∷ [])
+
+abbrev pub long_key : Key
+long_key = record { format = codes "com.example.f"; method = codes "SAMPLE-AES"; uri = codes "a:/key-0001"; iv = Some 7; other_attributes = codes ",X-VERSION=1" }
+
+abbrev pub long_texts : Segment
+long_texts = record sample { uri = codes "a:/segment-1"; keys = long_key ∷ []; init_section = Some (record under_key_1 { uri = codes "a:/section-1" }) }
+
+-- its texts are compared to their last byte
+abbrev pub LongTextsAreCompared : Type 0
+LongTextsAreCompared = HasValues (same_segment long_texts) (
+    (long_texts, true)
+    ∷ (record long_texts { uri = codes "a:/segment-2" }, false)
+    ∷ (record long_texts { init_section = Some (record under_key_1 { uri = codes "a:/section-2" }) }, false)
+    ∷ (record long_texts { init_section = Some (record under_key_1 { uri = codes "b:/section-1" }) }, false)
+    ∷ (record long_texts { keys = record long_key { format = codes "com.example.g" } ∷ [] }, false)
+    ∷ (record long_texts { keys = record long_key { method = codes "SAMPLE-AEX" } ∷ [] }, false)
+    ∷ (record long_texts { keys = record long_key { method = codes "XAMPLE-AES" } ∷ [] }, false)
+    ∷ (record long_texts { keys = record long_key { uri = codes "a:/key-0002" } ∷ [] }, false)
+    ∷ (record long_texts { keys = record long_key { uri = codes "b:/key-0001" } ∷ [] }, false)
+    ∷ (record long_texts { keys = record long_key { other_attributes = codes ",X-VERSION=2" } ∷ [] }, false)
+    ∷ (record long_texts { keys = record long_key { other_attributes = codes ";X-VERSION=1" } ∷ [] }, false) ∷ [])
 
 abbrev pub at_line : ℕ → FaultKind → PlaylistFault
 at_line line kind = record { kind = kind; line = line }

@@ -79,7 +79,7 @@ UrisAreChecked = HasValues is_uri (
 
 -- RFC 8216, 4.3.2.4: METHOD is an enumerated-string; NONE is no key
 abbrev pub MethodsAreChecked : Type 0
-MethodsAreChecked = HasValues is_key_method ((codes "AES-128", true) ∷ (codes "NONE", false) ∷ (codes "aes", false) ∷ (codes "aES-128", false) ∷ ([], false) ∷ (long 65, true) ∷ (long 97, false) ∷ [])
+MethodsAreChecked = HasValues is_key_method ((codes "AES-128", true) ∷ (codes "NONE", false) ∷ (codes "aes", false) ∷ (codes "aES-128", false) ∷ ([], false) ∷ (long 65, true) ∷ (long 97, false) ∷ (codes "NINE", true) ∷ (codes "BONE", true) ∷ [])
 
 abbrev pub FormatsAreChecked : Type 0
 FormatsAreChecked = HasValues is_format ((codes "a b", true) ∷ ([], false) ∷ (codes "a\"", false) ∷ (codes "\"a", false) ∷ (long 65, true) ∷ (long 34, false) ∷ [])
@@ -301,6 +301,10 @@ FilesAreRead = HasValues decisions_of ((
   codes "{\"breaks\":[{\"id\":\"b\",\"ads\":[{\"map\":{\"uri\":\"http://a/i\",\"offset\":1,\"length\":9},\"key\":{\"method\":\"AES-128\",\"uri\":\"http://a/k\",\"iv\":\"0x1F\",\"format\":\"f\"},\"segments\":[{\"uri\":\"http://a/s\",\"duration\":\"9.5\",\"offset\":5,\"length\":100}]}]}]}",
   Ok (Breaks ((codes "b", pod (ad (segment 9500000000 ∷ []) ∷ [])) ∷ [])),
 )
+    ∷ (
+      codes "{\"breaks\":[{\"id\":\"break-100\",\"ads\":[{\"segments\":[{\"uri\":\"http://a/s\",\"duration\":\"1\",\"offset\":5,\"length\":100}]}]},{\"id\":\"break-101\",\"ads\":[{\"segments\":[{\"uri\":\"http://a/s\",\"duration\":\"2\",\"offset\":5,\"length\":100}]}]}]}",
+      Ok (Breaks ((codes "break-100", pod (clear (segment 1000000000 ∷ []) ∷ [])) ∷ (codes "break-101", pod (clear (segment 2000000000 ∷ []) ∷ [])) ∷ [])),
+    )
     ∷ (
       codes "{\"breaks\":[{\"id\":\"b\",\"ads\":[{\"key\":{\"method\":\"AES-128\",\"uri\":\"http://a/k\",\"iv\":\"0x1F\"},\"segments\":[{\"uri\":\"http://a/s\",\"duration\":\"1\"}]}]}]}",
       Ok (Breaks ((codes "b", pod (record { init_section = None; keys = record (key (Some 31)) { format = codes "identity" } ∷ []; segments = record (segment 1000000000) { byte_range = None } ∷ [] } ∷ [])) ∷ [])),

@@ -113,6 +113,7 @@ abbrev pub RunsGoOn : Type 0
 RunsGoOn = HasValues (λ (marks : Option (List ℕ) × Option (List ℕ)). is_same_stitched_run marks.0 marks.1) (
     ((Some (codes "b"), Some (codes "b")), true)
     ∷ ((Some (codes "b"), Some (codes "c")), false)
+    ∷ ((Some (codes "break-100"), Some (codes "break-101")), false)
     ∷ ((Some (codes "b"), None), false)
     ∷ ((None, Some (codes "b")), false)
     ∷ ((None, None), false) ∷ [])
@@ -151,6 +152,10 @@ RunsAreReplaced = HasValues listed (
     )
     ∷ (
       (false, unmarked (stepped 3 0 0) ∷ marked c (stepped 2 0 0) ∷ marked b (stepped 1 0 0) ∷ []),
+      (1000 ∷ 1 ∷ 1 ∷ 1 ∷ []) ∷ (1001 ∷ 2 ∷ 1 ∷ 0 ∷ []) ∷ (2000 ∷ 3 ∷ 2 ∷ 1 ∷ []) ∷ (2001 ∷ 4 ∷ 3 ∷ 1 ∷ []) ∷ (3 ∷ 5 ∷ 4 ∷ 1 ∷ []) ∷ [],
+    )
+    ∷ (
+      (false, unmarked (stepped 3 0 0) ∷ marked (record c { id = codes "break-101" }) (stepped 2 0 0) ∷ marked (record b { id = codes "break-100" }) (stepped 1 0 0) ∷ []),
       (1000 ∷ 1 ∷ 1 ∷ 1 ∷ []) ∷ (1001 ∷ 2 ∷ 1 ∷ 0 ∷ []) ∷ (2000 ∷ 3 ∷ 2 ∷ 1 ∷ []) ∷ (2001 ∷ 4 ∷ 3 ∷ 1 ∷ []) ∷ (3 ∷ 5 ∷ 4 ∷ 1 ∷ []) ∷ [],
     )
     ∷ (

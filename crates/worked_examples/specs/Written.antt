@@ -54,6 +54,8 @@ LinesAreSpelled = HasValues spelled (
     ∷ (no_keys, codes "#EXT-X-KEY:METHOD=NONE")
     ∷ (key (identity (codes "a:k") (Some 31)), codes "#EXT-X-KEY:METHOD=AES-128,URI=\"a:k\",IV=0x0000000000000000000000000000001F")
     ∷ (key drm, codes "#EXT-X-KEY:METHOD=SAMPLE-AES,URI=\"skd://k\",KEYFORMAT=\"f\",KEYFORMATVERSIONS=\"1\"")
+    ∷ (key (record drm { format = codes "identitys" }), codes "#EXT-X-KEY:METHOD=SAMPLE-AES,URI=\"skd://k\",KEYFORMAT=\"identitys\",KEYFORMATVERSIONS=\"1\"")
+    ∷ (key (record drm { format = codes "xdentity" }), codes "#EXT-X-KEY:METHOD=SAMPLE-AES,URI=\"skd://k\",KEYFORMAT=\"xdentity\",KEYFORMATVERSIONS=\"1\"")
     ∷ (init_section (codes "a:i") None, codes "#EXT-X-MAP:URI=\"a:i\"")
     ∷ (init_section (codes "a:i") (Some (record { length = 100; offset = 5 })), codes "#EXT-X-MAP:URI=\"a:i\",BYTERANGE=\"100@5\"")
     ∷ (time (pos 1714564800000000000), codes "#EXT-X-PROGRAM-DATE-TIME:2024-05-01T12:00:00.000Z")

@@ -5,7 +5,7 @@
 
 ghost use Rattle.worked_examples.specs.Texts.{DurationsAreRead, DurationsAreWritten, DurationsAreRounded, AttributesAreRead, AttributesAreLimited, AttributesAreWritten, DecimalsAreRead, SequencesAreRead, InstantsAreRead, InstantsAreWritten, PairFaultsAreOrdered, ValuesAreChecked, MonthsEnd, FormsAreChecked, OffsetsAreRead};
 ghost use Rattle.worked_examples.specs.Lines.{LinesArePlaced, LinesHaveTheirKinds, TagsHaveTheirNames, SchemesAreSeen, VersionsAreRead, TypesAreRead, SegmentDurationsAreRead, ByteRangesAreRead, ReferencesAreResolved, BasesAreWebUrls, KeysAreRead, InitSectionsAreRead, DateRangesAreRead, JoinsCanBeWritten, PathsAreJoined};
-ghost use Rattle.worked_examples.specs.Playlists.{WholePlaylistIsRead, TagsArePlaced, SegmentsAreChecked, HeadersAreChecked, ReadersAreLimited, LimitsAreStated, KeysAreInForce, KeysHaveTheirIvs, KeysStayButForTheirIvs, PlacesAreBits, PlacesAreAmongBoth, SectionsHaveTheirKeys, LinesStand, SegmentsBegin, InstantsFollow, SegmentsEnd, PartsAreKept, SegmentsAreCompared, FaultsAreTold, TagsApartArePlaced, TagsAfterSegmentsArePlaced, TagsStand};
+ghost use Rattle.worked_examples.specs.Playlists.{WholePlaylistIsRead, TagsArePlaced, SegmentsAreChecked, HeadersAreChecked, ReadersAreLimited, LimitsAreStated, KeysAreInForce, KeysHaveTheirIvs, KeysStayButForTheirIvs, PlacesAreBits, PlacesAreAmongBoth, SectionsHaveTheirKeys, LinesStand, SegmentsBegin, InstantsFollow, SegmentsEnd, PartsAreKept, SegmentsAreCompared, LongTextsAreCompared, FaultsAreTold, TagsApartArePlaced, TagsAfterSegmentsArePlaced, TagsStand};
 ghost use Rattle.worked_examples.specs.Splices.{SplicesAreRead, LargeSplicesAreRead, SpliceFaultsAreOrdered};
 ghost use Rattle.worked_examples.specs.Breaks.{SignalsAreRead, TicksAreCounted, FirstValuesStand, BreaksEnd, BreaksAreSignalled, StartsAreNear, EndsAreNear, ClosedBreaksCanBeEntered, BreaksAreKnown, BreaksAreEntered, BreaksGoOn, ReasonsAreTold, StartsAreStated, MarksAreMade, BreaksOfOthersGoOn, ReasonsOfOthersAreTold};
 ghost use Rattle.worked_examples.specs.Pods.{IdsAreChecked, UrisAreChecked, MethodsAreChecked, FormatsAreChecked, PodsAreSummed, PodsFit, PodsWithInitSectionsFit, RulesAreKept, DecisionsAreTaken, StoreIsLimited, PodsAreFound, OwnPodsFit, UsedPodsStay, FilesAreRead, BreaksAreChecked, AdsAreChecked, SegmentsAreCounted, FaultsOfFilesAreTold, LackOfMemoryHasNoPlace, LongIdsAreApart, LongIdsCountOnce, LongIdsAreFound, StoresFit, NothingIsCopied, AdsAreCounted, ManySegmentsAreCounted};
@@ -75,6 +75,7 @@ pub fn playlists_have_their_values()
     ensures segments_end { SegmentsEnd }
     ensures parts_are_kept { PartsAreKept }
     ensures segments_are_compared { SegmentsAreCompared }
+    ensures long_texts_are_compared { LongTextsAreCompared }
     ensures faults_are_told { FaultsAreTold }
     ensures tags_apart_are_placed { TagsApartArePlaced }
     ensures tags_after_segments_are_placed { TagsAfterSegmentsArePlaced }

@@ -1,6 +1,6 @@
 use Rattle.std.proofs.Common.{rules}
 use Rattle.connections.proofs.Leading.{and_then}
-use Rattle.connections.proofs.Turning.{moved_none, moved_more, heard_more}
+use Rattle.connections.proofs.Turning.{moved_none, moved_more, heard_more, read_none, read_more}
 use Rattle.connections.proofs.turns.listen.Goals as goal
 
 pub returns-in-Failed-clause-run : goal.returns-in-Failed-clause-run
@@ -18,6 +18,7 @@ loop-index-init g c = record {
   moved = moved_none _;
   listened = search rules;
   asking = search rules;
+  read = read_none c.args.seat.now c.args.connections.now;
   run = search rules;
 }
 
@@ -26,5 +27,6 @@ loop-index-preserved g c = record {
   moved = moved_more c.loop-index.index _ _ _ _ c.loop-index.invariant.moved (c.hear.ensures.some c.in-Some.is).gave_it.some (c.hear.ensures.some c.in-Some.is).gave_it.one;
   listened = heard_more _ _ _ c.args.seat.now _ _ _ c.loop-index.invariant.listened c.loop-index.invariant.asking (c.hear.ensures.some c.in-Some.is);
   asking = search rules;
+  read = read_more c.loop-index.index _ _ c.args.seat.now c.args.connections.now c.loop-index.connections c.hear.new.connections c.loop-index.invariant.read c.loop-index.invariant.asking (c.hear.ensures.some c.in-Some.is) (search rules);
   run = and_then _ _ _ c.loop-index.invariant.run c.hear.ensures.run;
 }
