@@ -28,7 +28,7 @@ def compare(turn: Turn) -> None:
             turn.tell("", "ladder", 0, "-", "the renditions' numbers are equal", is_again=True)
         turn.set(is_apart=frozenset())
         return
-    tell_apart(turn, odd, usual, [channel for channel, it in found.items() if it[0] < max(media for media, _ in found.values())])
+    tell_apart(turn, odd, usual)
     turn.set(is_apart=frozenset(odd))
     most = max(discontinuity for _, discontinuity in found.values())
     if any(it[1] < most for it in found.values()) and not any(may_enter(it, turn.state.translator.tolerance) for it in lists.values()):
@@ -39,30 +39,13 @@ def compare(turn: Turn) -> None:
         turn.set(equal_after=max(it.repairer.last[-1].number for it in lists.values()) + 1)
 
 
-def level(turn: Turn, channel: str) -> None:
-    """The `channel` has no list: it begins with the greatest media number that viewers have of one segment, if the renditions' are apart. If all
-    channels are new, so do the discontinuity numbers of those whose media numbers change; else the feed adds discontinuities where they lack."""
-    lists = [it for _, it in turn.renditions()]
-    common = set.intersection(*(set(it.stands.viewed.begins) for it in lists)) if turn.state.is_apart else set()
-    if not common:
-        return
-    found = [it.stands.viewed.begins[max(common)] for it in lists]
-    own = turn.state.renditions[channel].stands.viewed.begins[max(common)]
-    is_all = all(it.controller.took < 0 for it in lists)
-    viewed = turn.state.renditions[channel].stands.viewed.copy()
-    media, steps = max(it[0] for it in found) - own[0], max(it[1] for it in found) - own[1]
-    viewed.rise(media, steps if is_all and media else 0)  # (a media number that viewers have keeps its discontinuity number)
-    turn.put_standing(channel, viewed=viewed)
-
-
-def tell_apart(turn: Turn, odd: dict[str, tuple[int, int]], usual: tuple[int, int], lower: list[str]) -> None:
-    """Tells which renditions are `odd`, with their numbers, beside the `usual` ones: once until all are equal again. Those that are
-    `lower` in their media numbers have to be made anew."""
+def tell_apart(turn: Turn, odd: dict[str, tuple[int, int]], usual: tuple[int, int]) -> None:
+    """Tells which renditions are `odd`, with their numbers, beside the `usual` ones: once until all are equal again. Media numbers stay apart: a
+    channel that is made anew goes on with those that its viewers have."""
     if turn.state.is_apart:
         return
     text = "; ".join(f"{name} ends with media number {it[0]} and discontinuity number {it[1]}" for name, it in odd.items())
-    does = "the discontinuities are added as soon as no break may begin" if all(it[0] == usual[0] for it in odd.values()) else \
-        f"media numbers stay so: DELETE {', '.join(lower)} while no break is listed"
+    does = "the discontinuities are added as soon as no break may begin" if all(it[0] == usual[0] for it in odd.values()) else "media numbers stay so"
     turn.tell("", "ladder", 0, "Apart", f"the renditions' numbers come apart: {text}, and the others with {usual[0]} and {usual[1]}; {does}", is_again=True)
 
 

@@ -5,7 +5,7 @@ from bisect import bisect_left, insort
 from collections import deque
 from copy import copy
 from dataclasses import dataclass
-from typing import Any
+from typing import Any, NamedTuple
 
 from . import splice
 from .packaged import PackagedSegment
@@ -59,6 +59,10 @@ class Break:
         end = self.end()
         return instant >= (end if end is not None else max(self.start, self.latest) + STALE)
 
+    def is_on_new_clock(self, number: int) -> bool:
+        """Whether the packager's clock changed within it, after the segment of the media `number` or a later one."""
+        return self.clock is not None and self.said is not None and number <= self.clock
+
     def is_past_plan(self, instant: int) -> bool:
         """Whether its planned end is before the `instant`; not if it has none."""
         return self.planned is not None and instant > self.start + self.planned
@@ -108,28 +112,37 @@ class Line:
     text: str
 
 
+class Jump(NamedTuple):
+    """A change of a list's clock `by` so much at the instant `at`, after the segment of the media `number`. `is_within`: the packager lists no
+    discontinuity there, and leaves no number out, so that nothing of the programme lies between."""
+
+    at: int
+    by: int
+    number: int
+    is_within: bool
+
+
 class Timeline:
     """The instants of a list's `segments`, of which each has one. With `aligns` what lies within half a segment of a segment's
     begin is put there. `moved`: by how much its media numbers are greater than those of a programme's other renditions."""
 
     def __init__(self, segments: list[PackagedSegment], aligns: bool = True, moved: int = 0) -> None:
         self.segments, self.aligns = segments, aligns
-        self.last = segments[-1].number - moved
+        self.low_number, self.last = segments[0].number - moved, segments[-1].number - moved
         self.begins = [it.begins or 0 for it in segments]
         self.end = self.begins[-1] + segments[-1].duration
         self.first = min(self.begins)
         is_steady = self.begins == sorted(self.begins)
         self.low = 0 if is_steady else next(n for n in range(len(segments) - 1, 0, -1) if self.begins[n] < self.begins[n - 1])  # since when the clock didn't go back
 
-    def jumps(self, fresh: int) -> list[tuple[int, int, int]]:
-        """The places, from the place `fresh` on, at which the clock changes by more than a segment: the instant at which it does, by how much,
-        and the media number of the segment before it."""
+    def jumps(self, fresh: int) -> list[Jump]:
+        """Where, from the place `fresh` on, the clock changes by more than a segment."""
         found = []
         for n in range(max(1, fresh), len(self.segments)):
-            before = self.segments[n - 1]
+            before, it = self.segments[n - 1], self.segments[n]
             at = self.begins[n - 1] + before.duration
             if abs(self.begins[n] - at) > max(SECOND, before.duration):
-                found.append((at, self.begins[n] - at, self.last - len(self.segments) + n))
+                found.append(Jump(at, self.begins[n] - at, self.last - len(self.segments) + n, it.own == before.own + 1 and not it.discontinuities))
         return found
 
     def half(self, instant: int) -> int:
@@ -321,17 +334,18 @@ class Breaks:
             self.tell(f"breaks/{shown(one.id)}", "Moved", f"to {instant_text(one.start)}: the packager states another START-DATE before it has begun")
         return True
 
-    def turn_clock(self, at: int, by: int, number: int, names: set[str]) -> None:
-        """The packager's clock changed `by` so much at the instant `at`, after the segment of the media number `number`. What began before
-        began, and ends, by the new clock. If the clock went on, it may also have been away: then it holds for the breaks `names` alone, of
-        which it says so. Each rendition of a programme says the same."""
-        self.clock = number
-        for one in [it for it in self.known if it.start < at and it.clock != number and (by < 0 or it.id in names)]:
+    def turn_clock(self, jump: Jump, names: set[str]) -> None:
+        """The packager's clock changed by a `jump`. What began before began, and ends, by the new clock. If the clock went on, the packager may also
+        have been away: then it holds for the breaks `names` alone, of which it says so. Each rendition of a programme says the same."""
+        self.clock = jump.number
+        is_set = jump.by < 0 or jump.is_within
+        for one in [it for it in self.known if it.start < jump.at and it.clock != jump.number and (is_set or it.id in names)]:
             end = one.end()
-            if end is not None and end > at:
+            if end is not None and end > jump.at:
                 one.until, one.is_ended = end, True
             one.said = one.start if one.said is None else one.said
-            one.start, one.latest, one.until, one.clock = one.start + by, one.latest + by, None if one.until is None else one.until + by, number
+            one.start, one.latest, one.clock = one.start + jump.by, one.latest + jump.by, jump.number
+            one.until = None if one.until is None else one.until + jump.by
         self.known.sort(key=lambda it: it.start)
 
     def goes_on(self, it: Placed, line: Timeline, has_begun: bool) -> Break | None:
@@ -399,9 +413,9 @@ class Breaks:
                 self.tell(f"breaks/{shown(one.id)}", "Ends", f"at {instant_text(end)}, after {seconds_text(end - one.start)} s ({one.name})")
         self.known.sort(key=lambda it: it.start)
 
-    def forget(self, first: int) -> None:
-        """Forgets the breaks that were over at the instant `first`, since which segments are listed."""
-        self.known = [it for it in self.known if not it.is_over(first)]
+    def forget(self, first: int, number: int) -> None:
+        """Forgets the breaks that were over at the instant `first`, since which segments are listed, the first one of them with the media `number`."""
+        self.known = [it for it in self.known if not it.is_over(first) or it.is_on_new_clock(number)]
 
     def kept(self) -> list[dict[str, Any]]:
         """The breaks as JSON."""

@@ -108,6 +108,9 @@ def push(turn: Turn, channel: str) -> Request:
     least = min(controller.took + 1, stands.repairer.last[0].number)
     place = next((place for place, one in enumerate(history) if one.number >= least), 0)
     since = min(controller.took + 1, stands.repairer.last[-1].number)
+    new = next((n for n, one in enumerate(history) if one.number > controller.took), len(history))
+    if controller.led < stands.entry and (until := replay.turned_at(stands, new)) is not None:
+        return Request(What.PUSH, listed_from(stands, place, controller.ahead, until, since), stands.entry, True)
     return Request(What.PUSH, listed_from(stands, place, controller.ahead, since=since), stands.entry)
 
 
@@ -178,7 +181,8 @@ def shifted(stands: Standing, text: bytes, ahead: Numbers) -> bytes:
     if ahead == (0, 0):
         return text
     first = stands.repairer.last[0]
-    if first.discontinuity + ahead[1] < first.discontinuities or any(key.takes_number() for it in stands.repairer.last for key in it.keys):
+    is_numbered = any(key.takes_number() for it in stands.repairer.last for key in it.keys)
+    if first.discontinuity + ahead[1] < first.discontinuities or is_numbered or b"\r" in text:
         return listed_from(stands, len(stands.repairer.past), ahead)
     front, rest = text[:text.find(EXTINF)], text[text.find(EXTINF):]
     for tag, by, name in zip(SEQUENCES, ahead, (b"MEDIA", b"DISCONTINUITY")):
@@ -309,7 +313,6 @@ def begin_anew(turn: Turn, channel: str) -> None:
         one.is_in_step = False  # (it is shown all of a list's segments at once)
     turn.put(channel, stands=told_at_once(it, stands, translator))
     turn.set(translator=translator)
-    apart.level(turn, channel)
 
 
 def told_at_once(it: Rendition, stands: Standing, translator: Translator) -> Standing:

@@ -6,7 +6,7 @@ from .siblings import Reach, reach_of
 from .state import Rendition
 from .turn import Turn
 
-PATIENCE = 2.0  # target durations without a new list, after which nobody waits for a rendition
+PATIENCE = 2.0  # target durations without a new segment, after which nobody waits for a rendition
 MOST_APART = 4  # segments by which media numbers of lists without instants may differ and still be of one count
 EXTINF = b"#EXTINF:"
 
@@ -21,10 +21,10 @@ def edge_of(turn: Turn, channel: str) -> Reach | None:
 
 
 def awaited(turn: Turn, it: Rendition) -> Reach | None:
-    """How far the rendition has come; none if nobody waits for it, since it has had no new list for a while, or is about to begin again."""
+    """How far the rendition has come; none if nobody waits for it, since it has had no new segment for a while, or is about to begin again."""
     if it.came is None or turn.at - it.came_at >= PATIENCE * turn.target() or it.older or it.stands.repairer.held_since is not None:
         return None
-    return reach_of(it.came)
+    return it.reach if it.reach is not None else reach_of(it.came)
 
 
 def up_to(body: bytes, edge: Reach) -> bytes:

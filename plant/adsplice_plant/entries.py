@@ -16,7 +16,7 @@ from .state import Controller, Decided, File, FileState, Removed, Rendition, Sta
 from .translator import Translator
 
 NOTHING = Standing(Repairer(Choices()))  # where a rendition stands of which nothing is known
-OF_RENDITIONS = ("done", "firsts", "seen", "stated", "cuts")  # members of what a Translator keeps, by the renditions' names
+OF_RENDITIONS = ("done", "firsts", "lows", "seen", "stated", "cuts")  # members of what a Translator keeps, by the renditions' names
 NUMBERS = ("decided", "listed", "took", "reached", "anew", "led", "unfit")  # members of a Controller
 WAITS = float("-inf")  # until when lists wait for the decision of a break that an earlier feed asked for: no more
 

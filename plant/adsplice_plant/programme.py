@@ -19,7 +19,8 @@ from .packaged import PackagedList, PackagedSegment
 from .playlist import SECOND
 from .reckoning import Numbers, Store
 from .repair import Repaired, Repairer, count_on
-from .siblings import Sibling, Siblings
+from .replay import as_elsewhere, as_it_runs
+from .siblings import Sibling, Siblings, reach_of
 from .state import FileState, Rendition, Standing, State, Way
 from .translator import Translator
 from .turn import Turn, window_of
@@ -92,7 +93,9 @@ def take_list(turn: Turn, event: ListRead) -> None:
     it = turn.state.renditions[event.channel]
     if it.came == event.body:
         return
-    turn.put(event.channel, came=event.body, came_at=turn.at, is_new=True, older=older_than(it, event.body))
+    reach = reach_of(event.body) if len(turn.state.renditions) > 1 else None
+    came_at = it.came_at if reach is not None and reach == it.reach else turn.at
+    turn.put(event.channel, came=event.body, reach=reach, came_at=came_at, is_new=True, older=older_than(it, event.body))
     turn.set(waits_until=0.0)
 
 
@@ -183,6 +186,8 @@ def take_lists(turn: Turn) -> None:
     due = [channel for channel, it in turn.renditions() if it.is_new and not controllers.is_busy(it)]
     if not due or not may_begin(turn):
         return
+    if not any(it.stands.entry for _, it in turn.renditions()):
+        due.sort(key=lambda channel: first_instant(turn.state.renditions[channel].came or b""))
     found: dict[str, Taken] = {}
     older = {channel: turn.state.renditions[channel].older for channel in due}
     for channel in due:
@@ -191,7 +196,8 @@ def take_lists(turn: Turn) -> None:
     if not found:
         return
     translator = turn.state.translator.copy()
-    told = translate(turn, translator, found) if turn.state.renditions[due[0]].settings.signals else []
+    busy = {channel: righted(turn, channel, found) for channel, it in turn.renditions() if it.is_new and channel not in due}
+    told = translate(turn, translator, found, busy) if turn.state.renditions[due[0]].settings.signals else []
     learn(turn, found)
     pass_over(turn, translator, found)
     if waits(turn, translator, found):
@@ -240,14 +246,39 @@ def segments_of(body: bytes) -> list[PackagedSegment]:
     return read(body).segments
 
 
+def first_instant(body: bytes) -> int:
+    """The first instant that the list `body` states, in nanoseconds from 1970; 0 if it states none. The list that begins first has its packager's
+    numbers, and the others follow it."""
+    return next((it.stated for it in segments_of(body) if it.stated is not None), 0)
+
+
 def put_right(turn: Turn, channel: str, found: dict[str, Taken]) -> Taken | None:
     """The list of the `channel` that is to be taken in now, put right up to the edge; none if nothing of it is to be given. `found`: those of
     other renditions that come with it."""
     it = turn.state.renditions[channel]
+    if not it.settings.repair:
+        turn.put(channel, is_new=False)
+        return righted(turn, channel, found)
+    taken = righted(turn, channel, found)
+    repaired = taken.repaired
+    tell_why(turn, channel, repaired)
+    older = it.older if repaired.waits else it.older[1:]
+    turn.put(channel, is_new=repaired.waits or bool(it.older) or taken.is_part, older=older, is_blocked=repaired.why == repairs.SECTIONS)
+    turn.put_standing(channel, repairer=with_hold(it.stands.repairer, taken.repairer.held_since))
+    if repaired.why == repairs.SECTIONS and it.stands.text:
+        turn.put_controller(channel, listed=it.stands.entry - 1)  # (it is pushed again, so that it is seen if a person deletes the channel)
+    if repaired.found is None and repaired.came is None:
+        return None
+    tell_repairs(turn, channel, repaired)
+    return taken
+
+
+def righted(turn: Turn, channel: str, found: dict[str, Taken]) -> Taken:
+    """What the list of the `channel` that is to be taken in next becomes; nothing is changed by that. The rest as in `put_right`."""
+    it = turn.state.renditions[channel]
     body = it.older[0] if it.older else it.came
     assert body is not None
     if not it.settings.repair:
-        turn.put(channel, is_new=False)
         return Taken(it.stands.repairer, Repaired(as_listed(read(body)), came=body), body, False)
     edge = edge_of(turn, channel) if len(turn.state.renditions) > 1 and not it.older else None
     text = up_to(body, edge) if edge is not None else body
@@ -259,15 +290,6 @@ def put_right(turn: Turn, channel: str, found: dict[str, Taken]) -> Taken | None
     if not repairer.last and it.stands.viewed.end is not None:
         go_on_after(repaired, it.stands.viewed.end)
     repairer.siblings = None
-    tell_why(turn, channel, repaired)
-    older = it.older if repaired.waits else it.older[1:]
-    turn.put(channel, is_new=repaired.waits or bool(it.older) or text is not body, older=older, is_blocked=repaired.why == repairs.SECTIONS)
-    turn.put_standing(channel, repairer=with_hold(it.stands.repairer, repairer.held_since))
-    if repaired.why == repairs.SECTIONS and it.stands.text:
-        turn.put_controller(channel, listed=it.stands.entry - 1)  # (it is pushed again, so that it is seen if a person deletes the channel)
-    if repaired.found is None and repaired.came is None:
-        return None
-    tell_repairs(turn, channel, repaired)
     return Taken(repairer, repaired, text, text is not body)
 
 
@@ -311,13 +333,15 @@ def tell_repairs(turn: Turn, channel: str, repaired: Repaired) -> None:
 
 # ---- signals
 
-def translate(turn: Turn, translator: Translator, found: dict[str, Taken]) -> list[Line]:
+def translate(turn: Turn, translator: Translator, found: dict[str, Taken], busy: dict[str, Taken]) -> list[Line]:
     """Puts date ranges that adsplice knows in place of the signals of the lists that were `found`. What any of them signals is the
-    programme's: all are looked at before the first one is written. Answers what is to be told."""
+    programme's: all are looked at before the first one is written, also those of `busy` renditions, which are given later. Answers what is
+    to be told."""
     lists = {channel: it.found() for channel, it in found.items() if it.found().segments}
+    others = [(channel, it.found()) for channel, it in busy.items() if it.found().segments]
     told: list[Line] = []
-    if len(lists) > 1:
-        for channel, it in lists.items():
+    if len(lists) + len(others) > 1:
+        for channel, it in (*others, *lists.items()):
             told += translator.take(it, turn.state.renditions[channel].settings.rendition()).told
     for channel, it in lists.items():
         said = translator.take(it, turn.state.renditions[channel].settings.rendition())
@@ -413,11 +437,17 @@ def is_front_alone(turn: Turn, channel: str, it: Taken) -> bool:
 
 
 def text_of(turn: Turn, channel: str, it: Taken) -> bytes:
-    """The text of the list `it`. In a ladder it says nothing of breaks that are passed over."""
-    found, missed = it.repaired.found, turn.state.renditions[channel].stands.pods.missed
-    if found is not None and len(turn.state.renditions) > 1 and missed:
-        lines = [line for line in found.date_ranges() if not ranges.ids_in([line]) & missed]
-        if len(lines) < len(found.date_ranges()):
+    """The text of the list `it`. In a ladder it says nothing of breaks that are passed over, and of others that they end where they ended in a
+    rendition that has come farther."""
+    found, rendition = it.repaired.found, turn.state.renditions[channel]
+    if found is not None and len(turn.state.renditions) > 1:
+        others = [one.stands for name, one in turn.renditions() if name != channel]
+        lines = [as_elsewhere(rendition.stands, others, line) for line in found.date_ranges() if packaged.id_in(line) not in rendition.stands.pods.missed]
+        if lines != found.date_ranges():
+            found.signals = lines
+    if found is not None and found.segments:
+        lines = [as_it_runs(rendition.stands, line) for line in found.date_ranges()]
+        if lines != found.date_ranges():
             found.signals = lines
     if it.repaired.head is None and found is not None:
         return it.body if found.signals is None else packaged.write(found)
@@ -427,7 +457,7 @@ def text_of(turn: Turn, channel: str, it: Taken) -> bytes:
 def stand(turn: Turn, channel: str, it: Taken, text: bytes, entry: int) -> None:
     """The list `it`, whose text is `text`, is that of the `entry`: so stands the `channel` then."""
     rendition = turn.state.renditions[channel]
-    before, tolerance = rendition.stands, turn.state.translator.tolerance
+    before = rendition.stands
     found = it.repaired.found
     if found is None or it.repaired.head is None:  # (it isn't put right: adsplice judges it)
         viewed = before.viewed.copy()
@@ -435,21 +465,22 @@ def stand(turn: Turn, channel: str, it: Taken, text: bytes, entry: int) -> None:
         stands = replace(before, viewed=viewed, text=text, ahead=b"", entry=entry, after=before.entry)
     else:
         it.repairer.accept(it.repaired)
-        stands = standing(before, it, text, entry, tolerance, turn.state.translator.tolerance)
+        stands = standing(before, it, text, entry, turn.state.translator)
     turn.put(channel, stands=stands, before=before if rendition.controller.trials == 0 else None, is_other=False)
 
 
-def standing(before: Standing, it: Taken, text: bytes, entry: int, tolerance: int, near: int) -> Standing:
-    """Where a channel that stood as `before` stands with the list `it`, whose text is `text`, as the `entry`."""
-    repairer, viewed = it.repairer, before.viewed.copy()
+def standing(before: Standing, it: Taken, text: bytes, entry: int, translator: Translator) -> Standing:
+    """Where a channel that stood as `before` stands with the list `it`, whose text is `text`, as the `entry`. What the breaks began with that the
+    `translator` knows stays known: another rendition may still come to them."""
+    repairer, viewed, tolerance = it.repairer, before.viewed.copy(), translator.tolerance
     lines = it.found().date_ranges()
     last, listed = before.repairer.last, repairer.last
     viewed.note(lines, listed[-1].number)
     viewed.forget((repairer.past or listed)[0].number)
     new = listed[max(0, len(listed) - (listed[-1].number - last[-1].number)):] if last and listed[-1].number >= last[-1].number else listed
     stands = Standing(repairer, viewed, entry, text, ranges.without_moved(before.text, text, tolerance) or b"", before.pods, before.repairs, before.entry)
-    pods = before.pods.of(window_of(stands) | ranges.ids_in(lines)).copy()
-    pods.enter(ranges.starts_in(lines), before.viewed.ranges.keys(), [one.begins for one in new if one.begins is not None], near)
+    pods = before.pods.of(window_of(stands) | ranges.ids_in(lines) | {one.id for one in translator.breaks.known}).copy()
+    pods.enter(ranges.starts_in(lines), before.viewed.ranges.keys(), [one.begins for one in new if one.begins is not None], tolerance)
     target = repairer.head.target if repairer.head is not None else 0
     if stands.ahead and last:  # (adsplice forgets what that list doesn't have)
         viewed.reckon(last, ranges.ranges_in(stands.ahead), Store(pods.held, pods.fallback), tolerance, target)

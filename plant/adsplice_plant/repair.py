@@ -270,6 +270,9 @@ class Repairer:
         last = self.last[-1]
         if last.begins is None:
             return []
+        first = found.segments[0].begins
+        if first is not None and first < last.begins and (taken := siblings.after_clock(last, first)):
+            return taken
         end = last.begins + last.duration
         found.segments = list(dropwhile(lambda it: it.begins is not None and middle_of(it) < end, found.segments)) or found.segments[-1:]
         first = found.segments[0].begins

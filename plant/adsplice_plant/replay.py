@@ -3,6 +3,8 @@ from __future__ import annotations
 
 from typing import NamedTuple
 
+from adsplice_rules.breaks import ends_of
+
 from . import packaged
 from .breaks import TOLERANCE
 from .date_ranges import read_range
@@ -12,6 +14,7 @@ from .signals import duration_of, pieces_of
 from .state import Standing
 from .turn import history_of
 
+BY_POD = "its pod"  # says where a break ends that says nothing of it (ends_of)
 ENDED = ("END-DATE", "DURATION", "SCTE35-IN")  # attributes that say where a break ended (RFC 8216, 4.3.2.7)
 ENDS = (*ENDED, "PLANNED-DURATION")  # and where it is to end
 
@@ -66,6 +69,47 @@ def as_it_ran(stands: Standing, line: str) -> str:
     if length is not None and abs(run.start + length - run.end) <= TOLERANCE:
         return line
     return f"{without(line, ENDS)},DURATION={seconds_text(run.end - run.start)}"
+
+
+def as_elsewhere(stands: Standing, others: list[Standing], line: str) -> str:
+    """The EXT-X-DATERANGE `line` of a break, with the end that it had in one of the `others`, if that has come farther than the rendition that
+    `stands` so: what says where it ends may have come after it had ended by its pod, and here both come at once."""
+    name = packaged.id_in(line)
+    for other in others:
+        said = other.viewed.ranges.get(name)
+        if said is None or name not in other.pods.entered or not is_behind(stands, other):
+            continue
+        run, found = run_of(other, history_of(other), said[0]), read_range(line)
+        if run is None or run.last is None or run.is_turned() or run.end <= end_of(stands):
+            continue
+        length = found.length(found.start()) or duration_of(found.said.get("PLANNED-DURATION", ""))
+        if length is None or abs(length - (run.end - run.start)) > stands.repairer.last[-1].duration // 2:
+            return f"{without(line, ENDS)},DURATION={seconds_text(run.end - run.start)}"
+    return line
+
+
+def as_it_runs(stands: Standing, line: str) -> str:
+    """The EXT-X-DATERANGE `line` of a break that is open, and had no end when it began. It ends with its pod then, unless it is ended before: what
+    says a later end may come after lists that nobody read."""
+    reckoned, found = stands.viewed.reckoned, read_range(line)
+    if reckoned is None or reckoned.run is None or reckoned.run.id != found.id:
+        return line
+    known = next((it for it in reckoned.breaks if it.id == found.id), None)
+    length, total = found.length(found.start()), reckoned.run.shape.total()
+    if known is None or [name for name, _ in ends_of(known, total)] != [BY_POD] or length is None or length <= total + TOLERANCE:
+        return line
+    return f"{without(line, ENDS)},DURATION={seconds_text(total)}"
+
+
+def is_behind(stands: Standing, other: Standing) -> bool:
+    """Whether the lists that stand so end at least half a segment before those of the `other` rendition."""
+    return bool(stands.repairer.last) and bool(other.repairer.last) and end_of(stands) + stands.repairer.last[-1].duration // 2 <= end_of(other)
+
+
+def end_of(stands: Standing) -> int:
+    """The instant at which the lists end that stand so."""
+    last = stands.repairer.last[-1]
+    return (last.begins or 0) + last.duration
 
 
 def without(line: str, names: tuple[str, ...]) -> str:

@@ -26,6 +26,11 @@ class Sibling(NamedTuple):
         return self.segments[next((place for place in range(len(begins) - 1, 0, -1) if begins[place] < begins[place - 1]), 0):]
 
 
+    def has(self, other: PackagedSegment) -> bool:
+        """Whether it has a segment with the media number of the `other` rendition's that begins when that does, or nearly."""
+        return any(it.number == other.number and abs((it.begins or 0) - (other.begins or 0)) <= other.duration // 2 for it in self.segments)
+
+
 class Reach(NamedTuple):
     """How far a list goes: the `instant` at which it ends, if it states one; the media `number` after its last segment; and how long that segment
     is (`last`), in nanoseconds."""
@@ -76,13 +81,18 @@ class Siblings:
     def between(self, start: int, end: int) -> list[PackagedSegment]:
         """The segments of one of them whose middles lie in the time from `start` to before `end`: of the one that has most of them. Their
         references hold for another rendition, too. None if they are more than MOST_BORROWED."""
-        found: list[PackagedSegment] = []
-        base = ""
-        for one in (it for it in self.found if it.lends):
-            there = [it for it in one.newest() if it.begins is not None and start <= middle_of(it) < end]
-            if len(there) > len(found):
-                found, base = there, one.base
-        return [moved(it, base) for it in found] if len(found) <= MOST_BORROWED else []
+        return self.most([[it for it in one.newest() if it.begins is not None and start <= middle_of(it) < end] for one in self.found])
+
+    def after_clock(self, last: PackagedSegment, first: int) -> list[PackagedSegment]:
+        """The segments of one of them after the one that is the `last` one of a rendition, up to the instant `first` by a clock that has gone back
+        since: of the one that has most of them. A rendition has them by its numbers, if it has the same number at the same instant."""
+        place = self.place_at(first)
+        return self.most([[it for it in one.segments if place is not None and last.number < it.number < place[0]] if one.has(last) else [] for one in self.found])
+
+    def most(self, found: list[list[PackagedSegment]]) -> list[PackagedSegment]:
+        """Of the segments that were `found` of each rendition those of the one that lends most of them; none if they are more than MOST_BORROWED."""
+        there, base = max(((segments, one.base) for segments, one in zip(found, self.found) if one.lends), key=lambda it: len(it[0]), default=([], ""))
+        return [moved(it, base) for it in there] if len(there) <= MOST_BORROWED else []
 
 
 def middle_of(it: PackagedSegment) -> int:

@@ -16,6 +16,7 @@ from .numbers import Viewed
 from .pods import Pods
 from .repair import Choices, Repairer
 from .settings import Settings
+from .siblings import Reach
 from .translator import Translator
 
 
@@ -72,7 +73,8 @@ class Standing:
 @dataclass(frozen=True)
 class Rendition:
     """A rendition, whose channel the `settings` tell of: where its lists stand (`stands`), and where they stood `before` its newest one was
-    given, until that is answered. `came`: the newest list that was read, at the moment `came_at`; `older`: those before it that it doesn't go
+    given, until that is answered. `came`: the newest list that was read; how far that goes in a ladder (`reach`), and the moment at which a list came
+    so far first (`came_at`); `older`: those before it that it doesn't go
     on from; `is_new`: whether one of them is still to be taken in. `seen_at`: when the written playlist was looked at last."""
 
     settings: Settings
@@ -80,6 +82,7 @@ class Rendition:
     before: Standing | None = None
     came: bytes | None = None
     older: tuple[bytes, ...] = ()
+    reach: Reach | None = None
     came_at: float = float("-inf")
     is_new: bool = False
     controller: Controller = Controller()

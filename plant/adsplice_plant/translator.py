@@ -47,6 +47,7 @@ class Translator:
         self.breaks, self.aligns, self.tolerance = Breaks(AUTO if types is None else types, types is not None), aligns, tolerance
         self.done: dict[str, Mark] = {}  # of each rendition
         self.firsts: dict[str, int] = {}  # the instant of the first one
+        self.lows: dict[str, int] = {}  # its media number
         self.seen: dict[str, dict[str, set[str]]] = {}  # of each rendition's listed date ranges the attributes that were looked at
         self.stated: dict[str, dict[str, int]] = {}  # of each rendition's listed date ranges the START-DATE
         self.cuts: dict[str, dict[str, list[int | None]]] = {}  # where each rendition's list has begun and ended breaks
@@ -55,7 +56,8 @@ class Translator:
     def copy(self) -> Translator:
         """The same state, as a value of its own."""
         found = copy(self)
-        found.breaks, found.done, found.firsts, found.styles = self.breaks.copy(), dict(self.done), dict(self.firsts), set(self.styles)
+        found.breaks, found.done, found.styles = self.breaks.copy(), dict(self.done), set(self.styles)
+        found.firsts, found.lows = dict(self.firsts), dict(self.lows)
         found.seen = {name: {id_: set(said) for id_, said in it.items()} for name, it in self.seen.items()}
         found.stated = {name: dict(it) for name, it in self.stated.items()}
         found.cuts = {name: {id_: [*cut] for id_, cut in it.items()} for name, it in self.cuts.items()}
@@ -79,8 +81,8 @@ class Translator:
         newest = found.segments[-1]
         if fresh < len(found.segments):
             self.done[rendition] = Mark(newest.number, newest.uri, line.begins[-1])
-        self.firsts[rendition], self.breaks.is_first = line.first, False
-        self.breaks.forget(min(self.firsts.values()))
+        self.firsts[rendition], self.lows[rendition], self.breaks.is_first = line.first, line.low_number, False
+        self.breaks.forget(min(self.firsts.values()), min(self.lows.values()))
         listed = [it for it in self.breaks.known if self.is_listed(it, line)]
         self.cut(line, rendition)
         is_known = self.passes(ranges, listed, line, rendition)
@@ -94,9 +96,8 @@ class Translator:
         before = self.stated.get(rendition, {})
         self.stated[rendition] = {it.id: start for it in ranges if it.is_splice() and (start := it.start()) is not None}
         moved = {name: start for name, start in self.stated[rendition].items() if abs(start - before.get(name, start)) > self.tolerance}
-        for at, by, number in line.jumps(fresh) if self.done.get(rendition) is not None else []:
-            names = {name for name, start in moved.items() if abs(start - before[name] - by) <= line.half(at)}
-            self.breaks.turn_clock(at, by, number, names)
+        for jump in line.jumps(fresh) if self.done.get(rendition) is not None else []:
+            self.breaks.turn_clock(jump, {name for name, start in moved.items() if abs(start - before[name] - jump.by) <= line.half(jump.at)})
         for name, start in moved.items():
             one = self.breaks.named(name)
             if one is None or abs(one.start - start) <= line.half(start):
@@ -198,7 +199,9 @@ class Translator:
     def is_listed(self, one: Break, line: Timeline) -> bool:
         """Whether the break `one` is written in the list of `line`: a segment of it is listed, or is to come. One without an end is
         written as long as its first segment is listed; one that may yet be put on a segment isn't written before that is listed, also if
-        another rendition has come to it."""
+        another rendition has come to it. One within which the packager's clock changed is written as long as a segment from before that is listed."""
+        if one.is_on_new_clock(line.low_number):
+            return True
         if line.aligns and not line.is_reached(one.start) and not line.will_begin(one.start):
             return False
         end = one.end()
@@ -263,7 +266,7 @@ class Translator:
 
     def kept(self) -> dict[str, Any]:
         """The state as JSON."""
-        return {"breaks": self.breaks.kept(), "clock": self.breaks.clock, "done": dict(self.done), "firsts": dict(self.firsts),
+        return {"breaks": self.breaks.kept(), "clock": self.breaks.clock, "done": dict(self.done), "firsts": dict(self.firsts), "lows": dict(self.lows),
                 "cancelled": sorted(self.breaks.cancelled), "styles": sorted(self.styles),
                 "stated": {name: dict(it) for name, it in self.stated.items()},
                 "cuts": {name: {id_: [*cut] for id_, cut in it.items()} for name, it in self.cuts.items()},
@@ -276,6 +279,6 @@ class Translator:
         self.seen = {name: {id_: set(said) for id_, said in it.items()} for name, it in kept["seen"].items()}
         self.stated = {name: {id_: int(start) for id_, start in it.items()} for name, it in kept.get("stated", {}).items()}
         self.cuts = {name: {id_: [*cut] for id_, cut in it.items()} for name, it in kept.get("cuts", {}).items()}
-        self.firsts = {name: int(first) for name, first in kept.get("firsts", {}).items()}
+        self.firsts, self.lows = ({name: int(first) for name, first in kept.get(member, {}).items()} for member in ("firsts", "lows"))
         self.breaks.cancelled, self.styles, self.breaks.is_first = set(kept["cancelled"]), set(kept["styles"]), not self.done
         self.breaks.clock = kept.get("clock")

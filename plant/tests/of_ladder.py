@@ -429,21 +429,21 @@ def test_ladder_that_came_apart_comes_together_though_a_break_is_always_listed(r
         assert [said["status"] for said in map(json.loads, it) if said["what"] == "apart"] == [1, 0]
 
 
-def test_ladder_whose_media_numbers_came_apart_has_equal_ones_once_the_lower_are_deleted(room):
+def test_ladder_whose_media_numbers_came_apart_keeps_what_viewers_have(room):
     controller, breaks = room.server(RulesController()), [("b1", 8, 4)]
     ladder = Ladder(room, controller.url, listed(0, 3, breaks))
     ladder.taken()
     assert put(f"{controller.url}/channels/news-1/decisions", decided(("b1", 4), seconds="1").encode()) == 204  # (4 segments for 2, in one alone)
     push_on(ladder, controller, [7], breaks)
-    after = ladder.feed.sees("news ladder - Apart: .*; media numbers stay so: DELETE news-2, news-3 while no break is listed")
+    after = ladder.feed.sees("news ladder - Apart: .*; media numbers stay so")
     push_on(ladder, controller, range(8, 15), ())
     assert [media for media, _ in at_newest(controller)] == [16, 14, 14], at_newest(controller)
     assert sum(" Apart: " in line for line in ladder.feed.lines) == 1, "a state is told once"
     with controller.one_by_one:
         del controller.edge.channels["news-2"], controller.edge.channels["news-3"]
     push_on(ladder, controller, range(15, 18), ())
-    ladder.feed.sees("news ladder - -: the renditions' numbers are equal", 20, after)
-    assert at_newest(controller) == [(19, 2)] * 3 and sum("news-1 adsplice 201" in line for line in ladder.feed.lines) == 1, at_newest(controller)
+    ladder.feed.sees("news-3 adsplice 201 -: makes the channel", 20, after)
+    assert [media for media, _ in at_newest(controller)] == [19, 17, 17] and sum(" Apart: " in line for line in ladder.feed.lines) == 1, at_newest(controller)
 
 
 def test_ladder_one_that_is_made_anew_after_a_pod_of_another_cut_is_not_apart(room):
@@ -599,5 +599,5 @@ def test_ladder_whose_channels_are_all_new_begins_with_equal_numbers(room):
     for name in NAMES:
         urllib.request.urlopen(urllib.request.Request(f"http://127.0.0.1:{port}/channels/news-{name}", method="DELETE")).close()
     ladder.push(listed(8, 15))
-    ladder.feed.sees("news ladder - -: the renditions' numbers are equal", 20, after)
-    until(lambda: {re.search(r"MEDIA-SEQUENCE:(\d+)", it)[1] for it in numbers(port)} == {"10"}, 20, "equal numbers of the newest list")
+    ladder.feed.sees("news-3 adsplice 204 -: the list is taken", 20, after)
+    until(lambda: [re.search(r"MEDIA-SEQUENCE:(\d+)", it)[1] for it in numbers(port)] == ["10", "8", "8"], 20, "the numbers that viewers have")

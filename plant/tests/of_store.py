@@ -38,7 +38,7 @@ from adsplice_rules.channel import Channel, decide, refreshed, written  # noqa: 
 
 NEEDS = ()
 ENDS = {  # what ends with a process, by the class whose member it is
-    "State": {"in_step_since", "waits_until", "longest_pause"}, "Rendition": {"settings", "came", "older", "came_at", "is_new", "seen_at", "is_other"},
+    "State": {"in_step_since", "waits_until", "longest_pause"}, "Rendition": {"settings", "came", "reach", "older", "came_at", "is_new", "seen_at", "is_other"},
     "Controller": {"sent", "trials", "retry_at", "is_unseen"},
     "Repairer": {"siblings", "accepted", "held_since"}, "Viewed": {"origin"}, "File": {"since"}, "Breaks": {"told", "recent"}, "Decided": {"tells"}}
 
@@ -287,6 +287,7 @@ def crowded():
     stands = Standing(repairer, viewed, 8, b"#EXTM3U\n", b"ahead\n", Pods("[]", {"b1": "[1]"}, {"b1": "[2]"}, {"b2"}), {"times": 3}, 7)
     renditions = {name: dataclasses.replace(it, stands=stands, before=dataclasses.replace(stands, entry=7), listed=frozenset({"b1"})) for name, it in one.renditions.items()}
     translator = copy.copy(one.translator)
+    translator.lows = {"a": 21, "b": 22}
     translator.done, translator.firsts, translator.seen, translator.stated, translator.cuts, translator.styles = (
         {"a": Mark(8, "8.ts", 48)}, {"a": 6}, {"a": {"b1": {"SCTE35-OUT"}}}, {"a": {"b1": 6}}, {"a": {"b1": [6, None]}}, {"EXT-X-AD"})
     translator.breaks = copy.copy(one.translator.breaks)

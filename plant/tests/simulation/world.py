@@ -22,6 +22,7 @@ from .viewers import ADS, Ads, Breach, Viewers
 
 LIMIT = 5.0  # seconds after which a request is given up
 LATENCY = 0.012  # seconds to a controller and back
+QUIET = 60.0  # seconds after a day in which renditions whose numbers are apart at its end may come together
 MOST_OFTEN = 0.25  # seconds between two looks at an origin, at the least
 REFUSING = ("J3", "J4", "J1", "apart")  # how a wrong decision is wrong
 
@@ -160,10 +161,16 @@ class World:
         for fault in self.plan.faults:
             self.at(fault.at, self.happen, fault)
         self.feed.start()
-        while self.queue and self.queue[0][0] <= self.plan.length:
+        self.go_on(self.plan.length)
+        if not self.breaches and self.apart():
+            self.go_on(self.plan.length + QUIET)
+        return self.judge()
+
+    def go_on(self, until: float) -> None:
+        """Has all happen that happens up to a moment."""
+        while self.queue and self.queue[0][0] <= until:
             self.now, _, do, args = heapq.heappop(self.queue)
             do(*args)
-        return self.judge()
 
     def judge(self) -> list[Breach]:
         """What was broken, with what is seen at the end alone."""
