@@ -8,7 +8,7 @@ from dataclasses import dataclass
 from typing import Any, NamedTuple
 
 from . import splice
-from .packaged import PackagedSegment
+from .packaged import Instants, PackagedSegment
 from .playlist import SECOND, instant_text, seconds_text
 from .signals import LONGEST, Signal
 from .splice import Kind, Message
@@ -123,17 +123,15 @@ class Jump(NamedTuple):
 
 
 class Timeline:
-    """The instants of a list's `segments`, of which each has one. With `aligns` what lies within half a segment of a segment's
-    begin is put there. `moved`: by how much its media numbers are greater than those of a programme's other renditions."""
+    """The `instants` of a list's `segments`. With `aligns` what lies within half a segment of a segment's begin is put there. `moved`: by how
+    much its media numbers are greater than those of a programme's other renditions."""
 
-    def __init__(self, segments: list[PackagedSegment], aligns: bool = True, moved: int = 0) -> None:
+    def __init__(self, segments: list[PackagedSegment], instants: Instants, aligns: bool = True, moved: int = 0) -> None:
         self.segments, self.aligns = segments, aligns
         self.low_number, self.last = segments[0].number - moved, segments[-1].number - moved
-        self.begins = [it.begins or 0 for it in segments]
+        self.begins, self.low = instants
         self.end = self.begins[-1] + segments[-1].duration
-        self.first = min(self.begins)
-        is_steady = self.begins == sorted(self.begins)
-        self.low = 0 if is_steady else next(n for n in range(len(segments) - 1, 0, -1) if self.begins[n] < self.begins[n - 1])  # since when the clock didn't go back
+        self.first = min(self.begins[self.low], *self.begins[:self.low]) if self.low else self.begins[0]
 
     def jumps(self, fresh: int) -> list[Jump]:
         """Where, from the place `fresh` on, the clock changes by more than a segment."""

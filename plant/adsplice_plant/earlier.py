@@ -16,6 +16,7 @@ from . import packaged, records, spelling
 from .edits import edited, lines_of
 from .entries import Known, state_of
 from .events import Stamp, Tell
+from .growing import Growing
 from .numbers import Viewed
 from .packaged import Key, PackagedSegment
 from .pods import Pods, decision_of, pods_of
@@ -68,7 +69,8 @@ def unpack(said: dict[str, Any], choices: Choices) -> Earlier:
     repairer.head, repairer.adds = Head(version, int(target), kind), bool(said["adds"])
     repairer.past = [it for it in history if said["first"] <= it.number < said["listed"]]
     repairer.last = [it for it in history if it.number >= said["listed"]]
-    viewed = Viewed({int(number): (int(media), int(step)) for number, media, step in said.get("begins", [])}, None, bool(said["is_replaced"]))
+    begins = {int(number): (int(media), int(step)) for number, media, step in said.get("begins", [])}
+    viewed = Viewed(Growing(sorted(begins.items())), None, bool(said["is_replaced"]))
     viewed.end = (int(said["end"][0]), int(said["end"][1])) if said["end"] else None
     viewed.reckoned = None if said["reckoned"] is None else Reckoned.read(said["reckoned"], said["breaks"])
     names = [packaged.attributes_of(str(line).partition(":")[2]).get("ID", "") for line, _ in said["ranges"]]

@@ -4,7 +4,7 @@ An edit is a list of pieces which make the new text one after the other: a text 
 line of the old text to which (counted from 0, the second one not among them). A list whose window moved on takes a few pieces.
 Lines end with LF alone (RFC 8216, 4.1).
 """
-from typing import NamedTuple
+from typing import AnyStr, NamedTuple
 
 Piece = str | list[int]
 LOOKS = 4  # at each line of the old text, after which what is out of order counts as new; and at the rest of both texts
@@ -26,15 +26,16 @@ class Common(NamedTuple):
     end: int
 
 
-def common_end(old: str, new: str) -> Common | None:
+def common_end(old: AnyStr, new: AnyStr) -> Common | None:
     """The end of the text `old` that stands in `new`, from one of the first lines of `new` on; none if it isn't found by its last letters.
     A list whose window moved on has all but its front from the list before it. The texts are compared LOOKS times at most."""
-    if len(old) < ALIKE or not old.endswith("\n") or (at := new.rfind(old[-ALIKE:])) < 0:
+    line_end = old[-1:]
+    if len(old) < ALIKE or line_end not in ("\n", b"\n") or (at := new.rfind(old[-ALIKE:])) < 0:
         return None
     end, begin, looks = at + ALIKE, 0, 0
-    while looks < LOOKS and (past := new.find("\n", begin, end) + 1):
+    while looks < LOOKS and (past := new.find(line_end, begin, end) + 1):
         place = len(old) - (end - begin)
-        if place >= 0 and old[place - 1:place] in ("", "\n") and old.startswith(new[begin:past], place):
+        if place >= 0 and old[place - 1:place] in (line_end[:0], line_end) and old.startswith(new[begin:past], place):
             looks += 1
             if new.startswith(old[place:], begin):
                 return Common(place, begin, end)

@@ -85,7 +85,7 @@ def parts_of(old: bytes, new: bytes) -> Parts | None:
 def fresh_of(before: Accepted, body: bytes) -> Fresh | None:
     """What the list `body` says if it goes on from the one `before`; none if it has to be read as a whole."""
     parts = parts_of(before.body, body)
-    if parts is None or len(body) > spelling.MOST_LINES and body.count(b"\n") > spelling.MOST_LINES:
+    if parts is None:
         return None
     kinds: spelling.Kinds = set()
     try:
@@ -140,6 +140,8 @@ def grown(before: Accepted, fresh: Fresh) -> PackagedList:
     found = PackagedList(old.version, old.target, kind=old.kind, is_independent=old.is_independent, segments=kept + fresh.new)
     if old.pieces is not None:
         found.pieces = old.pieces[fresh.dropped:] + [packaged.piece_of(one, it) for one, it in zip([kept[-1], *fresh.new], fresh.new)]
+    if (instants := old.instants()) is not None:
+        found.timed = instants.after(fresh.dropped, [it.begins for it in fresh.new if it.begins is not None])
     old.own_ranges()
     marked = [place - fresh.dropped for place in old.marked or () if place > fresh.dropped]
     found.marked = [0, *marked, *(place for place, it in enumerate(fresh.new, len(kept)) if any(line.startswith(packaged.DATE_RANGE) for line in it.tags))]

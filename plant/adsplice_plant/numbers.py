@@ -10,9 +10,10 @@ import re
 from bisect import bisect_left
 from collections.abc import Iterable
 from dataclasses import dataclass, field, replace
-from itertools import chain, takewhile
+from itertools import chain
 
 from . import packaged, spelling
+from .growing import Growing
 from .packaged import PackagedSegment
 from .reckoning import Moment, Numbers, Reckoned, Store, known_after, reckoned
 
@@ -55,40 +56,38 @@ class Viewed:
     """What viewers have: for the feed's media number of a segment, the numbers with which a new channel has to begin there to go on
     (`begins`); the numbers of the last segment written (`end`); whether the newest segment given `is_replaced` by a pod's; and each
     date range's line by its ID, with the last media number at which it was listed (`ranges`). `reckoned`: what adsplice has by what it was
-    given; none if that isn't known. `origin` is another object once `begins` has got anything but segments at its end, or lost any but at its
-    front."""
+    given; none if that isn't known."""
 
-    begins: dict[int, Numbers] = field(default_factory=dict)
+    begins: Growing[Numbers] = field(default_factory=Growing)
     end: Numbers | None = None
     is_replaced: bool = False
     ranges: dict[str, tuple[str, int]] = field(default_factory=dict)
     reckoned: Reckoned | None = None
-    origin: object = field(default_factory=object, compare=False, repr=False)
 
     def copy(self) -> Viewed:
         """The same, as a value of its own."""
-        return replace(self, begins=dict(self.begins), ranges=dict(self.ranges))
+        return replace(self, ranges=dict(self.ranges))
 
     def see(self, items: list[Item], segments: list[PackagedSegment]) -> None:
         """Takes in the written `items` after the list of `segments` was given."""
-        self.origin, self.reckoned = object(), None
+        self.reckoned, begins = None, dict(self.begins)
         places: dict[int, list[int]] = {}
         for place, item in enumerate(items):
             if item.instant is not None:
                 places.setdefault(item.instant, []).append(place)
-        later, was_replaced = 0, bool(self.begins)  # (a run that begins with the very first list begins at its first segment)
+        later, was_replaced = 0, bool(begins)  # (a run that begins with the very first list begins at its first segment)
         for it in segments:
             found = later if it.begins is None else next((one for one in places.get(it.begins, []) if one >= later), len(items))
             if found < len(items):
-                self.begins[it.number] = items[found].number, items[found].discontinuity
+                begins[it.number] = items[found].number, items[found].discontinuity
                 later, was_replaced = found + 1, False
                 continue
             if not was_replaced and later < len(items):
-                self.begins[it.number] = items[later].number, items[later].discontinuity - 1
+                begins[it.number] = items[later].number, items[later].discontinuity - 1
             elif it is not segments[0]:
-                self.begins.pop(it.number, None)
+                begins.pop(it.number, None)
             was_replaced = True
-        self.is_replaced = was_replaced
+        self.begins, self.is_replaced = Growing(sorted(begins.items())), was_replaced
         self.end = (items[-1].number, items[-1].discontinuity) if items else self.end
 
     def reckon(self, segments: list[PackagedSegment], lines: list[str], store: Store, tolerance: int, target: int) -> bool:
@@ -100,8 +99,7 @@ class Viewed:
         new = segments if before.newest is None else segments[len(segments) - max(0, segments[-1].number - before.newest):]
         moment = Moment(known_after(before, lines), store, tolerance, target, segments[0].section is not None)
         self.reckoned, begins = reckoned(before, new, moment)
-        self.origin = self.origin if before.newest is not None else object()
-        self.begins |= begins
+        self.begins = self.begins.with_more(begins)
         self.end, self.is_replaced = self.reckoned.end(), self.reckoned.run is not None
         return True
 
@@ -112,14 +110,6 @@ class Viewed:
         if not self.is_replaced and (numbers := self.begins.get(newest.number)) is not None:
             self.reckoned = Reckoned(newest.number, newest.discontinuity, *numbers, breaks=known_after(Reckoned(), lines))
 
-    def rise(self, media: int, discontinuity: int) -> None:
-        """A new channel begins with numbers that are greater by `media` and `discontinuity` than those that viewers have."""
-        self.origin = object()
-        self.begins = {number: (it[0] + media, it[1] + discontinuity) for number, it in self.begins.items()}
-        self.end = None if self.end is None else (self.end[0] + media, self.end[1] + discontinuity)
-        if (it := self.reckoned) is not None:
-            self.reckoned = replace(it, media=it.media + media, discontinuity=it.discontinuity + discontinuity)
-
     def note(self, lines: Iterable[str], newest: int) -> None:
         """Remembers the EXT-X-DATERANGE `lines` of the list whose newest segment has the media number `newest`."""
         for line in lines:
@@ -129,14 +119,12 @@ class Viewed:
 
     def forget(self, before: int) -> None:
         """Forgets what is of segments that come `before` this media number."""
-        for number in list(takewhile(lambda it: it < before, self.begins)):
-            del self.begins[number]
+        self.begins = self.begins.since(before)
         self.ranges = {name: it for name, it in self.ranges.items() if it[1] >= before}
 
     def renumber(self, media: int) -> None:
         """The feed's media numbers grow by `media`."""
-        self.origin = object()
-        self.begins = {number + media: it for number, it in self.begins.items()}
+        self.begins = Growing((number + media, it) for number, it in self.begins.items())
         self.ranges = {name: (line, number + media) for name, (line, number) in self.ranges.items()}
 
 

@@ -87,13 +87,30 @@ class PackagedSegment:
         return next((it for it in reversed(self.tags) if it.startswith(EXTINF)), "")
 
 
+class Instants(NamedTuple):
+    """When the segments of a list begin (`begins`), and the place since which the clock didn't go back (`low`)."""
+
+    begins: list[int]
+    low: int
+
+    def after(self, dropped: int, new: list[int]) -> Instants:
+        """Those of the list that lost the segments that `dropped` out at its front, and has others at its end, which begin at the instants `new`."""
+        begins = self.begins[dropped:] + new
+        return Instants(begins, steady_from(begins, max(0, self.low - dropped), max(1, len(begins) - len(new))))
+
+
+def steady_from(begins: list[int], low: int, first: int) -> int:
+    """The place since which the instants `begins` don't go back, if that is `low` of those before the place `first`."""
+    return next((n for n in range(len(begins) - 1, first - 1, -1) if begins[n] < begins[n - 1]), low)
+
+
 @dataclass(slots=True)
 class PackagedList:
     """A media playlist: the values of its tags (RFC 8216, 4.3.3), none for those that it hasn't, its `segments`, and the
     lines after the last one: `tail_tags` and `tail_discontinuities`. `others` are the names of tags
     that change what the list means, and of instants that don't read. `signals`: the EXT-X-DATERANGE lines in place of its own; none if
     it keeps those. `marked`: the places of the segments before which its own stand, once these were looked for; `pieces`: the text
-    of each segment, once it was written."""
+    of each segment, once it was written; `timed`: when the segments begin, once that was asked for."""
 
     version: int | None = None
     target: int | None = None
@@ -109,6 +126,7 @@ class PackagedList:
     signals: list[str] | None = None
     marked: list[int] | None = None
     pieces: list[bytes] | None = None
+    timed: Instants | None = None
 
     def own_ranges(self) -> list[tuple[int, int, str]]:
         """The packager's EXT-X-DATERANGE lines: the place of the segment before which each stands (past the last one after it), its
@@ -117,6 +135,13 @@ class PackagedList:
             self.marked = [place for place, it in enumerate(self.segments) if any(line.startswith(DATE_RANGE) for line in it.tags)]
         tags = [(place, self.segments[place].tags) for place in self.marked] + [(len(self.segments), self.tail_tags)]
         return [(place, at, line) for place, lines in tags for at, line in enumerate(lines) if line.startswith(DATE_RANGE)]
+
+    def instants(self) -> Instants | None:
+        """When its segments begin; none if that isn't known of each."""
+        if self.timed is None:
+            begins = [it.begins for it in self.segments if it.begins is not None]
+            self.timed = Instants(begins, steady_from(begins, 0, 1)) if len(begins) == len(self.segments) else None
+        return self.timed
 
     def date_ranges(self) -> list[str]:
         """Its EXT-X-DATERANGE lines, those after the last segment, too."""

@@ -7,11 +7,12 @@ from __future__ import annotations
 
 from collections.abc import Callable, Mapping
 from dataclasses import fields, replace
-from itertools import compress, takewhile
+from itertools import compress
 from operator import attrgetter, is_not
 from typing import Any
 
 from .edits import common_end
+from .growing import Growing
 from .numbers import Viewed
 from .packaged import DATE_RANGE, InitSection, Key, Keys, PackagedSegment
 from .pods import Pods, checked
@@ -41,7 +42,7 @@ def bytes_of(text: str) -> bytes:
 def edit_of(old: bytes, new: bytes) -> list[Any]:
     """What makes the text `new` of the text `old`: what is new before a part of `old`, from which byte of `old` on that part goes, to which, and
     what is new after it; or `new` alone."""
-    common = common_end(old.decode("latin-1"), new.decode("latin-1"))  # (a letter for each byte)
+    common = common_end(old, new)
     if common is None:
         return [text_of(new)]
     return [text_of(new[:common.begin]), common.old, len(old), text_of(new[common.end:])]
@@ -198,25 +199,20 @@ def segments_after(past: list[PackagedSegment], last: list[PackagedSegment], sai
 
 # ---- what viewers have
 
-def begins_said(old: Viewed, now: Viewed) -> Said:
+def begins_said(old: Growing[Numbers], now: Growing[Numbers]) -> Said:
     """What changed of the numbers that viewers have: those `from` a media number on stay (none if none do), and those of the `add` come after
     them. Nothing if nothing changed."""
-    newest, first = next(reversed(old.begins), None), next(iter(now.begins), None)
-    if newest is None and first is None:
+    if now is old or not old and not now:
         return {}
-    if now.origin is not old.origin or newest not in now.begins:
-        return {"from": None, "add": [[number, *it] for number, it in now.begins.items()]}
-    new = [*takewhile(lambda it: it[0] != newest, reversed(now.begins.items()))][::-1]
-    is_shorter = first != next(iter(old.begins))
-    return {"from": first, "add": [[number, *it] for number, it in new]} if new or is_shorter else {}
+    is_grown = now.grows_from(old) and bool(old) and old.end > now.first
+    add = [[number, *it] for number, it in now.pairs(old.end if is_grown else now.first)]
+    return {"from": now.oldest() if is_grown else None, "add": add}
 
 
-def begins_after(old: Mapping[int, Numbers], said: Said) -> dict[int, Numbers]:
+def begins_after(old: Growing[Numbers], said: Said) -> Growing[Numbers]:
     """The numbers that viewers have after the ones of `old`, by what was `said`."""
-    first = said["from"]
-    gone = {*takewhile(lambda it: it != first, old)} if first is not None else {*old}
-    stays = {number: it for number, it in old.items() if number not in gone} if gone else dict(old)
-    return stays | {int(number): (int(media), int(steps)) for number, media, steps in said["add"]}
+    new = {int(number): (int(media), int(steps)) for number, media, steps in said["add"]}
+    return (old.since(int(said["from"])) if said["from"] is not None else Growing()).with_more(new)
 
 
 def range_said(old: tuple[str, int] | None, now: tuple[str, int]) -> list[Any]:
@@ -261,7 +257,7 @@ def of_viewed(old: Viewed, now: Viewed) -> Said:
     if now is old:
         return {}
     said: Said = {}
-    if begins := begins_said(old, now):
+    if begins := begins_said(old.begins, now.begins):
         said["begins"] = begins
     if ranges := changes(old.ranges, now.ranges, range_said):
         said["ranges"] = ranges

@@ -478,7 +478,9 @@ def standing(before: Standing, it: Taken, text: bytes, entry: int, translator: T
     viewed.note(lines, listed[-1].number)
     viewed.forget((repairer.past or listed)[0].number)
     new = listed[max(0, len(listed) - (listed[-1].number - last[-1].number)):] if last and listed[-1].number >= last[-1].number else listed
-    stands = Standing(repairer, viewed, entry, text, ranges.without_moved(before.text, text, tolerance) or b"", before.pods, before.repairs, before.entry)
+    listed_before = [line for line, number in before.viewed.ranges.values() if last and number >= last[-1].number]
+    ahead = ranges.without_moved(before.text, listed_before, lines, tolerance) or b""
+    stands = Standing(repairer, viewed, entry, text, ahead, before.pods, before.repairs, before.entry)
     pods = before.pods.of(window_of(stands) | ranges.ids_in(lines) | {one.id for one in translator.breaks.known}).copy()
     pods.enter(ranges.starts_in(lines), before.viewed.ranges.keys(), [one.begins for one in new if one.begins is not None], tolerance)
     target = repairer.head.target if repairer.head is not None else 0

@@ -70,11 +70,11 @@ class Translator:
         if not found.segments:
             return Translated()
         ranges, fresh = ranges_of(found), self.first_new(found, rendition)
-        is_untimed = None in [it.begins for it in found.segments]
-        self.look_for_styles(found, ranges, fresh, is_untimed)
-        if is_untimed:
+        instants = found.instants()
+        self.look_for_styles(found, ranges, fresh, instants is None)
+        if instants is None:
             return Translated(None, self.tellings())
-        line, before = Timeline(found.segments, self.aligns, moved), {it.id for it in self.breaks.known}
+        line, before = Timeline(found.segments, instants, self.aligns, moved), {it.id for it in self.breaks.known}
         self.restate(ranges, line, fresh, rendition)
         self.count(self.of_segments(found, fresh) + self.of_ranges(ranges, line, fresh, rendition), line)
         self.breaks.settle(line)

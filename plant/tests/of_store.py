@@ -8,6 +8,7 @@ import random
 import subprocess
 import sys
 import time
+from collections.abc import Mapping
 from pathlib import Path
 
 import recorded
@@ -20,6 +21,7 @@ from adsplice_plant import events, journal, packaged, store  # noqa: E402
 from adsplice_plant.breaks import TOLERANCE, Break  # noqa: E402
 from adsplice_plant.entries import difference, known_of  # noqa: E402
 from adsplice_plant.events import Answered, Began, FolderRead, ListRead, Request, Send, Ticked, What  # noqa: E402
+from adsplice_plant.growing import Growing  # noqa: E402
 from adsplice_plant.numbers import Item, Viewed  # noqa: E402
 from adsplice_plant.programme import step  # noqa: E402
 from adsplice_plant.ranges import ids_in, ranges_in, starts_in  # noqa: E402
@@ -40,7 +42,7 @@ NEEDS = ()
 ENDS = {  # what ends with a process, by the class whose member it is
     "State": {"in_step_since", "waits_until", "longest_pause"}, "Rendition": {"settings", "came", "reach", "older", "came_at", "is_new", "seen_at", "is_other"},
     "Controller": {"sent", "trials", "retry_at", "is_unseen"},
-    "Repairer": {"siblings", "accepted", "held_since"}, "Viewed": {"origin"}, "File": {"since"}, "Breaks": {"told", "recent"}, "Decided": {"tells"}}
+    "Repairer": {"siblings", "accepted", "held_since"}, "File": {"since"}, "Breaks": {"told", "recent"}, "Decided": {"tells"}}
 
 
 # ---- states, as a feed makes them
@@ -69,7 +71,7 @@ def taken(state, channel, body, seconds, is_refused=False):
     found.found.signals = said.ranges
     text, last = found.body(), stands.repairer.last
     repairer.accept(found)
-    viewed = dataclasses.replace(stands.viewed, begins=dict(stands.viewed.begins), ranges=dict(stands.viewed.ranges), reckoned=stands.viewed.reckoned or Reckoned())
+    viewed = dataclasses.replace(stands.viewed, ranges=dict(stands.viewed.ranges), reckoned=stands.viewed.reckoned or Reckoned())
     viewed.note(found.found.date_ranges(), found.found.segments[-1].number)
     viewed.forget((repairer.past or repairer.last)[0].number)
     pods = copy.deepcopy(stands.pods)
@@ -101,7 +103,7 @@ def gave(state, body, name=""):
 def plain(value):
     """All that `value` has, in its order, without what ends with a process, and without the date ranges of listed segments."""
     kind = type(value).__name__
-    if isinstance(value, dict):
+    if isinstance(value, Mapping):
         return [(name, plain(it)) for name, it in value.items()]
     if isinstance(value, (set, frozenset)):
         return sorted(value)
@@ -206,7 +208,7 @@ def test_numbers_that_are_seen_come_back(room):
         kept.look("news", with_breaks(newest - 5, newest, []), 2.0 * newest)
         if newest in (12, 20):
             one = kept.state.renditions["news"]
-            viewed = dataclasses.replace(one.stands.viewed, begins=dict(one.stands.viewed.begins))
+            viewed = one.stands.viewed.copy()
             viewed.see([Item(it.number + newest, 0, it.begins) for it in one.stands.repairer.last[1:]], one.stands.repairer.last)
             viewed.learn(one.stands.repairer.last, [])
             kept.state = dataclasses.replace(kept.state, renditions={"news": dataclasses.replace(one, stands=dataclasses.replace(one.stands, viewed=viewed))})
@@ -283,7 +285,7 @@ def crowded():
     repairer = Repairer(Choices(), Siblings([]))
     repairer.head, repairer.past, repairer.last, repairer.adds, repairer.owed, repairer.lead, repairer.front = Head(3, 2, "EVENT"), segments[:1], segments[1:], True, 2, Lead(107, 2, 9), 1
     reckoned = Reckoned(108, 16, 90, 5, Run("b1", Shape(((7, 8), (9,)), (True, False)), 5), (rules.Break("b1", 1, 2, 3, 4, "0x1", "0x2"),), "b1", True)
-    viewed = Viewed({107: (90, 5), 108: (91, 5)}, (91, 5), True, {"b1": ("#EXT-X-DATERANGE:ID=b1", 108)}, reckoned)
+    viewed = Viewed(Growing([(107, (90, 5)), (108, (91, 5))]), (91, 5), True, {"b1": ("#EXT-X-DATERANGE:ID=b1", 108)}, reckoned)
     stands = Standing(repairer, viewed, 8, b"#EXTM3U\n", b"ahead\n", Pods("[]", {"b1": "[1]"}, {"b1": "[2]"}, {"b2"}), {"times": 3}, 7)
     renditions = {name: dataclasses.replace(it, stands=stands, before=dataclasses.replace(stands, entry=7), listed=frozenset({"b1"})) for name, it in one.renditions.items()}
     translator = copy.copy(one.translator)
@@ -310,7 +312,7 @@ CHOSEN = {"Repairer": {"choices"}, "Translator": {"aligns", "tolerance"}, "Break
 
 def look(value, names, tried):
     """Adds to `names` each member of `value` with its class, and to `tried` those that haven't the value with which they begin."""
-    if isinstance(value, dict):
+    if isinstance(value, Mapping):
         value = list(value.values())
     if isinstance(value, (list, tuple)) and not hasattr(value, "_fields"):
         for it in value:
