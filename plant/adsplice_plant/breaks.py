@@ -18,6 +18,7 @@ TOLERANCE = SECOND // 10  # adsplice's own
 STALE = 1800 * SECOND  # after which a break without a duration that nothing ended is over
 MOST = 256  # breaks known at a time: adsplice decides no more
 MOST_ALIKE = 8  # segments that are compared, to see whether they are cut regularly
+NEAR_JUMPS = 2  # segments by which renditions' media numbers may differ where one change of the packager's clock shows
 SHOWN = 100  # letters of an ID that are told
 Order = tuple[int, int]  # of a tag: the place of the segment before which it stands, and its place among the tags there
 
@@ -62,6 +63,11 @@ class Break:
     def is_on_new_clock(self, number: int) -> bool:
         """Whether the packager's clock changed within it, after the segment of the media `number` or a later one."""
         return self.clock is not None and self.said is not None and number <= self.clock
+
+    def has_turned(self, jump: Jump) -> bool:
+        """Whether it is on the new clock after the `jump` already. Another rendition may come to it with the segment before or after."""
+        by = 0 if self.said is None else self.start - self.said
+        return self.clock is not None and (self.clock == jump.number or abs(self.clock - jump.number) <= NEAR_JUMPS and abs(by - jump.by) <= SECOND)
 
     def is_past_plan(self, instant: int) -> bool:
         """Whether its planned end is before the `instant`; not if it has none."""
@@ -113,9 +119,10 @@ class Line:
 
 
 class Jump(NamedTuple):
-    """A change of a list's clock `by` so much at the instant `at`, after the segment of the media `number`. `is_within`: the packager lists no
-    discontinuity there, and leaves no number out, so that nothing of the programme lies between."""
+    """A change of a list's clock `by` so much at the instant `at`, after the segment of the media `number`, which began at the instant `last`.
+    `is_within`: the packager lists no discontinuity there, and leaves no number out, so that nothing of the programme lies between."""
 
+    last: int
     at: int
     by: int
     number: int
@@ -140,8 +147,16 @@ class Timeline:
             before, it = self.segments[n - 1], self.segments[n]
             at = self.begins[n - 1] + before.duration
             if abs(self.begins[n] - at) > max(SECOND, before.duration):
-                found.append(Jump(at, self.begins[n] - at, self.last - len(self.segments) + n, it.own == before.own + 1 and not it.discontinuities))
+                found.append(Jump(self.begins[n - 1], at, self.begins[n] - at, self.last - len(self.segments) + n, it.own == before.own + 1 and not it.discontinuities))
         return found
+
+    def has_turned(self, one: Break) -> bool:
+        """Whether the list has come to the clock by which the break `one` begins and ends now: renditions that are cut at other times come to it with
+        other segments."""
+        if one.clock is None or one.said is None:
+            return one.clock is None or self.last > one.clock
+        by = one.start - one.said
+        return self.low_number > one.clock + 1 or any(abs(jump.by - by) <= self.segments[-1].duration // 2 for jump in self.jumps(1))
 
     def half(self, instant: int) -> int:
         """Half the duration of the segment in which the `instant` is, or of the one nearest to it."""
@@ -337,9 +352,9 @@ class Breaks:
         have been away: then it holds for the breaks `names` alone, of which it says so. Each rendition of a programme says the same."""
         self.clock = jump.number
         is_set = jump.by < 0 or jump.is_within
-        for one in [it for it in self.known if it.start < jump.at and it.clock != jump.number and (is_set or it.id in names)]:
+        for one in [it for it in self.known if it.start < jump.at and not it.has_turned(jump) and (is_set or it.id in names)]:
             end = one.end()
-            if end is not None and end > jump.at:
+            if end is not None and end > jump.last:
                 one.until, one.is_ended = end, True
             one.said = one.start if one.said is None else one.said
             one.start, one.latest, one.clock = one.start + jump.by, one.latest + jump.by, jump.number

@@ -21,10 +21,12 @@ def edge_of(turn: Turn, channel: str) -> Reach | None:
 
 
 def awaited(turn: Turn, it: Rendition) -> Reach | None:
-    """How far the rendition has come; none if nobody waits for it, since it has had no new segment for a while, or is about to begin again."""
-    if it.came is None or turn.at - it.came_at >= PATIENCE * turn.target() or it.older or it.stands.repairer.held_since is not None:
+    """How far the rendition has come; none if nobody waits for it, since it has had no new segment for a while, or is about to begin again. One whose
+    list a feed that has just begun hasn't read has come as far as its last one."""
+    came = it.came if it.came is not None else it.stands.text
+    if not came or turn.at - it.came_at >= PATIENCE * turn.target() or it.older or it.stands.repairer.held_since is not None:
         return None
-    return it.reach if it.reach is not None else reach_of(it.came)
+    return it.reach if it.reach is not None else reach_of(came)
 
 
 def up_to(body: bytes, edge: Reach) -> bytes:

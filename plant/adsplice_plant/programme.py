@@ -127,7 +127,7 @@ def begin_again(turn: Turn) -> None:
     """The feed has begun: whether the controllers are there isn't known. Nobody waits any more for what an earlier feed waited for."""
     for channel, it in turn.renditions():
         turn.put_controller(channel, way=Way.UNKNOWN, sent=None, trials=0, retry_at=0.0, is_unseen=False)
-        turn.put(channel, came_at=float("-inf") if it.came is None else turn.at)
+        turn.put(channel, came_at=turn.at)
     turn.set(asked=dict.fromkeys(turn.state.asked, turn.at), waits_until=0.0, in_step_since=None)
 
 
@@ -416,7 +416,7 @@ def end_of(found: PackagedList) -> int:
 
 def enter(turn: Turn, translator: Translator, found: dict[str, Taken]) -> None:
     """The lists that were `found` are the log's next entry, as far as they are new."""
-    texts = {channel: text_of(turn, channel, it) for channel, it in found.items()}
+    texts = {channel: text_of(turn, channel, it, translator) for channel, it in found.items()}
     new = {channel: it for channel, it in found.items() if texts[channel] != turn.state.renditions[channel].stands.text and not is_front_alone(turn, channel, it)}
     for channel, it in found.items():
         if it.is_part or channel not in new:
@@ -436,7 +436,7 @@ def is_front_alone(turn: Turn, channel: str, it: Taken) -> bool:
     return it.is_part and bool(last) and bool(segments) and segments[-1].number == last[-1].number
 
 
-def text_of(turn: Turn, channel: str, it: Taken) -> bytes:
+def text_of(turn: Turn, channel: str, it: Taken, translator: Translator) -> bytes:
     """The text of the list `it`. In a ladder it says nothing of breaks that are passed over, and of others that they end where they ended in a
     rendition that has come farther."""
     found, rendition = it.repaired.found, turn.state.renditions[channel]
@@ -446,7 +446,7 @@ def text_of(turn: Turn, channel: str, it: Taken) -> bytes:
         if lines != found.date_ranges():
             found.signals = lines
     if found is not None and found.segments:
-        lines = [as_it_runs(rendition.stands, line) for line in found.date_ranges()]
+        lines = [as_it_runs(rendition.stands, line, translator.breaks.named(packaged.id_in(line))) for line in found.date_ranges()]
         if lines != found.date_ranges():
             found.signals = lines
     if it.repaired.head is None and found is not None:

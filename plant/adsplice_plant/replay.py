@@ -6,7 +6,7 @@ from typing import NamedTuple
 from adsplice_rules.breaks import ends_of
 
 from . import packaged
-from .breaks import TOLERANCE
+from .breaks import TOLERANCE, Break
 from .date_ranges import read_range
 from .packaged import PackagedSegment
 from .playlist import instant_text, seconds_text
@@ -88,12 +88,15 @@ def as_elsewhere(stands: Standing, others: list[Standing], line: str) -> str:
     return line
 
 
-def as_it_runs(stands: Standing, line: str) -> str:
+def as_it_runs(stands: Standing, line: str, one: Break | None) -> str:
     """The EXT-X-DATERANGE `line` of a break that is open, and had no end when it began. It ends with its pod then, unless it is ended before: what
-    says a later end may come after lists that nobody read."""
+    says a later end may come after lists that nobody read. `one`: what is known of it; if the packager's clock changed within it, it ends so by the
+    new clock."""
     reckoned, found = stands.viewed.reckoned, read_range(line)
     if reckoned is None or reckoned.run is None or reckoned.run.id != found.id:
         return line
+    if one is not None and one.said is not None and one.end() is None:
+        return f'{without(line, ENDS)},END-DATE="{instant_text(one.start + reckoned.run.shape.total())}"'
     known = next((it for it in reckoned.breaks if it.id == found.id), None)
     length, total = found.length(found.start()), reckoned.run.shape.total()
     if known is None or [name for name, _ in ends_of(known, total)] != [BY_POD] or length is None or length <= total + TOLERANCE:

@@ -68,10 +68,15 @@ class Siblings:
         return found
 
     def place_at(self, instant: int | None) -> tuple[int, int] | None:
-        """Another rendition's media number and discontinuity number at `instant`, by the segment that begins nearest to it."""
-        known = [(abs(it.begins - instant), it.number, it.discontinuity) for one in self.found for it in one.newest()
+        """Another rendition's media number and discontinuity number at `instant`, by the segment that begins nearest to it. Past its last segment the
+        next ones are as long as that."""
+        known = [(abs(it.begins - instant), place == 0, it) for one in self.found for place, it in enumerate(reversed(one.newest()))
                  if it.begins is not None and instant is not None]
-        return min(known)[1:] if known else None
+        if not known or instant is None:
+            return None
+        _, is_last, it = min(known, key=lambda one: one[0])
+        more = (instant - (it.begins or 0) + it.duration // 2) // it.duration if is_last and it.duration else 0
+        return it.number + max(0, more), it.discontinuity
 
     def is_awaited(self, instant: int | None, duration: int) -> bool:
         """Whether a rendition that goes on hasn't come to the segment that begins at `instant`, of `duration` nanoseconds."""

@@ -83,8 +83,8 @@ class Translator:
             self.done[rendition] = Mark(newest.number, newest.uri, line.begins[-1])
         self.firsts[rendition], self.lows[rendition], self.breaks.is_first = line.first, line.low_number, False
         self.breaks.forget(min(self.firsts.values()), min(self.lows.values()))
-        listed = [it for it in self.breaks.known if self.is_listed(it, line)]
         self.cut(line, rendition)
+        listed = [it for it in self.breaks.known if self.is_listed(it, line, rendition)]
         is_known = self.passes(ranges, listed, line, rendition)
         others = [it.line for it in ranges if not it.is_translated() and self.breaks.named(it.id) is None]
         lines = None if is_known else others + [self.written(it, line, rendition) for it in listed]
@@ -196,16 +196,16 @@ class Translator:
 
     # ---- what is written
 
-    def is_listed(self, one: Break, line: Timeline) -> bool:
-        """Whether the break `one` is written in the list of `line`: a segment of it is listed, or is to come. One without an end is
+    def is_listed(self, one: Break, line: Timeline, rendition: str) -> bool:
+        """Whether the break `one` is written in the list of `line` of the `rendition`: a segment of it is listed, or is to come. One without an end is
         written as long as its first segment is listed; one that may yet be put on a segment isn't written before that is listed, also if
         another rendition has come to it. One within which the packager's clock changed is written as long as a segment from before that is listed."""
         if one.is_on_new_clock(line.low_number):
             return True
         if line.aligns and not line.is_reached(one.start) and not line.will_begin(one.start):
             return False
-        end = one.end()
-        return end > line.first if end is not None else one.start >= line.first - TOLERANCE
+        end, start = one.end(), self.cuts[rendition][one.id][0]
+        return end > line.first if end is not None else (one.start if start is None else start) >= line.first - TOLERANCE
 
     def cut(self, line: Timeline, rendition: str) -> None:
         """Takes in where the breaks begin and end in the `rendition`, whose list is that of `line`, once it has come there: at its own nearest
@@ -216,7 +216,7 @@ class Translator:
             found = self.cuts[rendition][it.id]
             for place, instant in enumerate((it.start if it.said is None else it.said, it.until)):
                 if instant is not None and found[place] is None and line.is_reached(instant):
-                    own = line.aligned(instant) if it.clock is None or line.last > it.clock else instant
+                    own = line.aligned(instant) if line.has_turned(it) else instant
                     found[place] = own if abs(own - instant) > self.tolerance else instant
 
     def is_cut_elsewhere(self, one: Break, rendition: str) -> bool:
@@ -258,7 +258,7 @@ class Translator:
         """Whether the list of `line` says where the break `one` ends: once it has come there, or to the planned end of one that is extended;
         and by the packager's new clock, if that has changed, once the list has segments of it."""
         if one.clock is not None:
-            return one.is_ended and line.last > one.clock
+            return one.is_ended and line.has_turned(one)
         is_at_end = one.until is not None and one.is_ended and line.is_reached(one.until)
         return is_at_end or one.is_extended() and line.is_reached(one.start + (one.planned or 0))
 

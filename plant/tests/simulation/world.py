@@ -354,11 +354,9 @@ class World:
             if one.id == it.name:
                 return it.name
         at = one.start // 10**6 - EPOCH
-        for clock in {cut.clock for it in self.packagers.values() for cut in it.all} | {0}:
-            near = [it for it in self.plan.breaks if abs(it.start + clock - at) <= self.plan.target // 2]
-            if near:
-                return near[0].name
-        return ""
+        clocks = {cut.clock for it in self.packagers.values() for cut in it.all} | {0}
+        near = [it for clock in clocks for it in self.plan.breaks if abs(it.start + clock - at) <= self.plan.target // 2]
+        return min(near, key=lambda it: abs(it.start - 1000 * self.now)).name if near else ""
 
     def decide(self, name: str, id_: str, version: int = 0) -> None:
         """The break `name`, which the feed knows as `id_`, is decided."""
