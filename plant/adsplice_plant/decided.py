@@ -15,6 +15,7 @@ from . import faults
 from .decisions import LASTING, MOST_OVER, NO_FALLBACK, OVER, ROOM, said_by, withdrawal
 from .events import Finish, Stamp
 from .packaged import attributes_of, instant_of
+from .pods import decision_of
 from .state import Decided, File, FileState, Removed, Rendition, Telling, Way
 from .turn import Turn, window_of
 
@@ -23,6 +24,7 @@ AGAIN = 0.5  # seconds until decisions are given again for which a controller ha
 MOST_AT_ONCE = 16  # decisions that no listed break needs, given in one turn
 MOST_DECISIONS = 1024  # of the log that are kept for a controller that comes back
 BREAKS, FALLBACK, WITHDRAW = "breaks", "fallback", "withdraw"  # the kinds of decision files
+NOTHING = b'{"breaks":[]}'  # a decision file that says nothing
 J9, J10, J11 = "J9", "J10", "J11"  # faults: a break is in use, there is no room, there is nothing to withdraw
 
 
@@ -455,7 +457,18 @@ def give_fallback(turn: Turn) -> None:
         turn.tell(wrong[0], "fallback", 422, wrong[1], f"{faults.meaning(422, wrong[1])}; goes on without it")
         return
     is_told = is_changed and not turn.is_ladder()
+    keep_for_late(turn)
     decide(turn, wanted, FALLBACK, (), tells=Telling("fallback", "", "the file has changed: sets it anew", True) if is_told else None)
+
+
+def keep_for_late(turn: Turn) -> None:
+    """A break that the fallback fills in a rendition, and to which another one hasn't come, is decided so for that one, before the fallback changes."""
+    for one in turn.state.translator.breaks.known if turn.is_ladder() else ():
+        stands = {channel: it.stands.pods for channel, it in turn.renditions()}
+        late = {channel: it.fallback for channel, it in stands.items() if one.id not in it.entered and one.id not in it.held and one.id not in it.missed}
+        if late and None not in late.values() and any(one.id in it.entered and one.id not in it.held for it in stands.values()):
+            bodies = {channel: decision_of(one.id, late[channel] or "[]") if channel in late else NOTHING for channel in stands}
+            decide(turn, bodies, BREAKS, (one.id,), FALLBACK, True)
 
 
 def refused_fallback(turn: Turn, channel: str, status: int, line: str) -> None:

@@ -9,7 +9,7 @@ from dataclasses import dataclass, field
 from typing import Any, NamedTuple
 
 from . import packaged, signals, splice
-from .breaks import AUTO, TOLERANCE, Break, Breaks, Line, Order, Placed, Timeline
+from .breaks import AUTO, STALE, TOLERANCE, Break, Breaks, Line, Order, Placed, Timeline
 from .date_ranges import STATED, DateRange, RangeReader, is_leaving, is_same, ranges_of
 from .packaged import DATE_RANGE, PackagedList
 from .playlist import instant_text, seconds_text
@@ -32,11 +32,17 @@ class Translated:
 
 
 class Mark(NamedTuple):
-    """The newest segment of a list that was looked at: by its URI and instant it is found again, whatever number it has then."""
+    """The newest segment of a list that was looked at: by its URI and instant it is found again, whatever number it has then. `before`: when the
+    newest one of the list before began; a break that wasn't over then may be open yet."""
 
     number: int
     uri: str
     begins: int
+    before: int | None = None
+
+    def since(self, first: int) -> int:
+        """The instant since which breaks may be open, if the list's segments begin from the instant `first` on."""
+        return first if self.before is None else min(first, self.before)
 
 
 class Translator:
@@ -78,11 +84,13 @@ class Translator:
         self.restate(ranges, line, fresh, rendition)
         self.count(self.of_segments(found, fresh) + self.of_ranges(ranges, line, fresh, rendition), line)
         self.breaks.settle(line)
-        newest = found.segments[-1]
+        newest, last = found.segments[-1], self.done.get(rendition)
         if fresh < len(found.segments):
-            self.done[rendition] = Mark(newest.number, newest.uri, line.begins[-1])
-        self.firsts[rendition], self.lows[rendition], self.breaks.is_first = line.first, line.low_number, False
-        self.breaks.forget(min(self.firsts.values()), min(self.lows.values()))
+            self.done[rendition] = Mark(newest.number, newest.uri, line.begins[-1], None if last is None else last.begins)
+        self.firsts[rendition], self.lows[rendition] = self.done[rendition].since(line.first), line.low_number
+        self.breaks.is_first = False
+        near = [name for name, first in self.firsts.items() if first >= line.first - STALE]  # (one that stands still for long holds nothing)
+        self.breaks.forget(min((self.firsts[name] for name in near), default=line.first), min((self.lows[name] for name in near), default=line.low_number))
         self.cut(line, rendition)
         listed = [it for it in self.breaks.known if self.is_listed(it, line, rendition)]
         is_known = self.passes(ranges, listed, line, rendition)
@@ -204,8 +212,8 @@ class Translator:
             return True
         if line.aligns and not line.is_reached(one.start) and not line.will_begin(one.start):
             return False
-        end, start = one.end(), self.cuts[rendition][one.id][0]
-        return end > line.first if end is not None else (one.start if start is None else start) >= line.first - TOLERANCE
+        end, start, first = one.end(), self.cuts[rendition][one.id][0], self.firsts[rendition]
+        return end > first if end is not None else (one.start if start is None else start) >= first - TOLERANCE
 
     def cut(self, line: Timeline, rendition: str) -> None:
         """Takes in where the breaks begin and end in the `rendition`, whose list is that of `line`, once it has come there: at its own nearest

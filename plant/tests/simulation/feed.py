@@ -262,7 +262,7 @@ class Feed:
             self.world.breach("entries go back", "", f"after {self.entry} comes {state.entry}")
         self.log.write(state)
         self.entry = state.entry
-        self.world.kept()
+        self.world.kept(state)
 
     def send(self, it: Send) -> None:
         """Sends a request."""

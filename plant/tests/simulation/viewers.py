@@ -33,6 +33,11 @@ class Pod(NamedTuple):
     at: float
 
 
+def cut_of(uri: str) -> int:
+    """Which cut of the programme a segment is, whosever it is."""
+    return int(uri.rpartition("/")[2][:-3])
+
+
 @dataclass
 class Ads:
     """All pods that were ever decided, by rendition, break and version: their URIs, and how long they last in milliseconds."""
@@ -55,6 +60,7 @@ class Viewers:
     last: int = -1
     reached: int | None = None  # the millisecond of the programme up to which they have it
     seen: dict[str, int] = field(default_factory=dict)  # the media number of each segment of the programme
+    times: dict[int, float] = field(default_factory=dict)  # when each cut of the programme was new to them
     left: list[str] = field(default_factory=list)  # of the pod that is shown now
     pods: list[Pod] = field(default_factory=list)
     since: list[Pod] = field(default_factory=list)  # pods since the newest segment of the programme
@@ -96,7 +102,7 @@ class Viewers:
 
     def numbers(self) -> dict[int, tuple[int, int]]:
         """The media number and the discontinuity number of each cut of the programme, whosever segment that was."""
-        return {int(path.rpartition("/")[2][:-3]): (number, self.ledger[number][1]) for path, number in self.seen.items()}
+        return {cut_of(path): (number, self.ledger[number][1]) for path, number in self.seen.items()}
 
     # ---- pods
 
@@ -163,6 +169,7 @@ class Viewers:
         elif self.reached is not None:
             self.look_for_lost(self.reached, found.begin, uri)
         self.seen[path] = number
+        self.times.setdefault(cut_of(path), self.now)
         self.reached, self.since = max(found.end, self.reached or 0), []
 
     def look_for_lost(self, begin: int, end: int, uri: str) -> None:

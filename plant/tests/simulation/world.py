@@ -10,6 +10,7 @@ from dataclasses import dataclass, field
 from typing import Any
 
 from adsplice_plant import finding
+from adsplice_plant.state import State
 from adsplice_plant.web import Answer
 from adsplice_rules.edge import Edge
 from adsplice_rules.edge import Request as Asked
@@ -18,7 +19,7 @@ from .controller import Controller
 from .feed import Answered, AskedInVain, Copies, FallbackRead, Feed, FolderRead, Found, ListRead, Log
 from .packager import BASE, EPOCH, Packager
 from .plan import ALL, FALLBACK, Fault, Plan, Span
-from .viewers import ADS, Ads, Breach, Viewers
+from .viewers import ADS, Ads, Breach, Viewers, cut_of
 
 LIMIT = 5.0  # seconds after which a request is given up
 LATENCY = 0.012  # seconds to a controller and back
@@ -186,7 +187,20 @@ class World:
         common = set.intersection(*(set(it) for it in known))
         last = [it[max(common)] for it in known] if common else []
         kinds = [kind for place, kind in enumerate(("media numbers apart", "discontinuity numbers apart")) if len({it[place] for it in last}) > 1]
+        if kinds and kinds[0].startswith("media") and any(self.lacks_cut(it) for it in self.viewers.values()):
+            kinds.pop(0)  # (nobody had what lacks there, so that its numbers are fewer)
         return [Breach(kinds[0], self.now, "", f"of the cut {max(common)}: {last}")] if kinds else []
+
+    def lacks_cut(self, viewers: Viewers) -> bool:
+        """Whether a rendition lacks a cut that its packager never made, and that no other rendition had in a list when its viewers came past it."""
+        own, shown = {cut_of(it.uri) for it in viewers.packager.all}, viewers.times
+        lost = {cut_of(it.uri) for one in self.packagers.values() for it in one.all if cut_of(it.uri) > min(shown, default=0)} - own - shown.keys()
+        for cut in lost:
+            past = min((at for number, at in shown.items() if number > cut), default=None)
+            read = [at for known in self.read.values() for uri, at in known.items() if cut_of(uri) == cut]
+            if past is not None and all(at > past for at in read):
+                return True
+        return False
 
     def unequal(self) -> list[Breach]:
         """The breaks that aren't filled alike in all renditions."""
@@ -250,14 +264,16 @@ class World:
                 known[uri] = self.now
                 self.unkept.append((name, uri))
 
-    def kept(self) -> None:
-        """What was read so far is in the store, or was taken in."""
-        self.unkept.clear()
+    def kept(self, state: State) -> None:
+        """The store has the `state`: what its lists have of what was read so far stays read, whatever happens to the feed."""
+        if self.unkept:
+            there = {name: {f"{BASE}/{name}/{it.uri.partition('?')[0]}" for it in state.renditions[self.plan.channel(name)].stands.repairer.last} for name in self.plan.names}
+            self.unkept = [(name, uri) for name, uri in self.unkept if uri not in there[name]]
 
     def ended(self) -> None:
         """The feed ended: what it read since it kept something is forgotten."""
         for name, uri in self.unkept:
-            del self.read[name][uri]
+            self.read[name].pop(uri, None)
         self.unkept.clear()
 
     def begun(self) -> None:
