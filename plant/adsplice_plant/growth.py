@@ -114,9 +114,15 @@ def read_after(newest: PackagedSegment, text: bytes, kinds: spelling.Kinds) -> l
     said = reader.end()
     is_plain = not (said.others or said.is_ended or said.tail_tags or said.tail_discontinuities or reader.seen)
     is_alike = all((it.section is None) == (newest.section is None) and not it.is_gap for it in new)
+    is_alike = is_alike and not (new and is_twice(new[-2] if len(new) > 1 else newest, new[-1]))
     for place, it in enumerate(new):
         it.own = newest.own + 1 + place
     return new if is_plain and is_alike else None
+
+
+def is_twice(one: PackagedSegment, other: PackagedSegment) -> bool:
+    """Whether the segment `other`, which is listed after `one`, is that again: at the same instant, since a slate may come again and again."""
+    return one.uri == other.uri and one.byte_range == other.byte_range and one.stated is not None and one.stated == other.stated
 
 
 def is_told_again(first: PackagedSegment, same: PackagedSegment) -> bool:

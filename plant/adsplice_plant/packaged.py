@@ -12,10 +12,10 @@ from typing import NamedTuple
 
 from . import playlist
 from .spelling import Unread
+from .spelling import attributes_of as attributes_of
 
 REMEMBERED = 4096  # dates and times that were read: those of a break stand in each list
 MOST_SEGMENTS = 10_000  # of a list that adsplice takes
-MOST_ATTRIBUTES = 64  # of a tag that adsplice takes
 EARLIEST, LATEST = -2_208_988_800 * playlist.SECOND, 7_258_118_400 * playlist.SECOND  # instants from 1900 on, before 2200
 MOST_NUMBER = 2**64 - 1  # of a decimal-integer (RFC 8216, 4.2)
 IDENTITY = "identity"  # the KEYFORMAT of a key that names none (4.3.2.4)
@@ -146,28 +146,6 @@ class PackagedList:
     def date_ranges(self) -> list[str]:
         """Its EXT-X-DATERANGE lines, those after the last segment, too."""
         return [line for _, _, line in self.own_ranges()] if self.signals is None else self.signals
-
-
-def attributes_of(text: str) -> dict[str, str]:
-    """The attributes of the list `text` (RFC 8216, 4.2), the first of each name, without their quotes. After MOST_ATTRIBUTES of
-    them the rest isn't read."""
-    found: dict[str, str] = {}
-    place = 0
-    for _ in range(MOST_ATTRIBUTES):
-        if (equals := text.find("=", place)) < 0:
-            break
-        if text[equals + 1: equals + 2] == '"':
-            end = text.find('"', equals + 2)
-            end = len(text) if end < 0 else end
-            value, comma = text[equals + 2: end], text.find(",", end)
-        else:
-            comma = text.find(",", equals)
-            value = text[equals + 1: len(text) if comma < 0 else comma]
-        found.setdefault(text[place: equals].strip(), value)
-        if comma < 0:
-            break
-        place = comma + 1
-    return found
 
 
 @lru_cache(REMEMBERED)

@@ -9,7 +9,7 @@ from bisect import bisect_left
 from dataclasses import dataclass, field, replace
 from itertools import dropwhile
 
-from . import growth, packaged, repairs, spelling
+from . import growth, packaged, repairs, spelling, variables
 from .growth import Accepted
 from .packaged import PackagedList, PackagedSegment
 from .playlist import SECOND
@@ -19,20 +19,23 @@ from .succession import Place, is_same, lags, place_of
 
 NEWEST_VERSION = 7  # of a playlist that RFC 8216 describes
 TYPES = ("EVENT", "VOD")
-UNTAKEN = {"EXT-X-SKIP", "EXT-X-DEFINE"}  # without what they refer to, a list says something else
-OTHER_LISTS = {"EXT-X-I-FRAMES-ONLY", "EXT-X-STREAM-INF", "EXT-X-MEDIA", "EXT-X-I-FRAME-STREAM-INF", "EXT-X-SESSION-DATA", "EXT-X-SESSION-KEY"}
-NOTED = {"EXT-X-PROGRAM-DATE-TIME": "instants", packaged.MISPLACED: "sequence tags"}  # what the reader noted, and the repair
+UNTAKEN = {"EXT-X-SKIP"}  # without what it refers to, a list says something else
+OTHER_LISTS = {"EXT-X-I-FRAMES-ONLY", "EXT-X-STREAM-INF", "EXT-X-MEDIA", "EXT-X-I-FRAME-STREAM-INF"}
+NOTED = {  # what the reader noted, and the repair
+    "EXT-X-PROGRAM-DATE-TIME": "instants", packaged.MISPLACED: "sequence tags", "EXT-X-SESSION-KEY": "session tags", "EXT-X-SESSION-DATA": "session tags"}
 MOST_PAST = 1_000  # segments that left the list and are remembered
 LEAST = 3  # target durations that a list lasts at least, if it did before (RFC 8216, 6.2.2)
 
 
 @dataclass(frozen=True)
 class Choices:
-    """What a person chose: the `target` duration in seconds, if any; whether the channel `is_endless`; whether the feed `adds_times`."""
+    """What a person chose: the `target` duration in seconds, if any; whether the channel `is_endless`; whether the feed `adds_times`. `query`: that
+    of the list's URL."""
 
     target: int | None = None
     is_endless: bool = True
     adds_times: bool = True
+    query: str = ""
 
 
 @dataclass
@@ -117,7 +120,9 @@ class Repairer:
             return grown
         kinds: Kinds = set()
         try:
-            found = packaged.read(spelling.lines_of(body, kinds))
+            found = packaged.read(variables.replaced(spelling.lines_of(body, kinds), self.choices.query, kinds))
+        except variables.Untaken as fault:
+            return Repaired(why=repairs.NOT_ALL.format(fault))
         except Unread as fault:
             return Repaired(came=None if self.last else body, why=str(fault))
         if untaken := found.others & UNTAKEN:
@@ -132,6 +137,7 @@ class Repairer:
         said = growth.head_of(found)
         counted = (found.discontinuity_sequence, [it.discontinuities for it in found.segments])
         drop_gaps(found, kinds)
+        drop_twice(found, kinds)
         if not found.segments:
             return Repaired(why=repairs.EMPTY)
         is_timed = any(it.stated is not None for it in found.segments)
@@ -466,6 +472,13 @@ def drop_gaps(found: PackagedList, kinds: dict[str, str]) -> None:
         segments.append(it)
         length, steps, count, tags = 0, 0, 0, []
     found.segments, found.tail_tags = segments, tags + found.tail_tags
+
+
+def drop_twice(found: PackagedList, kinds: dict[str, str]) -> None:
+    """Leaves out the newest segment of `found` if it is the one before it again, at the same instant."""
+    if len(found.segments) > 1 and growth.is_twice(found.segments[-2], found.segments[-1]):
+        kinds["listed twice"] = ""
+        found.segments.pop()
 
 
 def intern(last: list[PackagedSegment], new: list[PackagedSegment]) -> None:

@@ -8,7 +8,10 @@ KINDS = {
     "spaces": ("4.1", "spaces around lines, numbers and durations are left out"),
     "attribute lists": ("4.2", "spaces around attributes, and a comma after the last one, are left out"),
     "last line": ("4.1", "the last line has no end; it is ended"),
-    "durations": ("4.3.2.1", "a duration with an exponent is written as a decimal"),
+    "durations": ("4.3.2.1", "a duration is written as a decimal without an exponent, and without attributes after it"),
+    "variables": ("4.1", "EXT-X-DEFINE isn't of RFC 8216: each variable is written as the text that it stands for"),
+    "session tags": ("4.3.4", "EXT-X-SESSION-KEY and EXT-X-SESSION-DATA are of a master playlist, and are left out"),
+    "listed twice": ("4.3.3.2", "the newest segment is listed twice, and is written once"),
     "dates": ("4.3.2.6", "a date and time is written with a T and without spaces"),
     "instants": ("4.3.2.6", "a date and time that doesn't read is left out"),
     "target duration": ("4.3.3.1", "EXT-X-TARGETDURATION is a whole number, rounded up"),
@@ -40,6 +43,7 @@ LAGS = "the list is older than the last one, and is passed over"
 SECTIONS = ("initialisation sections (EXT-X-MAP) came or went, which adsplice takes in a new channel alone: it isn't given this list "
             "(a person makes a new channel by a DELETE of this one)")
 EMPTY = "the list has no segment yet; waits for one"
+NOT_ALL = "{}: the list isn't given to adsplice"
 NEEDS = "{} is in the list, which doesn't say all without what came before: it isn't given to adsplice (have the packager leave it out)"
 
 

@@ -8,6 +8,7 @@ from math import ceil, isfinite
 CONTROL = re.compile("[\x00-\x09\x0b-\x1f\x7f-\x9f]")  # all but the line feed
 MOST_LINES = 60_000  # that say something, of a list that is read
 MOST_PARTS = 256  # of an attribute list that is put right: adsplice takes no more than 64 attributes
+MOST_ATTRIBUTES = 64  # of a tag that adsplice takes
 Kinds = set[str]  # of repairs (repairs.py)
 
 
@@ -29,6 +30,28 @@ def lines_of(body: bytes, kinds: Kinds) -> list[str]:
     if any(it[0] == " " or it[-1] == " " for it in lines if it):
         lines = [stripped(it, kinds) for it in lines]
     return [spelled(it, kinds) if it[0] == "#" else it for it in lines if it]
+
+
+def attributes_of(text: str) -> dict[str, str]:
+    """The attributes of the list `text` (RFC 8216, 4.2), the first of each name, without their quotes. After MOST_ATTRIBUTES of
+    them the rest isn't read."""
+    found: dict[str, str] = {}
+    place = 0
+    for _ in range(MOST_ATTRIBUTES):
+        if (equals := text.find("=", place)) < 0:
+            break
+        if text[equals + 1: equals + 2] == '"':
+            end = text.find('"', equals + 2)
+            end = len(text) if end < 0 else end
+            value, comma = text[equals + 2: end], text.find(",", end)
+        else:
+            comma = text.find(",", equals)
+            value = text[equals + 1: len(text) if comma < 0 else comma]
+        found.setdefault(text[place: equals].strip(), value)
+        if comma < 0:
+            break
+        place = comma + 1
+    return found
 
 
 def text_of(body: bytes, kinds: Kinds) -> str:
@@ -95,11 +118,18 @@ def target(rest: str, kinds: Kinds) -> str:
 
 
 def extinf(rest: str, kinds: Kinds) -> str:
-    """A duration as a decimal without spaces around it and without an exponent (4.3.2.1); the title stays."""
+    """A duration as a decimal without spaces around it and without an exponent (4.3.2.1); the title stays. What stands between the two, as in
+    the lists of set-top boxes, is left out."""
     duration, comma, title = rest.partition(",")
     found = duration.strip()
     if found != duration:
         kinds.add("spaces")
+    if " " in found and (word := found.partition(" ")[0]) and float_of(word) is not None:
+        pieces = rest.split('"')  # (a comma within quotes is none)
+        place = next((n for n in range(0, len(pieces), 2) if "," in pieces[n]), len(pieces) - 1)
+        _, comma, title = '"'.join(pieces[place:]).partition(",")
+        kinds.add("durations")
+        found = word
     if ("e" in found or "E" in found) and (seconds := float_of(found)) is not None:
         kinds.add("durations")
         found = f"{seconds:.9f}".rstrip("0").rstrip(".")

@@ -6,6 +6,7 @@ controller that has nothing.
 """
 from __future__ import annotations
 
+import urllib.parse
 from collections.abc import Mapping
 from dataclasses import dataclass, field
 from enum import Enum
@@ -178,10 +179,15 @@ class State:
     is_apart: frozenset[str] = frozenset()  # the channels whose numbers aren't those of the others
 
 
+def query_of(settings: Settings) -> str:
+    """The query of the URL of the channel's list; empty if it has none, or is a file."""
+    return urllib.parse.urlsplit(settings.origin).query if settings.origin.startswith(("http://", "https://")) else ""
+
+
 def begin(settings: list[Settings], tolerance: int, longest_pause: float = 5.0) -> State:
     """The state of a programme of the channels that `settings` tell of, of which nothing is known. `tolerance`: theirs, in nanoseconds;
     `longest_pause`: the seconds after which a controller that doesn't answer is tried again at the latest."""
     first = settings[0]
-    choices = {it.name: Choices(it.target, it.endless, it.times) for it in settings}
+    choices = {it.name: Choices(it.target, it.endless, it.times, query_of(it)) for it in settings}
     renditions = {it.name: Rendition(it, Standing(Repairer(choices[it.name]))) for it in settings}
     return State(first.programme or first.name, renditions, Translator(first.types, first.nearest, tolerance), longest_pause=longest_pause)

@@ -182,6 +182,11 @@ FAULTS = (
     ("last line", (HEAD + ONE).encode()[:-1], "s0.ts"),
     ("target duration", (HEAD + ONE).replace("TION:2", "TION:1.001").encode(), "#EXT-X-TARGETDURATION:2"),
     ("durations", (HEAD + ONE).replace("INF:2", "INF:1.9e0").encode(), "#EXTINF:1.9,"),
+    ("durations", (HEAD + ONE).replace("2,", '2 tvg-id="a,b" group="c",One, two').encode(), "#EXTINF:2,One, two"),
+    ("variables", (HEAD + '#EXT-X-DEFINE:NAME="at",VALUE="b/c"\n' + ONE).replace("s0", "{$at}/s0").encode(), "b/c/s0.ts"),
+    ("variables", (HEAD + '#EXT-X-DEFINE:NAME="k",VALUE="7"\n#EXT-X-KEY:METHOD=AES-128,URI="{$k}.key",IV=0x{$k}\n' + ONE).encode(), '#EXT-X-KEY:METHOD=AES-128,URI="7.key",IV=0x7'),
+    ("session tags", (HEAD + '#EXT-X-SESSION-KEY:METHOD=AES-128,URI="k"\n' + ONE).encode(), "s0.ts"),
+    ("listed twice", (HEAD + ONE + ONE).encode(), "s0.ts"),
     ("dates", (HEAD + ONE).replace("01T12", "01 12").encode(), TIMED[:-1]),
     ("instants", (HEAD + ONE + "#EXT-X-PROGRAM-DATE-TIME:noon\n#EXTINF:2,\ns1.ts\n").encode(), "#EXT-X-PROGRAM-DATE-TIME:2024-05-01T12:00:02.000Z"),
     ("version", (HEAD + ONE).replace("VERSION:3", "VERSION:9").encode(), "#EXT-X-VERSION:7"),
@@ -211,9 +216,25 @@ def test_what_a_person_chose_holds(room):
     assert b"TARGETDURATION:8\n" in take(Choices(target=8), HEAD + ONE).body()
     assert take(Choices(is_endless=False), HEAD + ONE + "#EXT-X-ENDLIST\n").kinds == {}
     assert take(Choices(adds_times=False), HEAD + "#EXTINF:2,\ns0.ts\n").kinds == {}
-    for tag in ("#EXT-X-SKIP:SKIPPED-SEGMENTS=3", '#EXT-X-DEFINE:NAME="a",VALUE="b"'):
-        found = take(Choices(), f"{HEAD}{tag}\n{ONE}")
+    for tag in ("#EXT-X-SKIP:SKIPPED-SEGMENTS=3", '#EXT-X-DEFINE:IMPORT="a"', '#EXT-X-DEFINE:QUERYPARAM="b"', '#EXT-X-DEFINE:VALUE="b"'):
+        found = take(Choices(query="a=1&a=2"), f"{HEAD}{tag}\n{ONE}")
         assert (found.found, found.came) == (None, None) and tag[1:].partition(":")[0] in found.why, found
+
+
+def test_variables_have_the_texts_that_are_defined_before_them(room):
+    def take(text, query=""):
+        return Repairer(Choices(query=query)).take((HEAD + text).encode(), 0, CLOCK)
+    define = '#EXT-X-DEFINE:QUERYPARAM="token"\n'
+    found = take(define + ONE.replace("s0.ts", "s0.ts?t={$token}"), "a=b&token=x%2Fy&token=z")
+    assert found.body().decode().splitlines()[-1] == "s0.ts?t=x/y" and set(found.kinds) == {"variables"}, found.body()
+    assert b"#EXTINF:2,{$token}\n" in take(define + ONE.replace("2,", "2,{$token}"), "token=x").body(), "a title has no variables"
+    assert b"\n{$a}.ts\n" in take(ONE.replace("s0", "{$a}")).body(), "a list without definitions has none"
+    for text, why in ((ONE.replace("s0", "{$a}") + '#EXT-X-DEFINE:NAME="a",VALUE="b"\n', "isn't defined before it is used"),
+                      ('#EXT-X-DEFINE:NAME="a",VALUE="b"\n' * 2 + ONE, "defines a twice"),
+                      ('#EXT-X-DEFINE:NAME="a b",VALUE="b"\n' + ONE, "no name that reads")):
+        assert why in take(text).why, (text, take(text).why)
+    long = '#EXT-X-DEFINE:NAME="a",VALUE="' + "x" * 60_000 + '"\n'
+    assert "letters" in take(long + "".join(f"{TIMED}#EXTINF:2,\n{n}{{$a}}.ts\n" for n in range(1000))).why, "a text that grows is bounded"
 
 
 @apart
