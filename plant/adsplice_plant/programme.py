@@ -19,7 +19,7 @@ from .packaged import PackagedList, PackagedSegment
 from .playlist import SECOND
 from .reckoning import Numbers, Store
 from .repair import Repaired, Repairer, count_on
-from .replay import as_elsewhere, as_it_runs
+from .replay import as_elsewhere, as_it_runs, put_past
 from .siblings import Sibling, Siblings, reach_of
 from .state import FileState, Rendition, Standing, State, Way
 from .translator import Translator
@@ -344,9 +344,14 @@ def translate(turn: Turn, translator: Translator, found: dict[str, Taken], busy:
         for channel, it in (*others, *lists.items()):
             told += translator.take(it, turn.state.renditions[channel].settings.rendition()).told
     for channel, it in lists.items():
-        said = translator.take(it, turn.state.renditions[channel].settings.rendition())
+        rendition = turn.state.renditions[channel]
+        said = translator.take(it, rendition.settings.rendition())
         told += said.told
         it.signals = said.ranges
+        run = rendition.stands.viewed.reckoned.run if rendition.stands.viewed.reckoned is not None else None
+        if run is not None and put_past(rendition.stands, it, translator.ended(run.id, rendition.settings.rendition()), translator.tolerance):
+            found[channel].repaired.came = None
+            found[channel].repaired.kinds["clock"] = ""
     return told
 
 

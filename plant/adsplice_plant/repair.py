@@ -7,7 +7,7 @@ from __future__ import annotations
 
 from bisect import bisect_left
 from dataclasses import dataclass, field, replace
-from itertools import dropwhile
+from itertools import dropwhile, takewhile
 
 from . import growth, packaged, repairs, spelling, variables
 from .growth import Accepted
@@ -216,8 +216,7 @@ class Repairer:
         first, last = segments[0], self.last[-1]
         if first.own <= last.own or first.stated is None or last.begins is None or self.adds:
             return False
-        missed = (first.own - last.own - 1) * lasting(segments) // len(segments)
-        return abs(first.stated - last.begins - last.duration - missed) <= max(it.duration for it in segments) // 2
+        return abs(first.stated - last.begins - last.duration - missed_by(last, segments)) <= max(it.duration for it in segments) // 2
 
     def accept(self, repaired: Repaired) -> None:
         """The list `repaired` was pushed and taken: the next one follows it."""
@@ -282,7 +281,9 @@ class Repairer:
         end = last.begins + last.duration
         found.segments = list(dropwhile(lambda it: it.begins is not None and middle_of(it) < end, found.segments)) or found.segments[-1:]
         first = found.segments[0].begins
-        return siblings.between(end, first) if first is not None else []
+        taken = siblings.between(end, first) if first is not None else []
+        left = missed_by(last, found.segments) if found.segments[0].own > last.own else None
+        return taken if left is None else list(takewhile(lambda it: middle_of(it) < end + left, taken))
 
     def go_on(self, found: PackagedList, place: Place, kinds: dict[str, str]) -> tuple[Lead | None, int]:
         """The list `found` goes on at `place`: what was listed stays what it was, and what is new is counted on. Answers the same as
@@ -423,6 +424,11 @@ def rounded(duration: int) -> int:
 def lasting(segments: list[PackagedSegment]) -> int:
     """The nanoseconds that `segments` last."""
     return sum(it.duration for it in segments)
+
+
+def missed_by(last: PackagedSegment, segments: list[PackagedSegment]) -> int:
+    """The nanoseconds that those between the segment `last` and the listed `segments` last, by the packager's numbers."""
+    return (segments[0].own - last.own - 1) * lasting(segments) // len(segments)
 
 
 def without_ranges(it: PackagedSegment) -> PackagedSegment:

@@ -3,12 +3,12 @@ from __future__ import annotations
 
 from typing import NamedTuple
 
-from adsplice_rules.breaks import ends_of
+from adsplice_rules import breaks as rules
 
 from . import packaged
 from .breaks import TOLERANCE, Break
 from .date_ranges import read_range
-from .packaged import PackagedSegment
+from .packaged import PackagedList, PackagedSegment
 from .playlist import instant_text, seconds_text
 from .signals import duration_of, pieces_of
 from .state import Standing
@@ -99,9 +99,30 @@ def as_it_runs(stands: Standing, line: str, one: Break | None) -> str:
         return f'{without(line, ENDS)},END-DATE="{instant_text(one.start + reckoned.run.shape.total())}"'
     known = next((it for it in reckoned.breaks if it.id == found.id), None)
     length, total = found.length(found.start()), reckoned.run.shape.total()
-    if known is None or [name for name, _ in ends_of(known, total)] != [BY_POD] or length is None or length <= total + TOLERANCE:
+    if known is None or [name for name, _ in rules.ends_of(known, total)] != [BY_POD] or length is None or length <= total + TOLERANCE:
         return line
     return f"{without(line, ENDS)},DURATION={seconds_text(total)}"
+
+
+def put_past(stands: Standing, found: PackagedList, ended: int | None, tolerance: int) -> bool:
+    """Puts the first new segment of the list `found` at the end that adsplice knows of the open break, if it begins a little before that: the
+    packager's clock went back, and by its segments the break has `ended` there. Whether it did."""
+    reckoned = stands.viewed.reckoned
+    if ended is None or reckoned is None or reckoned.run is None or not stands.repairer.last:
+        return False
+    known = next((it for it in reckoned.breaks if it.id == reckoned.run.id), None)
+    end = None if known is None else ends_at(known, reckoned.run.shape.total())
+    it = next((it for it in found.segments if it.number > stands.repairer.last[-1].number), None)
+    if end is None or it is None or it.begins is None or not ended - tolerance <= it.begins < end - tolerance or end - it.begins > it.duration // 2:
+        return False
+    it.begins, found.pieces, found.timed = end, None, None
+    return True
+
+
+def ends_at(known: rules.Break, total: int) -> int | None:
+    """The instant at which adsplice ends the break that is `known` so, whose pod lasts `total` nanoseconds; none if no instant is known."""
+    end = rules.end_of(known, total)
+    return end if isinstance(end, int) else None
 
 
 def is_behind(stands: Standing, other: Standing) -> bool:

@@ -270,6 +270,11 @@ class Translator:
         is_at_end = one.until is not None and one.is_ended and line.is_reached(one.until)
         return is_at_end or one.is_extended() and line.is_reached(one.start + (one.planned or 0))
 
+    def ended(self, name: str, rendition: str) -> int | None:
+        """The instant of the segment with which the break `name` has ended in the `rendition`; none if it hasn't."""
+        one = self.breaks.named(name)
+        return None if one is None or not one.is_told else self.cuts.get(rendition, {}).get(name, [None, None])[1] or one.end()
+
     # ---- what is kept
 
     def kept(self) -> dict[str, Any]:

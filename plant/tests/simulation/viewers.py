@@ -174,7 +174,7 @@ class Viewers:
 
     def look_for_lost(self, begin: int, end: int, uri: str) -> None:
         """They have the programme up to `begin`, and then from `end` on, with the segment `uri`."""
-        lost = [it for it in self.between(begin, end) if self.was_read(it) and not self.is_replaced(it)]
+        lost = [it for it in self.between(begin, end) if self.was_read(it) and not self.is_replaced(it.begin)]
         if lost:
             self.breach("lost", f"{', '.join(it.uri for it in lost[:3])} ({len(lost)} segments from {lost[0].begin}) before {uri}")
 
@@ -184,14 +184,11 @@ class Viewers:
         low, high = bisect_left(cuts, begin, key=lambda it: (it.begin + it.end) // 2), bisect_right(cuts, end, key=lambda it: (it.begin + it.end) // 2)
         return cuts[low:high]
 
-    def is_replaced(self, it: Cut) -> bool:
-        """Whether a pod that they had since the last segment stands for the one of the cut `it`. If the packager's clock went back a little within the
-        break, what it states of the segment may lie in the break."""
+    def is_replaced(self, begin: int) -> bool:
+        """Whether a pod that they had since the last segment stands for the one that begins there."""
         for pod in self.since:
             if pod.place >= 0:
                 one = self.plan.breaks[pod.place]
-                by = it.clock - next((other.clock for other in self.packager.all if other.end > one.start), it.clock)
-                begin = it.begin + by if -self.plan.target < by < 0 else it.begin
                 if one.start - self.plan.target // 2 - NEAR <= begin < self.end_of(one, pod) - TOLERANCE + NEAR:
                     return True
         return False
