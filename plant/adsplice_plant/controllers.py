@@ -142,7 +142,10 @@ def least_of(stands: Standing, reached: int) -> int:
     """The media number with which a new channel begins, of which the one before had `reached` a number: what viewers don't have yet is listed, too, as far
     as it may be there. (A segment stays for as long as a list lasts after it left that: RFC 8216, 6.2.2.)"""
     first = stands.repairer.last[0].number
-    return first if reached < 0 else max(min(first, reached + 1), first - len(stands.repairer.last))
+    if reached < 0:
+        return first
+    number = max(min(first, reached + 1), first - len(stands.repairer.last))
+    return numbers.run_before(stands.viewed, history_of(stands), number) if number == reached + 1 else number
 
 
 def reckoned_anew(turn: Turn, stands: Standing) -> Viewed:

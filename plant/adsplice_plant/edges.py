@@ -7,7 +7,7 @@ from .state import Rendition
 from .turn import Turn
 
 PATIENCE = 2.0  # target durations without a new segment, after which nobody waits for a rendition
-MOST_APART = 4  # segments by which media numbers of lists without instants may differ and still be of one count
+MOST_APART = 4  # segments by which media numbers of lists may differ and still be of one count, if their instants don't tell
 EXTINF = b"#EXTINF:"
 
 
@@ -15,7 +15,7 @@ def edge_of(turn: Turn, channel: str) -> Reach | None:
     """How far the list of the `channel` is given: up to where each other rendition has come that is waited for; none if none is."""
     reaches = [reach for name, it in turn.renditions() if name != channel and (reach := awaited(turn, it)) is not None]
     timed = [it for it in reaches if it.instant is not None]
-    if timed:
+    if timed and all(it.is_near(timed[0]) for it in timed):
         return min(timed, key=lambda it: it.instant or 0)
     return min(reaches, key=lambda it: it.number) if reaches else None
 
@@ -33,9 +33,10 @@ def up_to(body: bytes, edge: Reach) -> bytes:
     """The list `body` without the segments at its end that lie past the `edge`; its first segment stays."""
     mine, at = reach_of(body), len(body)
     end, number, first = mine.instant, mine.number, body.find(EXTINF)
-    if end is None or edge.instant is None:
+    if not mine.is_near(edge):
         if abs(number - edge.number) > MOST_APART:
             return body
+        end = None  # (they state no instants, or one of them is on another clock than the other)
     while (place := body.rfind(EXTINF, 0, at)) > first:
         duration = duration_of(body[place + len(EXTINF):body.find(b"\n", place)].decode("utf-8", "replace")) or 0
         if edge.covers(Reach(end, number, duration)) if end is None or edge.instant is None else end <= edge.instant + duration // 2:

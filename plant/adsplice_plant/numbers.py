@@ -128,6 +128,17 @@ class Viewed:
         self.ranges = {name: (line, number + media) for name, (line, number) in self.ranges.items()}
 
 
+def run_before(viewed: Viewed, history: list[PackagedSegment], number: int) -> int:
+    """The media number of the first segment of the run right before that of the `number` in the `history`, if that is replaced by a pod: the rest of the
+    pod is written with the segment after the run, which viewers don't have yet. Else the `number`."""
+    place = bisect_left(history, number, key=lambda it: it.number)
+    before = next((n for n in range(min(place, len(history)) - 1, -1, -1) if history[n].number in viewed.begins), None)
+    if before is None or number not in viewed.begins:
+        return number
+    is_run = before < place - 1 or viewed.begins[number][0] > viewed.begins[history[before].number][0] + 1
+    return history[before].number if is_run else number
+
+
 def first_needed(viewed: Viewed, history: list[PackagedSegment], first: int) -> int | None:
     """The place in `history`, the segments that were listed, of the one with which a new channel has to begin so that it writes what
     viewers have from the segment of media number `first` on; none if nothing is known of it."""

@@ -282,8 +282,10 @@ class Repairer:
         found.segments = list(dropwhile(lambda it: it.begins is not None and middle_of(it) < end, found.segments)) or found.segments[-1:]
         first = found.segments[0].begins
         taken = siblings.between(end, first) if first is not None else []
-        left = missed_by(last, found.segments) if found.segments[0].own > last.own else None
-        return taken if left is None else list(takewhile(lambda it: middle_of(it) < end + left, taken))
+        if found.segments[0].own <= last.own:
+            return taken
+        until = end + missed_by(last, found.segments)
+        return list(takewhile(lambda it: middle_of(it) < until, taken))
 
     def go_on(self, found: PackagedList, place: Place, kinds: dict[str, str]) -> tuple[Lead | None, int]:
         """The list `found` goes on at `place`: what was listed stays what it was, and what is new is counted on. Answers the same as

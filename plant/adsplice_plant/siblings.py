@@ -8,6 +8,7 @@ from typing import NamedTuple
 from . import packaged, playlist
 from .packaged import InitSection, Key, PackagedSegment
 
+NEAR = 30  # segments by which the ends of two lists may be apart that are of one clock
 MOST_BORROWED = 100  # segments that a rendition takes from another one at a time
 
 
@@ -38,6 +39,10 @@ class Reach(NamedTuple):
     instant: int | None
     number: int
     last: int
+
+    def is_near(self, other: Reach) -> bool:
+        """Whether both state instants, by one clock."""
+        return self.instant is not None and other.instant is not None and abs(self.instant - other.instant) <= NEAR * max(self.last, other.last)
 
     def covers(self, other: Reach) -> bool:
         """Whether this list goes as far as the `other`, which may be cut at other times: by instants if both are stated, else by numbers."""
