@@ -7,9 +7,10 @@ from adsplice_rules import breaks as rules
 
 from . import packaged
 from .breaks import TOLERANCE, Break
-from .date_ranges import read_range
+from .date_ranges import DateRange, read_range
 from .packaged import PackagedList, PackagedSegment
 from .playlist import instant_text, seconds_text
+from .reckoning import known_after
 from .signals import duration_of, pieces_of
 from .state import Standing
 from .turn import history_of
@@ -65,7 +66,7 @@ def as_it_ran(stands: Standing, line: str) -> str:
         return line
     if run.is_turned():
         return f'{without(line, ENDED)},END-DATE="{instant_text(run.end)}"'
-    length = found.length(run.start) or duration_of(found.said.get("PLANNED-DURATION", ""))
+    length = length_of(found)
     if length is not None and abs(run.start + length - run.end) <= TOLERANCE:
         return line
     return f"{without(line, ENDS)},DURATION={seconds_text(run.end - run.start)}"
@@ -82,7 +83,7 @@ def as_elsewhere(stands: Standing, others: list[Standing], line: str) -> str:
         run, found = run_of(other, history_of(other), said[0]), read_range(line)
         if run is None or run.last is None or run.is_turned() or run.end <= end_of(stands):
             continue
-        length = found.length(found.start()) or duration_of(found.said.get("PLANNED-DURATION", ""))
+        length = length_of(found)
         if length is None or abs(length - (run.end - run.start)) > stands.repairer.last[-1].duration // 2:
             return f"{without(line, ENDS)},DURATION={seconds_text(run.end - run.start)}"
     return line
@@ -98,22 +99,27 @@ def as_it_runs(stands: Standing, line: str, one: Break | None) -> str:
     if one is not None and one.said is not None and one.end() is None:
         return f'{without(line, ENDS)},END-DATE="{instant_text(one.start + reckoned.run.shape.total())}"'
     known = next((it for it in reckoned.breaks if it.id == found.id), None)
-    length, total = found.length(found.start()), reckoned.run.shape.total()
+    length, total = length_of(found), reckoned.run.shape.total()
     if known is None or [name for name, _ in rules.ends_of(known, total)] != [BY_POD] or length is None or length <= total + TOLERANCE:
         return line
     return f"{without(line, ENDS)},DURATION={seconds_text(total)}"
 
 
+def length_of(found: DateRange) -> int | None:
+    """How long the break of the date range lasts, or is to last; none if it doesn't say."""
+    return found.length(found.start()) or duration_of(found.said.get("PLANNED-DURATION", ""))
+
+
 def put_past(stands: Standing, found: PackagedList, ended: int | None, tolerance: int) -> bool:
-    """Puts the first new segment of the list `found` at the end that adsplice knows of the open break, if it begins a little before that: the
-    packager's clock went back, and by its segments the break has `ended` there. Whether it did."""
+    """Puts the first new segment of the list `found` at the end that adsplice knows of the open break, if it begins before that: the packager's
+    clock went back, and by its segments the break has `ended` there. Whether it did."""
     reckoned = stands.viewed.reckoned
     if ended is None or reckoned is None or reckoned.run is None or not stands.repairer.last:
         return False
-    known = next((it for it in reckoned.breaks if it.id == reckoned.run.id), None)
+    known = next((it for it in known_after(reckoned, found.date_ranges()) if it.id == reckoned.run.id), None)
     end = None if known is None else ends_at(known, reckoned.run.shape.total())
     it = next((it for it in found.segments if it.number > stands.repairer.last[-1].number), None)
-    if end is None or it is None or it.begins is None or not ended - tolerance <= it.begins < end - tolerance or end - it.begins > it.duration // 2:
+    if end is None or it is None or it.begins is None or not ended - tolerance <= it.begins < end - tolerance:
         return False
     it.begins, found.pieces, found.timed = end, None, None
     return True

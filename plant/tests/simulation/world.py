@@ -192,8 +192,8 @@ class World:
         return [Breach(kinds[0], self.now, "", f"of the cut {max(common)}: {last}")] if kinds else []
 
     def lacks_cut(self, viewers: Viewers) -> bool:
-        """Whether a rendition lacks a cut that its packager never made, and that no other rendition had in a list when its viewers came past it."""
-        own, shown = {cut_of(it.uri) for it in viewers.packager.all}, viewers.times
+        """Whether a rendition lacks a cut that the feed never read in its lists, and in those of no other rendition until its viewers came past it."""
+        own, shown = {cut_of(uri) for uri in viewers.read}, viewers.times
         lost = {cut_of(it.uri) for one in self.packagers.values() for it in one.all if cut_of(it.uri) > min(shown, default=0)} - own - shown.keys()
         for cut in lost:
             past = min((at for number, at in shown.items() if number > cut), default=None)
