@@ -103,7 +103,7 @@ OTHERS = (
     Limit("the channels of a process", ("crates/http_edge/specs/Table.antt", "nat_le {n} (length table)"), (
         ("crates/http_edge/src/channels.rt", "MAX_CHANNELS: usize = {n};"),
         ("plant/adsplice_rules/edge.py", "MOST_CHANNELS = {n}\n"),
-        ("plant/adsplice_plant/masters.py", "MOST_RENDITIONS = {n} "),
+        ("plant/adsplice_plant/settings.py", "MOST_CHANNELS = {n} "),
         ("plant/adsplice_plant/faults.py", "no room: {n} channels are there"),
         ("docs/DECISIONS.md", "a PUT of the {more}th is 503"),
         ("docs/OPERATING.md", "| 503 | nothing | {n} channels are there"),

@@ -255,6 +255,8 @@ def replaced(text: str, pairs: Iterable[tuple[str, str]]) -> str:
     return text
 
 
+SNIPPET = ("/etc/nginx/snippets/adsplice-viewers.conf", f"{HERE}/nginx-viewers.conf")  # where it is included from, and here
+
 # The rest of a machine's configuration, of which nginx.conf is a part (conf.d).
 FRAME = """worker_processes auto;
 worker_rlimit_nofile 16384;
@@ -283,7 +285,7 @@ def configure_nginx(room: str, ports: list[int] | tuple[int, ...], viewers: int 
         os.makedirs(f"{room}/{folder}", exist_ok=True)
     pairs = [("127.0.0.1:8081", f"127.0.0.1:{ports[0]}"), ("127.0.0.1:8082", f"127.0.0.1:{ports[1]}"), ("808[12]", f"{ports[0]}|{ports[1]}"),
              ("listen 8080", f"listen {viewers}"), ("127.0.0.1:8090", f"127.0.0.1:{operator}"), ("/var/log/nginx", f"{room}/log"),
-             ("/run/nginx.pid", f"{room}/nginx.pid"), ("/var/cache/adsplice", f"{room}/cache"), ("/etc/nginx/adsplice.d", f"{room}/moved"), *changes]
+             ("/run/nginx.pid", f"{room}/nginx.pid"), ("/var/cache/adsplice", f"{room}/cache"), ("/etc/nginx/adsplice.d", f"{room}/moved"), SNIPPET, *changes]
     with open(f"{room}/nginx.conf", "w", encoding="utf-8") as it:
         it.write(replaced(text, pairs))
     return f"{room}/nginx.conf"

@@ -5,18 +5,21 @@ decision files.
 """
 from __future__ import annotations
 
+import itertools
 import os
 import string
 import threading
 from collections.abc import Mapping
+from contextlib import suppress
 from pathlib import Path
 from typing import Protocol
 
 from . import judge, words
-from .folders import MOST_FILES
+from .bounded_files import opened, write
+from .decisions import MAX_BYTES, over_bound
+from .folders import MOST_ENTRIES, MOST_FILES, ROOM
 from .settings import Settings
 
-MOST_COMMAS = 250_000  # of a decision file: one of 4 MiB has 175,000 if each has its URI and its duration, and each costs the judge time
 LONGEST_NAME = 100  # letters of a file's name without its ending
 WAIT = 2.0  # seconds for a channel that is busy
 LETTERS = frozenset(string.ascii_letters + string.digits + "._-")
@@ -64,18 +67,13 @@ class Refused(Exception):
 def keep(folder: Path, name: str, body: bytes) -> bool:
     """Keeps `body` in the file `name` of `folder`, on disk before this returns; whether it took the place of another one. Raises OSError,
     and then leaves what was there."""
-    path, aside = folder / name, folder / f".{name}.new"
-    try:
-        with open(os.open(aside, os.O_WRONLY | os.O_CREAT | os.O_TRUNC | os.O_NOFOLLOW, 0o664), "wb") as it:
-            it.write(body)
-            it.flush()
-            os.fsync(it.fileno())
-        is_there = os.path.lexists(path)
-        os.replace(aside, path)
-    except OSError:
-        aside.unlink(missing_ok=True)
-        raise
-    sync(folder)
+    with opened(folder) as handle:
+        try:
+            os.stat(name, dir_fd=handle, follow_symlinks=False)
+            is_there = True
+        except FileNotFoundError:
+            is_there = False
+        write(name, body, handle, is_synced=True)
     return is_there
 
 
@@ -88,10 +86,19 @@ def sync(folder: Path) -> None:
         os.close(handle)
 
 
-def count_of(folder: Path) -> int:
-    """How many decision files are in `folder`."""
+def lack_of_room(folder: Path, name: str, size: int) -> str:
+    """Why `folder` has no room for a decision file `name` of so many bytes (`size`); empty if it has. Raises OSError."""
     with os.scandir(folder) as found:
-        return sum(it.name.endswith(".json") for it in found)
+        others = [it for it in itertools.islice(found, MOST_ENTRIES) if it.name.endswith(".json") and it.name != name]
+    if len(others) >= MOST_FILES:
+        return f"the channel has {MOST_FILES} decision files"
+    if len(others) * MAX_BYTES + size <= ROOM:  # (they can't have more bytes)
+        return ""
+    held = 0
+    for it in others:
+        with suppress(FileNotFoundError):
+            held += it.stat(follow_symlinks=False).st_size
+    return f"the channel's decision files have {held} bytes, and may have {ROOM}" if held + size > ROOM else ""
 
 
 # ---- requests
@@ -116,8 +123,8 @@ class Admission:
     def put(self, path: str, body: bytes) -> tuple[int, str]:
         """Keeps the decision `body` under `path`; the status and the line to answer. Raises Refused."""
         channel, folder, name = self.place(path)
-        if body.count(b",") > MOST_COMMAS:
-            raise Refused(413, f"a decision file has at most {MOST_COMMAS:,} commas")
+        if why := over_bound(body):
+            raise Refused(413, f"the file {why}")
         with self.judging:
             wrong = judge.judge(body)
         if wrong is not None:
@@ -125,8 +132,8 @@ class Admission:
             raise Refused(422, f"{words.plain(wrong.line())} ({wrong.fault})")
         try:
             with self.writing:
-                if count_of(folder) >= MOST_FILES and not os.path.lexists(folder / name):
-                    raise Refused(503, f"the channel has {MOST_FILES} decision files")
+                if lack := lack_of_room(folder, name, len(body)):
+                    raise Refused(503, lack)
                 is_there = keep(folder, name, body)
         except OSError as fault:
             channel.tell("door", 503, "Unkept", f"{folder / name}: {fault.strerror}; isn't taken")

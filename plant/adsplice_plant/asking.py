@@ -17,18 +17,20 @@ from typing import Any
 from . import judge, playlist
 from .bounded_files import Unread, clean, made, opened, read, write
 from .breaks import Break, shown
-from .decisions import DAY
+from .decisions import DAY, over_bound
 from .events import Ask
 from .pauses import Pauses
 from .settings import FOLDER, PLACE
 from .web import Answer, Client
 
 MOST_OPEN = 16  # questions at a time
+MOST_BEGUN, MINUTE = 32, 60.0  # questions that are begun within so many seconds: an origin can't flood the ad server, the folder and the lines
+MOST_KEPT = 4096  # old questions in a folder
 AT_ONCE = 4  # of these that are sent at a time
 AGAIN = {0, 408, 425, 429}  # statuses, and all from 500 on, after which a server is asked again
 ASKED = "asked"  # the folder in the folder
 LONGEST = 65_536  # bytes of a question
-CLEANED = 60.0  # seconds between two times that old questions are taken away
+CLEANED = 600.0  # seconds between two times that old questions are taken away
 LONGEST_NAME = 100  # letters of a file's name that are an ID's
 FIELDS = {"Content-Type": "application/json", "Accept": "application/json"}
 
@@ -64,6 +66,8 @@ def question_of(channel: str, renditions: list[str], target: int, one: Break) ->
 
 def decision_of(body: bytes, name: str) -> tuple[dict[str, Any] | None, str]:
     """The decision file for the break `name` alone that the answer `body` gives; or none, and why not. Further breaks are told."""
+    if why := over_bound(body):
+        return None, f"it {why}"
     if (wrong := judge.judge(body)) is not None:
         return None, f"{wrong.line()} ({wrong.fault})"
     found = json.loads(body)
@@ -97,6 +101,8 @@ class Asker:
         self.name, self.ask_at, self.hold, self.client, self.folders, self.tell = name, ask, hold, client, folders, tell
         self.is_decided, self.answered, self.given_up = is_decided, answered, given_up
         self.open: list[Question] = []
+        self.begun: list[float] = []  # when those of the last minute were begun
+        self.told_at = float("-inf")  # when it was told last that there are too many
         self.turns = threading.BoundedSemaphore(AT_ONCE)
         self.cleaned: dict[str, float] = {}  # when old questions were taken away from each folder
 
@@ -114,17 +120,25 @@ class Asker:
         """Asks for those breaks that weren't asked for, and that nobody decided. The others are given up."""
         now = time.monotonic()
         self.open = [one for one in self.open if not one.done.is_set() and (self.ask_at != FOLDER or now < one.until)]
-        waiting, is_full = {one.id for one in self.open}, False
+        waiting, why = {one.id for one in self.open}, ""
         for one in [one for one in it.known if not self.is_decided(one.id)]:
             if self.was_asked(one):
                 if one.id not in waiting:
                     self.given_up(one.id)
                 continue
-            if len(self.open) >= MOST_OPEN and not is_full:
-                is_full = True
-                self.tell("ask", "-", "TooMany", f"{MOST_OPEN} questions are open; {shown(one.id)} isn't asked for")
-            if is_full or not self.begin(one, it, now):
+            why = why or self.too_many(now)
+            if why and now - self.told_at >= MINUTE:
+                self.told_at = now
+                self.tell("ask", "-", "TooMany", f"{why}; {shown(one.id)} isn't asked for")
+            if why or not self.begin(one, it, now):
                 self.given_up(one.id)
+
+    def too_many(self, now: float) -> str:
+        """Why no question is begun at the moment `now`; empty if one may be."""
+        self.begun = [it for it in self.begun if now - it < MINUTE]
+        if len(self.open) >= MOST_OPEN:
+            return f"{MOST_OPEN} questions are open"
+        return f"{MOST_BEGUN} breaks were asked for within a minute" if len(self.begun) >= MOST_BEGUN else ""
 
     def begin(self, one: Break, it: Ask, now: float) -> bool:
         """Asks for the break `one`; whether the question could be kept."""
@@ -134,6 +148,7 @@ class Asker:
         if not self.keep(question):
             return False
         self.open.append(question)
+        self.begun.append(now)
         self.send(question)
         return True
 
@@ -157,13 +172,13 @@ class Asker:
         return False
 
     def keep(self, question: Question) -> bool:
-        """Writes the `question` into the folders, and takes old ones away once in a minute; whether it could."""
+        """Writes the `question` into the folders, and takes old ones away now and then; whether it could."""
         for name, path in self.folders.items():
             try:
                 with opened(path) as folder, made(ASKED, folder) as asked:
                     if time.monotonic() - self.cleaned.get(name, -CLEANED) >= CLEANED:
                         self.cleaned[name] = time.monotonic()
-                        clean(asked, DAY)
+                        clean(asked, DAY, MOST_KEPT)
                     write(f"{file_name(question.id)}.json", question.body, asked)
             except OSError as fault:
                 self.tell(f"ask/{shown(question.id)}", "-", "Unkept", f"{path / ASKED}: {fault.strerror}; isn't asked for")

@@ -9,7 +9,7 @@ import socket
 import ssl
 import time
 import urllib.parse
-from collections.abc import Callable, Iterator
+from collections.abc import Iterator
 from concurrent.futures import ThreadPoolExecutor
 from dataclasses import dataclass
 from pathlib import Path
@@ -20,6 +20,7 @@ from adsplice_rules.values import NotModelled
 from . import judge, masters, playlist, words
 from .decisions import MAX_BYTES, said_by
 from .handover import absolute
+from .location import Location
 from .origin import origin_of, read_whole
 from .repair import Choices, Repairer
 from .settings import FOLDER, Settings
@@ -45,10 +46,10 @@ class Fact:
 
 
 class Check:
-    """What is so of the channel that `settings` tell of. `client` asks its origin and adsplice."""
+    """What is so of the channel that `settings` tell of. A request may take `timeout` seconds."""
 
-    def __init__(self, settings: Settings, client: Client) -> None:
-        self.settings, self.client, self.edge = settings, client, Edge()
+    def __init__(self, settings: Settings, timeout: float) -> None:
+        self.settings, self.timeout, self.edge = settings, timeout, Edge()
 
     def facts(self) -> Iterator[Fact]:
         """All facts, in the order in which the feed needs them."""
@@ -58,7 +59,7 @@ class Check:
         if self.settings.fallback is not None:
             yield self.fallback(self.settings.fallback)
         for place, base in ((self.settings.origin, ""), (self.settings.second, self.settings.second_base)):
-            if place:
+            if place is not None:
                 yield self.origin(place, base)
         if self.settings.ask:
             yield self.ask(self.settings.ask)
@@ -68,7 +69,7 @@ class Check:
     def adsplice(self) -> Fact:
         """Whether adsplice answers at its address; the channel doesn't have to be there."""
         at = self.settings.at
-        answer = self.client.ask("GET", f"{at}/channels/{self.settings.name}/why")
+        answer = Client(self.timeout).ask("GET", f"{at}/channels/{self.settings.name}/why")
         if not answer.status:
             return Fact("at", False, f"{at}: {answer.why}")
         if answer.status not in THERE or answer.body.lstrip().startswith(b"<"):
@@ -119,13 +120,13 @@ class Check:
 
     # ---- the origin
 
-    def origin(self, place: str, base: str) -> Fact:
-        """Whether the origin at `place`, a URL or a file, answers a list that adsplice would take. `base`: by which its references
+    def origin(self, place: Location, base: str) -> Fact:
+        """Whether the origin at `place` answers a list that adsplice would take. `base`: by which its references
         are resolved, if that isn't the channel's."""
         it = self.settings
-        found = read_whole(origin_of(place, self.client), it.unended, it.line)
+        found = read_whole(origin_of(place, Client(self.timeout, it.redirects, it.reach())), it.unended, it.line, base or it.base)
         if found.body is None:
-            return Fact("origin", False, found.why if place in found.why else f"{place}: {found.why or f'it answers {found.status}'}")
+            return Fact("origin", False, found.why if str(place) in found.why else f"{place}: {found.why or f'it answers {found.status}'}")
         if it.master is not None:
             try:
                 count = len(masters.channels_of(masters.read(found.body, it.base), it))
@@ -155,7 +156,7 @@ class Check:
         parts = urllib.parse.urlsplit(url)
         host, is_secret = parts.hostname or "", parts.scheme == "https"
         try:
-            with socket.create_connection((host, parts.port or (443 if is_secret else 80)), min(CONNECT, self.client.limit)) as it:
+            with socket.create_connection((host, parts.port or (443 if is_secret else 80)), min(CONNECT, self.timeout)) as it:
                 if is_secret:
                     ssl.create_default_context().wrap_socket(it, server_hostname=host).close()
         except (OSError, UnicodeError) as fault:
@@ -184,14 +185,14 @@ def journal(path: Path) -> Fact:
     return Fact("journal", True, f"{path} can be written")
 
 
-def run(channels: list[Settings], faults: list[tuple[str, str]], new_client: Callable[[bool], Client]) -> int:
-    """Prints the facts of all `channels`, a line each, and the `faults` of sections that don't read, each as its name and a text.
-    `new_client`: makes a client, which may follow redirects to other hosts or not. Answers the exit status."""
+def run(channels: list[Settings], faults: list[tuple[str, str]], timeout: float) -> int:
+    """Prints the facts of all `channels`, a line each, and the `faults` of sections that don't read, each as its name and a text. A request may
+    take `timeout` seconds. Answers the exit status."""
     is_well = not faults
     for name, text in faults:
         words.write_out(f"{Fact('settings', False, text).line(name)}\n")
     with ThreadPoolExecutor(AT_ONCE) as pool:
-        for it, facts in zip(channels, pool.map(lambda one: list(Check(one, new_client(one.redirects)).facts()), channels)):
+        for it, facts in zip(channels, pool.map(lambda one: list(Check(one, timeout).facts()), channels)):
             is_well = is_well and all(fact.is_right for fact in facts)
             words.write_out("".join(f"{fact.line(it.name)}\n" for fact in facts))
     return 0 if is_well else FAULT

@@ -6,10 +6,16 @@ DAY = 86400
 DONE = "done"  # the folder in the folder, for files that are over
 LASTING = ("breaks", "fallback")  # the kinds that adsplice holds on to
 MAX_BYTES = 4_194_304  # adsplice takes no longer file
+MOST_COMMAS = 250_000  # of a decision file: one of 4 MiB has 175,000 if each has its URI and its duration, and each costs the judge time
 ROOM = 200  # decided breaks that aren't listed yet: adsplice holds 256, and the others are for those that are listed
 MOST_OVER = 16  # breaks that left the list and may come back: those before them are withdrawn if they never began
 OVER = "over"  # why such a one is withdrawn
 NO_FALLBACK = b'{"fallback":null}'  # the decision file that takes the fallback away
+
+
+def over_bound(body: bytes) -> str:
+    """Why the decision file `body` isn't looked at; empty if it is."""
+    return f"has more than {MOST_COMMAS:,} commas" if body.count(b",") > MOST_COMMAS else ""
 
 
 def said_by(body: bytes) -> tuple[str, list[str]]:

@@ -1,7 +1,7 @@
 """A door for decisions at the feed: PUT /decisions/CHANNEL/NAME.json over HTTP, on loopback or a Unix socket.
 
-Python's http.server reads the requests. Their bytes, their time and their number are bounded here. `admission` says what is done with
-them.
+Python's http.server reads the requests. Their bytes, their time and their number are bounded here: where there is no room for another
+connection, the one goes whose request has been incomplete longest. `admission` says what is done with requests.
 """
 from __future__ import annotations
 
@@ -16,8 +16,11 @@ import stat
 import threading
 import time
 from collections.abc import Mapping
+from contextlib import suppress
+from dataclasses import dataclass
+from enum import IntEnum
 from pathlib import Path
-from typing import Any
+from typing import Any, TypeVar
 
 from . import words
 from .admission import Admission, Channel, Refused
@@ -25,11 +28,15 @@ from .decisions import MAX_BYTES
 from .words import Fault
 
 MOST = 32  # connections at a time
-SECONDS = 10.0  # for a request and its answer
+MOST_HELD = 64 << 20  # bytes of their bodies together
+SECONDS, HEAD_SECONDS = 10.0, 3.0  # for a request and its answer, and for its head
+GIVES_WAY = 0.5  # seconds in which a connection goes that makes room
+PIECE = 65_536  # bytes of a body that are read at a time
 LINGER = 1.0  # seconds for which the rest of a refused request is read, so that the client gets its answer
 MAX_HEAD = 16_384  # bytes of a request's head
 MODE = 0o660  # of a Unix socket: the feed's user and group
 ALLOWED = "PUT, DELETE"
+Value = TypeVar("Value")
 
 
 def address_of(text: str) -> str:
@@ -69,35 +76,120 @@ class Bounded(io.RawIOBase):
         return count
 
 
+class Stage(IntEnum):
+    """How far a connection is, in the order in which it makes room for another one."""
+
+    READ, ENDED, ANSWERED = range(3)  # its request isn't whole; it has its answer; it is being answered
+
+
+@dataclass
+class Seat:
+    """The place of a connection with the socket `sock` since the moment `begun`, how far it is, and the bytes of its body that are `held`."""
+
+    sock: socket.socket
+    begun: float
+    stage: Stage = Stage.READ
+    held: int = 0
+    is_given_up: bool = False
+
+    def give_up(self) -> None:
+        """It makes room for another one."""
+        self.is_given_up = True
+        with suppress(OSError):
+            self.sock.shutdown(socket.SHUT_RDWR)  # (whoever waits for its bytes sees an end)
+
+
+class Seats:
+    """The places of at most MOST connections."""
+
+    def __init__(self) -> None:
+        """Nobody has one."""
+        self.seats: dict[socket.socket, Seat] = {}
+        self.changed = threading.Condition()
+
+    def take(self, sock: socket.socket) -> bool:
+        """Takes a place for the connection `sock`; whether there was one, or one has made room: the oldest whose request isn't whole, or that only ends."""
+        until = time.monotonic() + GIVES_WAY
+        with self.changed:
+            if len(self.seats) >= MOST and (oldest := self.oldest(Stage.ENDED)) is not None:
+                oldest.give_up()
+            while len(self.seats) >= MOST:
+                if (rest := until - time.monotonic()) <= 0 or not any(it.is_given_up for it in self.seats.values()):
+                    return False
+                self.changed.wait(rest)
+            self.seats[sock] = Seat(sock, time.monotonic())
+        return True
+
+    def oldest(self, last: Stage) -> Seat | None:
+        """The first to make room of those that are no further than the stage `last`; none if there is none."""
+        found = sorted((it for it in self.seats.values() if it.stage <= last and not it.is_given_up), key=lambda it: (it.stage, it.begun))
+        return found[0] if found else None
+
+    def leave(self, sock: socket.socket) -> None:
+        """The connection `sock` has gone."""
+        with self.changed:
+            self.seats.pop(sock, None)
+            self.changed.notify_all()
+
+    def hold(self, sock: socket.socket, count: int) -> None:
+        """So many bytes more (`count`) of the body of `sock` are held. If all hold too many, the oldest whose body isn't whole makes room; raises
+        Refused if there is no other one."""
+        with self.changed:
+            own = self.seats[sock]
+            own.held += count
+            while sum(it.held for it in self.seats.values() if not it.is_given_up) > MOST_HELD:
+                oldest = min((it for it in self.seats.values() if it.stage is Stage.READ and it.held and not it.is_given_up), key=lambda it: it.begun, default=own)
+                if oldest is own:
+                    raise Refused(503, "the door holds too many bytes; ask again")
+                oldest.give_up()
+
+    def go_on(self, sock: socket.socket, stage: Stage) -> None:
+        """The connection `sock` has come to a `stage`; raises ConnectionError if it makes room for another one."""
+        with self.changed:
+            self.seats[sock].stage = stage
+            if self.seats[sock].is_given_up:
+                raise ConnectionAbortedError
+
+
 class Handler(http.server.BaseHTTPRequestHandler):
     """One request of a connection, and its answer, within SECONDS."""
 
     protocol_version = "HTTP/1.1"
     default_request_version = "HTTP/1.0"  # (so that what is no request has a status, too)
     server: Server
+    rfile: io.BufferedReader
 
     def setup(self) -> None:
         """The connection's bytes are bounded."""
         super().setup()
-        self.until = time.monotonic() + SECONDS
-        self.rfile = io.BufferedReader(Bounded(self.connection, self.until, MAX_HEAD + MAX_BYTES))
+        begun = time.monotonic()
+        self.until = begun + SECONDS
+        self.bounded = Bounded(self.connection, begun + HEAD_SECONDS, MAX_HEAD + MAX_BYTES)
+        self.rfile = io.BufferedReader(self.bounded)
 
     def handle(self) -> None:
         """Answers one request."""
         self.close_connection = True
         self.handle_one_request()
+        self.server.seats.go_on(self.connection, Stage.ENDED)
         self.linger()
 
     def do_PUT(self) -> None:  # noqa: N802  (the name is http.server's)
         """Answers a PUT."""
-        self.answer(lambda: self.server.admission.put(self.path, self.body()))
+        self.answer(lambda: self.server.admission.put(self.path, self.whole(self.body())))
 
     def do_DELETE(self) -> None:  # noqa: N802
         """Answers a DELETE."""
-        self.answer(lambda: self.server.admission.delete(self.path))
+        self.answer(lambda: self.server.admission.delete(self.whole(self.path)))
+
+    def whole(self, it: Value) -> Value:
+        """`it`, once the request is whole: no other connection takes its place then."""
+        self.server.seats.go_on(self.connection, Stage.ANSWERED)
+        return it
 
     def answer(self, act: Any) -> None:
         """Answers what `act` does, or why it is refused."""
+        self.bounded.until = self.until
         try:
             if sum(len(name) + len(value) + 4 for name, value in self.headers.items()) > MAX_HEAD:
                 raise Refused(431, f"a head has at most {MAX_HEAD} bytes")
@@ -117,10 +209,13 @@ class Handler(http.server.BaseHTTPRequestHandler):
             raise Refused(400, "Content-Length isn't one number")
         if len(stated[0]) > 12 or int(stated[0]) > MAX_BYTES:
             raise Refused(413, f"a decision file has at most {MAX_BYTES} bytes")
-        found = self.rfile.read(int(stated[0]))
-        if len(found) < int(stated[0]):
+        found, size = bytearray(), int(stated[0])
+        while len(found) < size and (piece := self.rfile.read1(min(PIECE, size - len(found)))):
+            found += piece
+            self.server.seats.hold(self.connection, len(piece))
+        if len(found) < size:
             raise Refused(400, "the body ended early")
-        return found
+        return bytes(found)
 
     def reply(self, status: int, text: str) -> None:
         """Sends the answer of this `status` with the line `text`."""
@@ -161,12 +256,12 @@ class Handler(http.server.BaseHTTPRequestHandler):
 
 
 class Server(socketserver.ThreadingMixIn, socketserver.TCPServer):
-    """The door at `address` for the `admission` of decisions, with a thread for each of at most MOST connections."""
+    """The door at `address` for the `admission` of decisions, with a thread for each connection that has a seat."""
 
     daemon_threads, block_on_close, request_queue_size = True, False, 64
 
     def __init__(self, address: str, admission: Admission) -> None:
-        self.admission, self.room = admission, threading.BoundedSemaphore(MOST)
+        self.admission, self.seats = admission, Seats()
         self.path = Path(address) if address.startswith("/") else None
         self.allow_reuse_address = self.path is None
         if self.path is not None:
@@ -182,7 +277,7 @@ class Server(socketserver.ThreadingMixIn, socketserver.TCPServer):
 
     def process_request(self, request: Any, client_address: Any) -> None:
         """Answers the connection `request` in a thread, or refuses it if there are too many."""
-        if not self.room.acquire(blocking=False):
+        if not self.seats.take(request):
             request.settimeout(0.1)
             try:
                 request.sendall(b"HTTP/1.1 503 Service Unavailable\r\nConnection: close\r\nContent-Length: 29\r\n\r\ntoo many connections at once\n")
@@ -192,7 +287,7 @@ class Server(socketserver.ThreadingMixIn, socketserver.TCPServer):
         try:
             super().process_request(request, client_address)
         except RuntimeError:  # (no thread can be started)
-            self.room.release()
+            self.seats.leave(request)
             self.shutdown_request(request)
 
     def process_request_thread(self, request: Any, client_address: Any) -> None:
@@ -200,7 +295,7 @@ class Server(socketserver.ThreadingMixIn, socketserver.TCPServer):
         try:
             super().process_request_thread(request, client_address)
         finally:
-            self.room.release()
+            self.seats.leave(request)
 
     def handle_error(self, request: Any, client_address: Any) -> None:
         """A client that went away or was too slow is nobody's trouble but its own."""

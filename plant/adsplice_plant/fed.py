@@ -18,6 +18,7 @@ from .settings import Settings
 from .state import FileState, State
 from .telling import Noting, Telling
 from .web import Client
+from .whole_files import KEPT_MODE
 from .words import now_text
 
 BETWEEN = 1.0  # seconds between two signs that the feed goes on
@@ -60,13 +61,13 @@ class Fed:
         self.beat_at = settings.keep / f"{self.name}{BEAT}" if settings.keep else None
         self.beaten = float("-inf")  # when it was shown last that the feed goes on
         self.reading = Reading(settings, self.client, around.choice, limits.longest_pause, around.telling, self.noting, around.post, self.target)
-        self.sending = Sending(settings, self.client(), self.noting, around.answered, around.beat)
+        self.sending = Sending(settings, Client(limits.timeout), self.noting, around.answered, around.beat)
         self.folder = DecisionFolder(self.name, settings.decisions, limits.keep_days, self.tell) if settings.decisions else None
         self.fallback = Fallback(self.name, settings.fallback, self.tell) if settings.fallback else None
 
     def client(self) -> Client:
-        """A client with connections of its own."""
-        return Client(self.around.limits.timeout, self.settings.redirects)
+        """A client for its origin, with connections of its own."""
+        return Client(self.around.limits.timeout, self.settings.redirects, self.settings.reach())
 
     def tell(self, who: str, status: int, fault: str, text: str) -> None:
         """Prints a line of `who`, unless it is in the same state as before."""
@@ -114,7 +115,7 @@ class Fed:
         if self.beat_at is not None and now - self.beaten >= BETWEEN:
             self.beaten = now
             with suppress(OSError):  # (the monitor then tells that the feed hangs)
-                self.beat_at.touch()
+                self.beat_at.touch(KEPT_MODE)
 
     def opening(self) -> list[Kept]:
         """What a new file of kept events begins with: the channel, and the decisions that it holds."""

@@ -2,15 +2,16 @@
 import argparse
 import threading
 import time
+from contextlib import suppress
 from pathlib import Path
 
-from . import check, words
+from . import check, config_file, words
 from . import settings as told
+from .collisions import Claims
 from .door import Door, address_of
 from .fed import Fed, Limits
 from .sections import Section, difference
 from .settings import Settings
-from .web import Client
 from .words import Fault
 
 print_line = words.Teller().say
@@ -113,7 +114,8 @@ def read_words(arguments: list[str]) -> argparse.Namespace:
     it.add_argument("--nearest", choices=("yes", "no"), help="puts a break's start on the begin of a segment that is near (yes)")
     it.add_argument("--ask", metavar="URL", help="where each break's decision is asked for: an ad server, or the word folder")
     it.add_argument("--hold", metavar="SECONDS", help="that a list may wait for an answer (1, and below half a target duration)")
-    it.add_argument("--redirects", choices=yes_or_no, help="follows the origin's redirects to other hosts, too (no)")
+    it.add_argument("--redirects", choices=yes_or_no, help="follows the origin's redirects to other hosts, ports and schemes, too (no)")
+    it.add_argument("--networks", metavar="NETWORKS", help="to which these may lead beside public addresses, such as '10.0.0.0/8' (the origin's own addresses)")
     it.add_argument("--line", metavar="BYTES", help="that a list's line may have (16384); a list with a longer one isn't pushed")
     it.add_argument("--check", action="store_true", help="says whether all that the channels need is there, and ends")
     it.add_argument("--door", type=address_of, metavar="ADDRESS", help="takes decisions over HTTP at 127.0.0.1:PORT or on the Unix socket of a path")
@@ -131,8 +133,10 @@ def read_words(arguments: list[str]) -> argparse.Namespace:
 def channels_of(said: argparse.Namespace, faults: list[tuple[str, str]]) -> list[Settings]:
     """The channels that the words `said` tell of; raises Fault, unless it is of a section: then it is added to `faults`."""
     if said.config is not None:
-        return told.read_file(said.config, faults)
-    return told.ladder_of(said.channel, {it: getattr(said, it) for it in told.NAMES})
+        return config_file.read_file(said.config, faults)
+    channels = told.ladder_of(said.channel, {it: getattr(said, it) for it in told.NAMES})
+    Claims(None).add(channels)
+    return channels
 
 
 def units_of(channels: list[Settings]) -> list[list[Settings]]:
@@ -168,7 +172,7 @@ class Feeds:
         is wrong goes on as it was."""
         faults: list[tuple[str, str]] = []
         try:
-            wanted = {name_of(it): it for it in units_of(told.read_file(self.said.config, faults))}
+            wanted = {name_of(it): it for it in units_of(config_file.read_file(self.said.config, faults))}
         except Fault as fault:
             print_line(f"{words.now_text()} feed settings - Wrong: {fault}; goes on as it was")
             return
@@ -187,10 +191,13 @@ class Feeds:
         """Takes those that can't be fed out of the sections that are `wanted`, and adds them to `faults`: one whose folder can't be made, or that has
         a channel or a folder of a section which goes on as it was since it is wrong."""
         wrong = {name for name, _ in faults}
-        stays = [one for name, it in self.sections.items() if name in wrong for one in it.settings]
+        claims = Claims(self.said.config)
+        for name in wrong & set(self.sections):
+            with suppress(Fault):  # (it is fed)
+                claims.add(self.sections[name].settings)
         for name, unit in list(wanted.items()):
             try:
-                told.each_once(self.said.config, [*stays, *unit])
+                claims.add(unit)
                 for it in unit if unit[0].master is None else []:
                     told.make_folder(it)
             except Fault as fault:
@@ -231,7 +238,7 @@ def main(arguments: list[str]) -> int:
         channels = channels_of(said, faults)
         if said.check:
             words.ends_cleanly()
-            return check.run(channels, faults, lambda redirects: Client(said.timeout, redirects))
+            return check.run(channels, faults, said.timeout)
         anew = threading.Event()
         ending = words.ends_by_signals(anew if said.config is not None else None)
         feeds = Feeds(said)

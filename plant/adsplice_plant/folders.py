@@ -13,14 +13,15 @@ from collections.abc import Callable, Mapping
 from pathlib import Path
 
 from .bounded_files import Unread, clean, made, opened, read, stamp_of
-from .decisions import DAY, DONE, MAX_BYTES, said_by
+from .decisions import DAY, DONE, MAX_BYTES, over_bound, said_by
 from .events import FallbackRead, FolderRead, Stamp
 
 MOST_FILES = 4096  # decision files of a channel
 MOST_ENTRIES = 16_384  # of a folder that are looked at
 ROOM = 256 << 20  # bytes of a channel's decision files together
 MOST_TOLD = 100  # names of what isn't taken
-CLEANED = 60.0  # seconds between two times that old files are taken away
+MOST_DONE = 16_384  # files that are over
+CLEANED = 600.0  # seconds between two times that old files are taken away
 
 Say = Callable[[str, int, str, str], None]  # who, status, fault, text: told unless the state of who is as it was
 Files = dict[str, tuple[Stamp, bytes]]
@@ -35,6 +36,7 @@ class DecisionFolder:
         self.is_told = False  # whether they were
         self.over: dict[str, Stamp] = {}  # those that are over, and couldn't be moved away
         self.passed: dict[str, str] = {}  # what isn't taken, and why
+        self.unread: dict[str, tuple[Stamp, str]] = {}  # those of which the bytes were looked at and aren't taken, and why
         self.cleaned = float("-inf")
 
     def forget(self) -> None:
@@ -88,19 +90,27 @@ class DecisionFolder:
         """The files that are taken of those that are `listed` in the open `folder`, the oldest first: within the bounds, and first those that were
         taken before."""
         self.over = {name: it for name, it in self.over.items() if listed.get(name) == it}
+        self.unread = {name: it for name, it in self.unread.items() if listed.get(name) == it[0]}
         found = {name: it for name, it in self.files.items() if name in listed or name in self.passed}  # (one stays until another can be taken)
         room = ROOM - sum(len(body) for _, body in found.values())
         for name, seen in listed.items():
             if name in self.over or (name in found and found[name][0] == seen):
                 continue
+            if name in self.unread:
+                self.pass_over(name, self.unread[name][1])
+                continue
             if seen[1] > room or (len(found) >= MOST_FILES and name not in found):
                 self.pass_over(name, f"is beyond the {MOST_FILES} files or the {ROOM} bytes that the folder's files may have")
                 continue
             try:
-                found[name] = read(name, folder, most=MAX_BYTES)
+                stamp, body = read(name, folder, most=MAX_BYTES)
+                if why := over_bound(body):
+                    self.unread[name] = seen, why
+                    raise Unread(why)
+                found[name] = stamp, body
                 room -= seen[1]
-            except Unread as why:
-                self.pass_over(name, str(why))
+            except Unread as fault:
+                self.pass_over(name, str(fault))
             except OSError as fault:
                 self.pass_over(name, f"can't be read: {fault.strerror}")
         return dict(sorted(found.items(), key=lambda it: (it[1][0][0], it[0])))
@@ -121,7 +131,7 @@ class DecisionFolder:
                 os.utime(name, dir_fd=done, follow_symlinks=False)
                 if time.monotonic() - self.cleaned > CLEANED:
                     self.cleaned = time.monotonic()
-                    clean(done, self.keep_days * DAY)
+                    clean(done, self.keep_days * DAY, MOST_DONE)
         except FileNotFoundError:
             return
         except OSError as fault:
@@ -159,6 +169,8 @@ class Fallback:
         """The file's bytes; none if it can't be read, or is no fallback, which is told."""
         try:
             self.stamp, body = read(self.path, most=MAX_BYTES)
+            if lack := over_bound(body):
+                raise Unread(lack)
         except OSError as fault:
             self.say("fallback", 0, "", f"{self.path}: {fault.strerror}; goes on without it")
             return None

@@ -18,6 +18,7 @@ from dataclasses import dataclass, replace
 from pathlib import Path
 
 from .edits import Piece, edit_of, edited, lines_of
+from .whole_files import KEPT_MODE
 from .words import now_text
 
 MAX_BYTES = 4 << 20  # of a file, after which a new one is begun
@@ -147,7 +148,7 @@ class Journal:
 def append(path: Path | str, data: bytes, is_synced: bool = False, left: tuple[int, int] | None = None) -> bool:
     """Adds `data` to the file `path`: all of it, or nothing, by which the file's time stays, too. It is on disk after that if `is_synced`. If the
     file has to be there as it was `left`, by its inode and its size, nothing is added to another one: whether it was."""
-    handle = os.open(path, os.O_WRONLY | os.O_APPEND | (0 if left else os.O_CREAT), 0o644)
+    handle = os.open(path, os.O_WRONLY | os.O_APPEND | (0 if left else os.O_CREAT), KEPT_MODE)
     try:
         before = os.fstat(handle)
         if left not in (None, (before.st_ino, before.st_size)):

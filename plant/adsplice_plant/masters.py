@@ -14,25 +14,27 @@ from dataclasses import dataclass, field, replace
 from pathlib import Path
 
 from . import packaged, settings, spelling
+from .location import LocalFile, Location, Url
 from .origin import Origin, origin_of, read_whole
 from .pauses import Pauses
 from .settings import Settings
 from .siblings import absolute
 from .web import Client, strays
-from .whole_files import write_aside
+from .whole_files import VIEWERS_MODE, write_aside
 from .words import Fault, now_text
 
 VARIANT, MEDIA, I_FRAMES = "#EXT-X-STREAM-INF:", "#EXT-X-MEDIA:", "#EXT-X-I-FRAME-STREAM-INF:"
 MEDIA_TYPES = ("AUDIO", "VIDEO")  # whose playlists are channels
 WITH_URI = (MEDIA, "#EXT-X-SESSION-DATA:", "#EXT-X-SESSION-KEY:")
-MOST_RENDITIONS = 64  # channels that a process of adsplice has
+MOST_RENDITIONS = settings.MOST_CHANNELS
+MOST_TOLD = 1000  # letters of a line: what is told has parts of the list
 AGAIN = 30.0  # seconds from one look at a master playlist to the next
 
 
 @dataclass
 class Master:
     """A master playlist: its `lines`, each with the URI in it that is a rendition's, if there is one; the renditions' URIs, each once
-    (`uris`); the groups' type of those that are of a group (`groups`); and the names of tags that are left out."""
+    (`uris`) and at most MOST_RENDITIONS; the groups' type of those that are of a group (`groups`); and the names of tags that are left out."""
 
     lines: list[tuple[str, str]] = field(default_factory=list)
     uris: list[str] = field(default_factory=list)
@@ -40,9 +42,11 @@ class Master:
     left_out: set[str] = field(default_factory=set)
 
     def add(self, line: str, uri: str = "", group: str = "") -> None:
-        """Adds a `line`, with the `uri` of a rendition and the type of its `group`."""
+        """Adds a `line`, with the `uri` of a rendition and the type of its `group`. Raises Fault if that is one too many."""
         self.lines.append((line, uri))
-        if uri and uri not in self.uris:
+        if uri and uri not in self.uris:  # (of which there are few)
+            if len(self.uris) == MOST_RENDITIONS:
+                raise Fault(f"it names more than {MOST_RENDITIONS} renditions, and a process has {MOST_RENDITIONS} channels")
             self.uris.append(uri)
             if group:
                 self.groups[uri] = group
@@ -71,8 +75,6 @@ def read(body: bytes, base: str) -> Master:
         is_variant = line.startswith(VARIANT) or (is_variant and line[0] == "#")
     if not found.uris:
         raise Fault("it names no rendition: the origin is to be a master playlist")
-    if len(found.uris) > MOST_RENDITIONS:
-        raise Fault(f"it names {len(found.uris)} renditions, and a process has {MOST_RENDITIONS} channels")
     return found
 
 
@@ -90,25 +92,27 @@ def names_of(found: Master, names: list[str]) -> list[str]:
     """The names of the renditions: `names` in the master playlist's order, or 1, 2 .. if there are none; raises Fault if they aren't
     as many."""
     if names and len(names) != len(found.uris):
-        raise Fault(f"renditions names {len(names)}, and the master playlist has {len(found.uris)}: {' '.join(found.uris)}")
+        raise Fault(f"renditions names {len(names)}, and the master playlist has {len(found.uris)}: {' '.join(it[:40] for it in found.uris)}")
     return names or [str(it + 1) for it in range(len(found.uris))]
 
 
-def place_of(uri: str, programme: Settings) -> str:
-    """Where the rendition of the `uri` is read that the master playlist of the `programme` names: a URL of the same origin, or a file of the
-    master playlist's folder if that is a file; raises Fault if it is another place."""
+def listed(uri: str, programme: Settings) -> Location:
+    """Where the rendition of the `uri` is read that the master playlist of the `programme` names: one URL with the scheme, host and port of that
+    list's, unless its settings have others followed, as far as they are in its reach; or a file of the master playlist's folder if that is a
+    file. Raises Fault if it is another place."""
     if " " in uri or not uri.isprintable():
         raise Fault(f"a rendition's URI isn't one URL, for it has a space or a sign that isn't printed: {uri[:100]!r}")
-    first = programme.origin if programme.is_web() else programme.base
-    if programme.is_web() or uri.startswith("//") or urllib.parse.urlsplit(uri).scheme:
-        place = urllib.parse.urljoin(first, uri)
-        if why := strays(place, first, programme.redirects):
+    first = programme.origin
+    if isinstance(first, Url) or uri.startswith("//") or urllib.parse.urlsplit(uri).scheme:
+        base = first.text if isinstance(first, Url) else programme.base
+        place = urllib.parse.urljoin(base, uri)
+        if why := strays(place, base, programme.redirects, programme.reach()):
             raise Fault(f"a rendition isn't read, {uri[:100]!r}: {why}")
-        return place
+        return Url(place)
     path = os.path.normpath(uri.partition("?")[0])
-    if os.path.isabs(path) or path.startswith(os.pardir):
+    if os.path.isabs(path) or path.split(os.sep)[0] in (os.pardir, os.curdir):
         raise Fault(f"a rendition isn't read, {uri[:100]!r}: it isn't in the master playlist's folder")
-    return os.path.join(os.path.dirname(programme.origin), path)
+    return LocalFile(first.path.parent / path, first.path.parent)
 
 
 def channels_of(found: Master, programme: Settings) -> list[Settings]:
@@ -116,8 +120,8 @@ def channels_of(found: Master, programme: Settings) -> list[Settings]:
     channels = []
     for name, uri in zip(names_of(found, programme.names), found.uris):
         texts = {key: value.replace(settings.PLACE, name) if value else value for key, value in programme.texts.items()}
-        place, base = place_of(uri, programme), urllib.parse.urljoin(programme.base, uri)
-        one = settings.settings_of(f"{programme.name}-{name}", {**texts, "base": base}, (place, ""))
+        base = urllib.parse.urljoin(programme.base, uri)
+        one = settings.settings_of(f"{programme.name}-{name}", {**texts, "base": base}, listed(uri, programme))
         channels.append(replace(one, programme=programme.name, group=found.groups.get(uri, "")))
     return channels
 
@@ -146,6 +150,7 @@ class Programme:
 
     def tell(self, word: str, text: str) -> None:
         """Prints what is so of the master playlist, unless it was so before."""
+        text = text[:MOST_TOLD]
         if self.state != word + text:
             self.state = word + text
             self.say(f"{now_text()} {self.settings.name} master - {word}: {text}")
@@ -176,7 +181,7 @@ class Programme:
             return
         where = {uri: f"{self.settings.viewers}/channels/{it.name}/live.m3u8" for uri, it in zip(found.uris, channels)}
         assert self.settings.master is not None
-        write_aside(self.settings.master, write(found, where))
+        write_aside(self.settings.master, write(found, where), VIEWERS_MODE)
         left_out = f"; {', '.join(sorted(found.left_out))} is left out" if found.left_out else ""
         self.tell("-", f"{len(channels)} renditions are channels, {channels[0].name} to {channels[-1].name}; viewers load {self.settings.master}{left_out}")
 

@@ -9,8 +9,7 @@ from prometheus_client import CollectorRegistry, generate_latest, start_http_ser
 from prometheus_client.core import CounterMetricFamily, GaugeMetricFamily, Metric
 from prometheus_client.registry import Collector
 
-from . import settings as told
-from . import words
+from . import config_file, words
 from .as_run import BEAT, KEYS, AsRun, Log
 from .journal import BEAT as BEAT_FILE
 from .kept import EVENTS, Kept
@@ -80,7 +79,7 @@ def watches_of(said: argparse.Namespace) -> list[Watch]:
     channels = [(it, said.at, said.kept, True) for it in said.channel]
     if said.config is not None:
         known = {name: (name, said.at or it.at, said.kept or it.keep, bool(it.decisions or it.texts.get("decisions")))
-                 for it in told.read_right(said.config, lambda name, text: Trouble(name).tell(f"{text}; goes on without it"))
+                 for it in config_file.read_right(said.config, lambda name, text: Trouble(name).tell(f"{text}; goes on without it"))
                  for name in (written_names(it) if it.master else [it.name])}
         channels = [known[it] for it in said.channel or known if it in known]
         if missing := set(said.channel) - set(known):

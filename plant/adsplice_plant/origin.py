@@ -1,12 +1,13 @@
 """Reads a channel's playlist from its origin: a URL, by conditional requests, or a file."""
-import os
 import time
-from collections.abc import Callable
+from collections.abc import Callable, Iterator
 from dataclasses import dataclass
-from pathlib import Path
 from typing import Protocol
 
 from . import playlist
+from .bounded_files import Unread, bytes_of, regular, regular_below
+from .events import Stamp
+from .location import LocalFile, Location, Url
 from .settings import LINE
 from .web import MAX_BYTES, Client
 
@@ -14,6 +15,7 @@ READS = 4  # of a list that is cut off within a line, before it is left for the 
 BETWEEN = 0.15  # seconds between these
 LINES = 100_000  # of a list: adsplice takes 10,000 segments
 NAME = 255  # bytes of a break's ID and of a key's format
+WRITTEN = 4 * MAX_BYTES  # bytes that may be written of a list: of a list of 10,000 segments that is as much as a base or a key of 1,200 bytes
 NEWLINE = b"\n"
 CUT_OFF = "the list is cut off within its last line"
 
@@ -30,24 +32,23 @@ class Read:
 
 
 class FileOrigin:
-    """A list that a packager writes to the file `path`."""
+    """A list that a packager writes to the file at `place`. It is a regular file: nobody waits for a pipe."""
 
-    def __init__(self, path: Path) -> None:
-        self.path = path
-        self.stamp: tuple[int, int, int] | None = None
+    def __init__(self, place: LocalFile) -> None:
+        self.place = place
+        self.stamp: Stamp | None = None
 
     def read(self) -> Read:
         """Its list if the file changed since it was read last."""
+        path, below = self.place.path, self.place.below
         try:
-            with open(self.path, "rb") as it:
-                found = os.fstat(it.fileno())
-                stamp = (found.st_mtime_ns, found.st_size, found.st_ino)
+            with regular(path) if below is None else regular_below(below, path.relative_to(below)) as (it, stamp):
                 if stamp == self.stamp:
                     return Read()
-                body = it.read(MAX_BYTES + 1)
-        except OSError as fault:
+                body = bytes_of(it, stamp, MAX_BYTES)
+        except (OSError, Unread) as fault:
             self.stamp = None
-            return Read(why=f"{self.path}: {fault.strerror}")
+            return Read(why=f"{path}: {fault.strerror if isinstance(fault, OSError) else f'it {fault}'}")
         self.stamp = stamp
         return Read(body)
 
@@ -91,16 +92,17 @@ class Origin(Protocol):
         """The list is read again, though it hasn't changed."""
 
 
-def origin_of(place: str, client: Client) -> Origin:
+def origin_of(place: Location, client: Client) -> Origin:
     """The origin at `place`, a URL that `client` asks for or a file."""
-    if place.startswith(("http://", "https://")):
-        return WebOrigin(place, client)
-    return FileOrigin(Path(place))
+    if isinstance(place, Url):
+        return WebOrigin(place.text, client)
+    return FileOrigin(place)
 
 
-def over_bound(body: bytes, line: int) -> str:
-    """What of the list `body` is over a bound that no packager meets, and costs adsplice its time: a line of more than `line`
-    bytes, or an ID or a key's format of more than NAME. Empty if nothing is. It looks at each byte once or twice."""
+def over_bound(body: bytes, line: int, base: int = 0) -> str:
+    """What of the list `body` is over a bound that no packager meets, and costs adsplice its time or its memory: a line of more than `line`
+    bytes, an ID or a key's format of more than NAME, or so many references under a base of so many bytes (`base`), or under a key, that what is
+    written would be much longer. Empty if nothing is. It looks at each byte a few times."""
     if body.count(NEWLINE) > LINES:
         return f"it has more than {LINES} lines"
     begin = 0
@@ -109,29 +111,50 @@ def over_bound(body: bytes, line: int) -> str:
         if end < 0:
             return f"line {body.count(NEWLINE, 0, begin) + 1} has more than {line} bytes (`line`)"
         begin = end + 1
+    return long_name(body) or written_long(body, base)
+
+
+def tags_of(body: bytes, tag: bytes) -> Iterator[tuple[int, int]]:
+    """Where each `tag` in the list `body` begins, and where its line ends."""
+    begin = body.find(tag)
+    while begin >= 0:
+        end = body.find(NEWLINE, begin)
+        end = len(body) if end < 0 else end
+        yield begin, end
+        begin = body.find(tag, end)
+
+
+def long_name(body: bytes) -> str:
+    """Which ID or key's format in the list `body` has more than NAME bytes; empty if none has."""
     for tag, names in ((b"#EXT-X-DATERANGE:", (b':ID="', b',ID="')), (b"#EXT-X-KEY:", (b':KEYFORMAT="', b',KEYFORMAT="'))):
-        begin = body.find(tag)
-        while begin >= 0:
-            end = body.find(NEWLINE, begin)
-            end = len(body) if end < 0 else end
+        for begin, end in tags_of(body, tag):
             for name in names:
                 at = body.find(name, begin, end)
                 close = body.find(b'"', at + len(name), end) if at >= 0 else -1
                 if at >= 0 and (close if close >= 0 else end) - at - len(name) > NAME:
                     return f"line {body.count(NEWLINE, 0, begin) + 1}: {name[1:-2].decode()} has more than {NAME} bytes"
-            begin = body.find(tag, end)
     return ""
 
 
-def read_whole(origin: Origin, takes_unended: bool, line: int = LINE, sleep: Callable[[float], object] = time.sleep) -> Read:
+def written_long(body: bytes, base: int) -> str:
+    """Why what is written of the list `body` under a base of so many bytes (`base`) would have more than WRITTEN bytes; empty if it hasn't. A
+    key without an IV, or a section in force, may stand before each segment (RFC 8216, 5.2 and 4.3.2.5), and the base before each reference."""
+    longest = max((end - begin for tag in (b"#EXT-X-KEY:", b"#EXT-X-MAP:") for begin, end in tags_of(body, tag)), default=0)
+    references = sum(not it.startswith(b"#") and not it.isspace() for it in body.split(NEWLINE) if it)
+    if len(body) + references * (base + longest) <= WRITTEN:
+        return ""
+    return f"what is written of it may have more than {WRITTEN} bytes: {references} references under a base of {base} bytes, with a key or a map of {longest}"
+
+
+def read_whole(origin: Origin, takes_unended: bool, line: int = LINE, base: str = "", sleep: Callable[[float], object] = time.sleep) -> Read:
     """A whole list of `origin`. One that is cut off within its last line is read again, by a packager who writes it in
     place; if it stays so, it isn't taken, unless `takes_unended` says that this packager never ends its last line. One that is
-    over a bound, such as a `line` of so many bytes, isn't taken either. `sleep`: waits between two reads."""
+    over a bound, such as a `line` of so many bytes, or what is written under its `base`, isn't taken either. `sleep`: waits between two reads."""
     for left in range(READS, 0, -1):
         found = origin.read()
         if found.body is None:
             return found
-        if why := over_bound(found.body, line):
+        if why := over_bound(found.body, line, len(base.encode())):
             return Read(status=found.status, why=why)
         if takes_unended or playlist.is_whole(found.body):
             return found

@@ -49,7 +49,7 @@ class Place:
             if begun - self.looked > STILL * self.target:
                 self.lists, self.well, self.failed, self.changed = 0, None, None, begun
             self.looked = begun
-            found = read_whole(self.origin, self.settings.unended, self.settings.line)
+            found = read_whole(self.origin, self.settings.unended, self.settings.line, self.base or self.settings.base)
             self.why = found.why
             if found.why:
                 self.failed, self.well = begun if self.failed is None else self.failed, None

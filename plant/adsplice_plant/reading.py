@@ -93,7 +93,7 @@ class Reading:
     def turn(self) -> float:
         """One look; answers the seconds to the next one."""
         begun = time.monotonic()
-        found = read_whole(self.origin, self.settings.unended, self.settings.line)
+        found = read_whole(self.origin, self.settings.unended, self.settings.line, self.settings.base)
         if self.has_ended:
             return 0.0
         self.take(found)

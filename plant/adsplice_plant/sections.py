@@ -60,7 +60,7 @@ class Section:
         if first.master is None:
             self.feed(self.settings, spread)
             return
-        master = Programme(first, Client(self.limits.timeout, first.redirects), self.say, lambda channels: self.feed(channels, 0))
+        master = Programme(first, Client(self.limits.timeout, first.redirects, first.reach()), self.say, lambda channels: self.feed(channels, 0))
         self.go(master.run, self.ending, self.limits.longest_pause)
 
     def go(self, does: Callable[..., None], *what: object) -> None:

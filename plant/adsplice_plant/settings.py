@@ -1,25 +1,31 @@
 """What a feed is told of its channels: by its words, or by a file of sections."""
 import argparse
-import configparser
 import json
-from collections import Counter
-from collections.abc import Callable, Mapping
+import re
+from collections.abc import Mapping
 from dataclasses import dataclass, field, replace
 from pathlib import Path
 
+from adsplice_rules.channel import MOST_TOLERANCE
+from adsplice_rules.times import duration_of
+
 from . import splice, words
+from .location import Location, Url, path_in, stated
+from .reach import Network, Reach, networks_of
 from .words import Fault
 
 NAMES = ("origin", "at", "base", "tolerance", "decisions", "fallback", "keep", "unended", "renditions", "repair", "target", "endless", "times",
-         "signals", "nearest", "ask", "hold", "master", "viewers", "redirects", "line")
+         "signals", "nearest", "ask", "hold", "master", "viewers", "redirects", "networks", "line")
 PLACE = "{}"  # of a rendition's name in the texts of a ladder's section
+MOST_BASE = 2048  # bytes of a base: each reference of a list is resolved by it, so it is written as often as there are segments
+MOST_CHANNELS = 64  # that a process of adsplice has
 LINE = 16_384  # bytes of a list's line: a key may be a data URI of some thousands
 FOLDER = "folder"  # in place of a URL: who decides watches the folder of decisions
 
 
 @dataclass(frozen=True)
 class Settings:
-    """One channel: its `name`, the `origin` of its list (a URL or a file), adsplice's address `at`, the `base` of its
+    """One channel: its `name`, the `origin` of its list, adsplice's address `at`, the `base` of its
     references, a `tolerance` in seconds, the folder of `decisions`, the `fallback` file, the folder `keep` of what is kept for
     the monitor and the explainer, whether its packager leaves the last line `unended`, and the `programme` whose rendition it
     is, if it is one of a ladder. Of its lists: whether the feed puts them right (`repair`), the `target` duration in seconds
@@ -29,12 +35,13 @@ class Settings:
     list may wait for it (`hold`). A rendition of a master playlist has the type of its `group`, if it is of one. A programme whose
     origin is a master playlist has the file of the one for viewers (`master`), the address at which these read channels (`viewers`;
     their own host, if none), the `names` of its renditions, if a person gave them, and the `texts` of its section. Of what its
-    origin may do: whether `redirects` to other hosts are followed, and how many bytes a `line` has at most. `idle` has a sentence for each
-    setting that has no effect beside the others. The `second` origin is read while the first one fails or stands still; none if it is
-    empty. Its references are relative to the base if that is named, and else (`second_base`) to its own URL."""
+    origin may do: whether `redirects` to other hosts, ports and schemes are followed, the `networks` to which they may lead, the hosts that
+    a person `named` as origins, and how many bytes a `line` has at most. `idle` has a sentence for each
+    setting that has no effect beside the others. The `second` origin is read while the first one fails or stands still; there may be
+    none. Its references are relative to the base if that is named, and else (`second_base`) to its own URL."""
 
     name: str
-    origin: str
+    origin: Location
     at: str
     base: str
     tolerance: str = ""
@@ -53,6 +60,8 @@ class Settings:
     ask: str = ""
     hold: float = 1.0
     redirects: bool = False
+    networks: tuple[Network, ...] | None = None
+    named: frozenset[str] = frozenset()
     line: int = LINE
     idle: tuple[str, ...] = ()
     group: str = ""
@@ -60,7 +69,7 @@ class Settings:
     viewers: str = ""
     names: list[str] = field(default_factory=list)
     texts: Mapping[str, str | None] = field(default_factory=dict)
-    second: str = ""
+    second: Location | None = None
     second_base: str = ""
 
     def rendition(self) -> str:
@@ -69,7 +78,11 @@ class Settings:
 
     def is_web(self) -> bool:
         """Whether the origin is a URL."""
-        return self.origin.startswith(("http://", "https://"))
+        return isinstance(self.origin, Url)
+
+    def reach(self) -> Reach:
+        """What a request for its lists may connect to."""
+        return Reach(self.named, self.networks)
 
     def body(self) -> bytes:
         """The body of the request that makes the channel."""
@@ -86,7 +99,7 @@ def ladder_of(name: str, said: Mapping[str, str | None]) -> list[Settings]:
     if not renditions:
         return [settings_of(name, said)]
     for it in ("origin", "decisions"):
-        if not all(PLACE in one for one in (said.get(it) or "").split()):
+        if not all(PLACE in one for one in parts_of(said.get(it) or "")):
             raise Fault(f"channel {name}: {it} needs {PLACE} where a rendition's name is to stand, for each has its own")
     check_renditions(name, renditions)
     found = []
@@ -108,9 +121,12 @@ def programme_of(name: str, said: Mapping[str, str | None], renditions: list[str
     check_renditions(name, renditions)
     if said.get("decisions") and PLACE not in (said["decisions"] or ""):
         raise Fault(f"channel {name}: decisions needs {PLACE} where a rendition's name is to stand, for each has its own")
-    if len((said.get("origin") or "").split()) > 1:
+    if len(parts_of(said.get("origin") or "")) > 1:
         raise Fault(f"channel {name}: a master playlist has one origin; name the renditions, and give each two")
-    master, viewers = Path(said["master"] or ""), said.get("viewers") or ""
+    try:
+        master, viewers = path_in(said["master"] or ""), said.get("viewers") or ""
+    except Fault as fault:
+        raise Fault(f"channel {name}: master: {fault}") from None
     if not master.parent.is_dir():
         raise Fault(f"channel {name}: master: there is no folder {master.parent}")
     try:
@@ -121,32 +137,37 @@ def programme_of(name: str, said: Mapping[str, str | None], renditions: list[str
     return replace(settings_of(name, plain), master=master, viewers=viewers, names=renditions, texts=dict(said))
 
 
-def settings_of(name: str, said: Mapping[str, str | None], places: tuple[str, str] | None = None) -> Settings:
-    """The settings of the channel `name` from texts by the names of NAMES; raises Fault if they don't go together. `places`: its first
-    and its second origin, if a list names them: what a list says is no text of settings."""
+def settings_of(name: str, said: Mapping[str, str | None], listed: Location | None = None) -> Settings:
+    """The settings of the channel `name` from texts by the names of NAMES; raises Fault if they don't go together. `listed`: where a master
+    playlist says that its list is read, in place of the origin in the texts."""
     try:
         words.channel_name(name)
-        origin, second = origins_of(said.get("origin") or "") if places is None else places
+        first, second = origins_of(said.get("origin") or "")
+        origin, named = listed or first, frozenset(it.host() for it in (first, second) if isinstance(it, Url))
         at = words.web_address(said.get("at") or "")
-        is_web = origin.startswith(("http://", "https://"))
-        base = said.get("base") or (origin if is_web else "")
+        base = said.get("base") or (origin.text if isinstance(origin, Url) else "")
         if not base:
             raise Fault("its origin is a file, so it needs base, the URL under which the packager publishes it")
         words.web_address(base)
         base = words.without_user(base)
+        paths = {it: path_in(text) if (text := said.get(it)) else None for it in ("decisions", "fallback", "keep")}
+        if len(base.encode()) > MOST_BASE:
+            raise Fault(f"base has at most {MOST_BASE} bytes, for viewers get it with each reference")
     except (argparse.ArgumentTypeError, Fault) as fault:
         raise Fault(f"channel {name}: {fault}") from None
-    paths = {it: Path(text) if (text := said.get(it)) else None for it in ("decisions", "fallback", "keep")}
-    target = said.get("target") or ""
+    target, tolerance = said.get("target") or "", said.get("tolerance") or ""
+    if tolerance and ((nanos := duration_of(tolerance)) is None or nanos > MOST_TOLERANCE):
+        raise Fault(f"channel {name}: tolerance is a number of seconds of at most 10, and not {tolerance}")
     if target and not (target.isascii() and target.isdigit() and 1 <= len(target) <= 5 and int(target)):
         raise Fault(f"channel {name}: target is a whole number of seconds, and not {target}")
-    found = Settings(name, origin, at, base, said.get("tolerance") or "", paths["decisions"], paths["fallback"], paths["keep"],
+    found = Settings(name, origin, at, base, tolerance, paths["decisions"], paths["fallback"], paths["keep"],
                      is_yes(name, "unended", said, "no"), "", is_yes(name, "repair", said, "yes"), int(target) if target else None,
                      is_yes(name, "endless", said, "yes"), is_yes(name, "times", said, "yes"))
+    second = None if listed is not None else second
     if second and not found.repair:
         raise Fault(f"channel {name}: a second origin needs repair, so that the numbers go on")
-    own = words.without_user(second) if second.startswith(("http://", "https://")) and not said.get("base") else ""
-    return with_bounds(with_signals(replace(found, second=second, second_base=own), said), said)
+    own = words.without_user(second.text) if isinstance(second, Url) and not said.get("base") else ""
+    return with_bounds(with_signals(replace(found, named=named, second=second, second_base=own), said), said)
 
 
 def with_bounds(found: Settings, said: Mapping[str, str | None]) -> Settings:
@@ -154,23 +175,29 @@ def with_bounds(found: Settings, said: Mapping[str, str | None]) -> Settings:
     line = said.get("line") or str(LINE)
     if not (line.isascii() and line.isdigit() and len(line) <= 7 and 256 <= int(line)):
         raise Fault(f"channel {found.name}: line is a number of bytes of at least 256, and not {line}")
+    try:
+        networks = networks_of(said.get("networks") or "") or None
+    except ValueError as fault:
+        raise Fault(f"channel {found.name}: networks are such as 10.0.0.0/8 192.168.7.3, and {fault}") from None
     idle = [f"`{name}` has no effect {why}" for is_so, why, names in (
-        (not said.get("master") and not any(it.startswith(("http://", "https://")) for it in (found.origin, found.second)),
-         "on an origin that is a file", ("redirects",)),
+        (not said.get("master") and not any(isinstance(it, Url) for it in (found.origin, found.second)),
+         "on an origin that is a file", ("redirects", "networks")),
         (not found.repair, "without repair", ("target", "endless", "times")),
         (not found.signals, "without signals", ("nearest",)), (not found.ask, "without ask", ("hold",))) if is_so for name in names if said.get(name)]
-    return replace(found, redirects=is_yes(found.name, "redirects", said, "no"), line=int(line), idle=tuple(idle))
+    return replace(found, redirects=is_yes(found.name, "redirects", said, "no"), networks=networks, line=int(line), idle=tuple(idle))
 
 
-def origins_of(text: str) -> tuple[str, str]:
-    """The first and the second origin in `text`; the second is empty if there is one alone. Raises Fault."""
-    found = text.split()
+def parts_of(text: str) -> list[str]:
+    """The parts of a setting's `text` between its spaces. (Signs such as U+00A0 aren't spaces.)"""
+    return [it for it in re.split(r"[ \t\r\n]+", text) if it]
+
+
+def origins_of(text: str) -> tuple[Location, Location | None]:
+    """The first and the second origin in `text`; none in place of the second if there is one alone. Raises Fault or ArgumentTypeError."""
+    found = parts_of(text)
     if not 1 <= len(found) <= 2:
         raise Fault(f"origin is a URL or a file, or two of them, and not {text}" if found else "names no origin")
-    for it in found:
-        if it.startswith(("http://", "https://")):
-            words.web_address(it)
-    return found[0], found[1] if len(found) == 2 else ""
+    return stated(found[0]), stated(found[1]) if len(found) == 2 else None
 
 
 def with_signals(found: Settings, said: Mapping[str, str | None]) -> Settings:
@@ -216,53 +243,3 @@ def make_folder(settings: Settings) -> None:
             settings.decisions.mkdir(parents=True, exist_ok=True)
         except OSError as fault:
             raise Fault(f"channel {settings.name}: decisions: {settings.decisions}: {fault.strerror}") from None
-
-
-def read_file(path: Path, faults: list[tuple[str, str]] | None = None) -> list[Settings]:
-    """The channels of the file `path`: a section each, with what all have in [DEFAULT]; raises Fault. If there are `faults`, those of
-    a section are added to them, each as its name and a text, and the other sections are read."""
-    found = configparser.ConfigParser(interpolation=None)
-    try:
-        with open(path, encoding="utf-8") as it:
-            found.read_file(it)
-    except (OSError, UnicodeDecodeError, configparser.Error) as fault:
-        text = fault.strerror if isinstance(fault, OSError) else " ".join(str(fault).split())
-        raise Fault(f"{path}: {text}") from None
-    channels: list[Settings] = []
-    for name in found.sections():
-        try:
-            unknown = set(found[name]) - set(NAMES)
-            if unknown:
-                raise Fault(f"{path}: channel {name}: there is no setting {min(unknown)}; there are {', '.join(NAMES)}")
-            own = ladder_of(name, dict(found[name]))
-            each_once(path, [*channels, *own])
-            channels += own
-        except Fault as fault:
-            if faults is None:
-                raise
-            faults.append((name, str(fault)))
-    if not channels and not faults:
-        raise Fault(f"{path}: it has no channel: a section such as [news]")
-    return channels
-
-
-def read_right(path: Path, say: Callable[[str, str], None]) -> list[Settings]:
-    """The channels of the right sections of the file `path`. `say` is given each wrong one, by its name and why. Raises Fault if none is right."""
-    faults: list[tuple[str, str]] = []
-    found = read_file(path, faults)
-    if not found:
-        raise Fault(faults[0][1])
-    for name, text in faults:
-        say(name, text)
-    return found
-
-
-def each_once(path: Path, channels: list[Settings]) -> None:
-    """Raises Fault if two of the `channels` of the file `path` have one name, or one folder of decisions: two feeds would do harm."""
-    try:
-        folders = [str(it.decisions.resolve()) for it in channels if it.decisions]
-    except (OSError, RuntimeError) as fault:  # (a link that leads to itself)
-        raise Fault(f"{path}: a folder of decisions: {fault}") from None
-    for what, values in (("name", [it.name for it in channels]), ("folder of decisions", folders)):
-        if twice := [it for it, count in Counter(values).items() if count > 1]:
-            raise Fault(f"{path}: two channels have the {what} {twice[0]}")

@@ -78,7 +78,7 @@ class Feeding:
     def asker_of(self, first: Settings) -> Asker:
         """Who asks for decisions, by the settings of the `first` channel."""
         folders = {it.rendition(): it.decisions for it in self.settings if it.decisions is not None}
-        return Asker(self.name, first.ask, first.hold, Client(self.limits.timeout, first.redirects), folders, self.tell_asked, self.is_decided,
+        return Asker(self.name, first.ask, first.hold, Client(self.limits.timeout), folders, self.tell_asked, self.is_decided,
                      lambda _: self.look_soon(), lambda name: self.inbox.post(AskedInVain(name)))
 
     def tell_asked(self, who: str, status: str, word: str, text: str) -> None:

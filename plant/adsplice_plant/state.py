@@ -13,6 +13,7 @@ from enum import Enum
 from typing import NamedTuple
 
 from .events import Request, Stamp
+from .location import Url
 from .numbers import Viewed
 from .pods import Pods
 from .repair import Choices, Repairer
@@ -181,7 +182,7 @@ class State:
 
 def query_of(settings: Settings) -> str:
     """The query of the URL of the channel's list; empty if it has none, or is a file."""
-    return urllib.parse.urlsplit(settings.origin).query if settings.origin.startswith(("http://", "https://")) else ""
+    return urllib.parse.urlsplit(settings.origin.text).query if isinstance(settings.origin, Url) else ""
 
 
 def begin(settings: list[Settings], tolerance: int, longest_pause: float = 5.0) -> State:

@@ -2,7 +2,8 @@
 
 Whatever a server sends, an answer takes no more than its time, bytes and pieces: from the first byte asked to the last one read
 there is one limit of time, and one of bytes on the wire. No content coding is asked for, no cookie is kept, no proxy is used for
-addresses of this machine, and a redirect is followed only within the host, unless more is allowed.
+addresses of this machine, and a redirect is followed only within the origin (scheme, host and port), unless more is allowed. Each address
+is judged before a socket connects to it.
 """
 from __future__ import annotations
 
@@ -10,7 +11,6 @@ import base64
 import functools
 import http.client
 import io
-import ipaddress
 import re
 import select
 import socket
@@ -18,11 +18,14 @@ import ssl
 import threading
 import time
 import urllib.request
-from collections.abc import Mapping
+from collections.abc import Callable, Mapping
 from dataclasses import dataclass, field
 from typing import Any
 
 import httpx
+
+from . import words
+from .reach import Judge, Reach, is_of_this_machine
 
 MAX_BYTES = 4_194_304  # of an answer: adsplice takes no longer playlist
 MAX_HEAD = 65_536
@@ -133,12 +136,13 @@ class Wire:
 
 class Connection(http.client.HTTPConnection):
     """A connection to the server of a URL, by a `proxy` if there is one, under TLS if the URL's scheme says so. `bounds` are those of the request
-    that it is made for."""
+    that it is made for. `judge` says whether it may connect to an address; a proxy's isn't judged."""
 
     sock: Any
 
-    def __init__(self, url: httpx.URL, proxy: str | None, bounds: Bounds) -> None:
+    def __init__(self, url: httpx.URL, proxy: str | None, bounds: Bounds, judge: Judge) -> None:
         to = url if proxy is None else url_of(proxy)
+        self.judge = judge if proxy is None else lambda _: ""
         super().__init__(to.raw_host.decode(), to.port or (443 if to.scheme == "https" else 80))
         self.bounds, self.name = bounds, url.raw_host.decode()
         self.is_secure, self.kept_at = url.scheme == "https", 0.0
@@ -148,9 +152,22 @@ class Connection(http.client.HTTPConnection):
             self.set_tunnel(self.name, url.port or 443, {"Proxy-Authorization": it for it in self.fields.values()})
         self._create_connection = self.connected
 
-    def connected(self, address: tuple[str, int], *_: object) -> Wire:
-        """A socket that is connected to `address`."""
-        return Wire(socket.create_connection(address, min(CONNECT, self.bounds.time())), self.bounds)
+    def connected(self, address: tuple[str, int], *_more: object) -> Wire:
+        """A socket that is connected to `address`, a host and a port: to the first of its addresses that may be connected to and takes it."""
+        fault: OSError | None = None
+        for family, kind, protocol, _, to in socket.getaddrinfo(*address, type=socket.SOCK_STREAM):
+            if why := self.judge(str(to[0])):
+                fault = fault or OSError(why)
+                continue
+            one = socket.socket(family, kind, protocol)
+            try:
+                one.settimeout(min(CONNECT, self.bounds.time()))
+                one.connect(to)
+                return Wire(one, self.bounds)
+            except OSError as failed:
+                one.close()
+                fault = failed
+        raise fault or OSError("it has no address")
 
     def connect(self) -> None:
         """Connects. (Without a delay in TCP a body doesn't wait until its head is acknowledged.)"""
@@ -177,8 +194,18 @@ def certificates() -> ssl.SSLContext:
 
 @functools.lru_cache(1024)
 def url_of(text: str) -> httpx.URL:
-    """The URL `text`; raises what httpx does."""
-    return httpx.URL(text)
+    """The URL `text`; raises ValueError if it doesn't read."""
+    return read_url(lambda: httpx.URL(text))
+
+
+def read_url(read: Callable[[], httpx.URL]) -> httpx.URL:
+    """The URL that `read` answers; raises ValueError if that, or its host and port, don't read. (httpx raises faults of the libraries under it.)"""
+    try:
+        found = read()
+        _ = found.host, found.raw_host, found.port, found.raw_path, found.netloc  # (each is read when it is asked for)
+        return found
+    except Exception as fault:  # noqa: BLE001
+        raise ValueError(f"it isn't a URL: {words.plain(str(fault)[:100])}") from None
 
 
 def password_of(url: httpx.URL) -> dict[str, str]:
@@ -188,33 +215,24 @@ def password_of(url: httpx.URL) -> dict[str, str]:
     return {"Authorization": f"Basic {base64.b64encode(f'{url.username}:{url.password}'.encode()).decode()}"}
 
 
-def is_of_this_machine(host: str) -> bool:
-    """Whether `host` is an address of this machine in any spelling that connects to it (`127.1`, `0x7f000001`, `0.0.0.0`), or its name."""
-    try:
-        found = ipaddress.ip_address(host.strip("[]"))
-    except ValueError:
-        try:
-            found = ipaddress.ip_address(socket.inet_aton(host))
-        except (OSError, UnicodeError):
-            return host == "localhost" or host.endswith(".localhost")
-    found = getattr(found, "ipv4_mapped", None) or found
-    return found.is_loopback or found.is_unspecified
-
-
-def strays(text: str, first: str, redirects: bool) -> str:
-    """Why the URL `text`, which a list of the URL `first` names, isn't read; empty if it may be. It has the scheme, the host and the
-    port of `first` (RFC 6454, 4), unless `redirects` says that other hosts are followed; none leads from outside to this machine."""
+def strays(text: str, first: str, redirects: bool, reach: Reach) -> str:
+    """Why the URL `text` isn't read, to which the server of the URL `first` leads by a list or a redirect; empty if it may be. It has the
+    scheme, the host and the port of `first` (RFC 6454, 4), unless `redirects` says that others are followed. Where its host is an address,
+    that is in `reach`."""
     try:
         one, other = url_of(text), url_of(first)
-    except (httpx.InvalidURL, ValueError) as fault:
-        return f"it isn't a URL: {str(fault)[:100]}"
+    except ValueError as fault:
+        return str(fault)
     if one.scheme not in ("http", "https") or not one.host:
         return "it isn't a URL that begins with http:// or https://"
-    if (one.scheme, one.host, one.port) != (other.scheme, other.host, other.port) and not redirects:
-        return "it is of another host, port or scheme than the list: `redirects = yes` has it read"
-    if is_of_this_machine(one.host) and not is_of_this_machine(other.host):
-        return f"{one.host} is an address of this machine"
-    return ""
+    if not has_same_origin(one, other) and not redirects:
+        return "it is of another host, port or scheme: `redirects = yes` has it read"
+    return reach.strays(one.host, (other.host,))
+
+
+def has_same_origin(one: httpx.URL, other: httpx.URL) -> bool:
+    """Whether both URLs have one scheme, host and port."""
+    return (one.scheme, one.host, one.port) == (other.scheme, other.host, other.port)
 
 
 @functools.lru_cache(1024)
@@ -233,15 +251,15 @@ def why_of(fault: Exception) -> str:
         return "Server disconnected without sending a response."
     if isinstance(fault, http.client.BadStatusLine):
         return "the answer isn't one of HTTP"
-    return re.sub(r"^\[Errno -?[0-9]{1,5}\] ", "", str(fault)[:200].partition("\n")[0]) or type(fault).__name__
+    return words.plain(re.sub(r"^\[Errno -?[0-9]{1,5}\] ", "", str(fault)[:200].partition("\n")[0])) or type(fault).__name__
 
 
 class Client:
     """Asks by connections of its own, each request within a bound of `limit` seconds from its begin to its last byte. A redirect
-    to another host is followed if `redirects` says so. Several threads may ask at a time."""
+    to another host, port or scheme is followed if `redirects` says so. Its addresses are in `reach`. Several threads may ask at a time."""
 
-    def __init__(self, limit: float, redirects: bool = False) -> None:
-        self.limit, self.redirects, self.lock = limit, redirects, threading.Lock()
+    def __init__(self, limit: float, redirects: bool = False, reach: Reach | None = None) -> None:
+        self.limit, self.redirects, self.reach, self.lock = limit, redirects, reach or Reach(), threading.Lock()
         self.idle: dict[tuple[str, bytes, int | None, str | None], list[Connection]] = {}  # by scheme, host and port, and the proxy
 
     def ask(self, method: str, url: str, body: bytes | None = None, fields: Mapping[str, str] | None = None) -> Answer:
@@ -250,26 +268,25 @@ class Client:
         try:
             first = at = url_of(url)
             for _ in range(MOST_REDIRECTS):
-                answer = self.once(method, at, body, fields or {}, bounds)
+                answer = self.once(method, at, body, fields or {}, bounds, first.host)
                 if method != "GET" or answer.status not in REDIRECTS or "location" not in answer.fields:
                     return answer
-                at = at.join(answer.fields["location"])
-                if at.scheme not in ("http", "https") or (at.host != first.host and not self.redirects):
-                    return Answer(0, why=f"a redirect to {at.scheme}://{at.host}, another host: `redirects = yes` has it followed")
-                if is_of_this_machine(at.host) and not is_of_this_machine(first.host):
-                    return Answer(0, why=f"a redirect to {at.host}, an address of this machine")
+                before, location = at, answer.fields["location"]
+                at = read_url(lambda: before.join(location))
+                if why := strays(str(at), str(first), self.redirects, self.reach):
+                    return Answer(0, why=words.plain(f"a redirect to {at.scheme[:10]}://{at.host[:100]} isn't followed: {why}"))
             return Answer(0, why=f"more than {MOST_REDIRECTS} redirects")
         except TimeoutError:
             return Answer(0, why=f"no {'whole ' if bounds.has_begun else ''}answer within {self.limit:g} s")
-        except (httpx.InvalidURL, http.client.HTTPException, OSError, ValueError) as fault:
+        except (http.client.HTTPException, OSError, ValueError) as fault:
             return Answer(0, why=why_of(fault))
 
-    def once(self, method: str, url: httpx.URL, body: bytes | None, fields: Mapping[str, str], bounds: Bounds) -> Answer:
-        """The answer to one request, within `bounds`; raises HTTPException, OSError or ValueError."""
+    def once(self, method: str, url: httpx.URL, body: bytes | None, fields: Mapping[str, str], bounds: Bounds, named: str) -> Answer:
+        """The answer to one request, within `bounds`, that began at the host `named`; raises HTTPException, OSError or ValueError."""
         if url.scheme not in ("http", "https") or not url.host:
             raise ValueError(f"{str(url)[:100]!r} isn't a URL that begins with http:// or https://")
         key = url.scheme, url.raw_host, url.port, proxy_for(url)
-        it = self.connection(key, url, bounds)
+        it = self.connection(key, url, bounds, named)
         try:
             send(it, method, url, body, fields)
             with it.getresponse() as reply:
@@ -285,14 +302,14 @@ class Client:
             it.close()
         return answer
 
-    def connection(self, key: tuple[str, bytes, int | None, str | None], url: httpx.URL, bounds: Bounds) -> Connection:
-        """A connection to the server of `url`: one of those that are kept under `key`, or a new one."""
+    def connection(self, key: tuple[str, bytes, int | None, str | None], url: httpx.URL, bounds: Bounds, named: str) -> Connection:
+        """A connection to the server of `url`: one of those that are kept under `key`, or a new one, within the reach of the host `named`."""
         while True:
             with self.lock:
                 its = self.idle.get(key)
                 it = its.pop() if its else None
             if it is None:
-                return Connection(url, key[3], bounds)
+                return Connection(url, key[3], bounds, self.reach.judge(url.host, (named,)))
             if it.is_ready():
                 it.begin(bounds)
                 return it

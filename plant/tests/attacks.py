@@ -1,4 +1,5 @@
-"""A hostile server: what it answers by the first part of the path, and the good list of `/good/..`."""
+"""A hostile server: what it answers by the first part of the path, and the good list of `/good/..`. And seeds of hostile inputs of each kind,
+which `fuzzed.py` grows."""
 import gzip
 import socket
 import threading
@@ -74,6 +75,40 @@ ENDLESS = {
     "silent": (b"", b"", 0.5),
 }
 KINDS = (*ANSWERS, *ENDLESS)
+
+# ---- seeds of what comes to the rim: small inputs, right ones and wrong ones
+
+START, SECTION = b"2024-05-01T12:00:02Z", b"0xFC302000000000000000FFF00F05000000017FFFFE002932E000010000000000000000"
+SMALL_LISTS = [
+    HEAD + b"#EXT-X-MEDIA-SEQUENCE:7\n#EXT-X-DISCONTINUITY-SEQUENCE:2\n#EXT-X-PROGRAM-DATE-TIME:2024-05-01T12:00:00Z\n" + ONE * 5 + b"#EXT-X-DISCONTINUITY\n" + ONE,
+    HEAD + b'#EXT-X-DATERANGE:ID="b1",START-DATE="' + START + b'",DURATION=2,SCTE35-OUT=' + SECTION + b"\n#EXT-X-PROGRAM-DATE-TIME:2024-05-01T12:00:00Z\n" + ONE * 5,
+    HEAD + b'#EXT-X-KEY:METHOD=AES-128,URI="k",IV=0x1,KEYFORMAT="identity"\n#EXT-X-MAP:URI="i.mp4",BYTERANGE="20@0"\n#EXT-X-BYTERANGE:5@0\n' + ONE * 3 + b"#EXT-X-ENDLIST\n",
+    HEAD + b"#EXT-X-CUE-OUT:2\n" + ONE + b"#EXT-X-CUE-OUT-CONT:1/2\n" + ONE + b"#EXT-X-CUE-IN\n" + ONE, HEAD + b"#EXT-OATCLS-SCTE35:/DAgAAAAAAAAAP/wDwUAAAABf//+ACky4AABAAAAAAAAAAA=\n" + ONE,
+    HEAD.replace(b"\n", b"\r\n") + b"#EXT-X-SKIP:SKIPPED-SEGMENTS=3\r\n" + ONE, b"\xef\xbb\xbf" + HEAD + ONE, b"#EXTM3U", b"", b"<html>\n</html>\n",
+    *(it for it in LISTS.values() if len(it) < 4000)]
+MASTERS = [
+    b"#EXTM3U\n#EXT-X-VERSION:6\n#EXT-X-STREAM-INF:BANDWIDTH=1,AUDIO=\"a\"\nv.m3u8\n#EXT-X-MEDIA:TYPE=AUDIO,GROUP-ID=\"a\",NAME=\"x\",URI=\"en/i.m3u8\"\n",
+    b"#EXTM3U\n#EXT-X-SESSION-KEY:METHOD=AES-128,URI=\"k\"\n#EXT-X-I-FRAME-STREAM-INF:BANDWIDTH=1,URI=\"f\"\n#EXT-X-STREAM-INF:BANDWIDTH=2\n../hd/i.m3u8?t=1\n",
+    *(b"#EXTM3U\n#EXT-X-STREAM-INF:BANDWIDTH=1\n%s\n" % it for it in (
+        b"v.m3u8 /etc/passwd", "v.m3u8\u00a0/etc/passwd".encode(), b"http://127.1:8090/v.m3u8", b"//0x7f000001/v", b"http://[::1]/", b"http://u:p@origin.example@h/", b"file:///etc/passwd",
+        b"http://origin.example:80/v", b"http:/\\h/v", b"http://origin.example%2f@h/", b"\\\\h\\v", b"a/../../v", b"%2e%2e/v", b"/etc/passwd", b"?", b"#EXT", b"http://[", b"https:v"))]
+REDIRECTS = [b"/i.m3u8", b"i.m3u8?x=1", b"//127.0.0.1:PORT/", b"http://127.0.0.1:PORT/", b"http://localhost:PORT/", b"http://127.1:PORT/", b"http://0:PORT/", b"http://[::ffff:127.0.0.1]:PORT/",
+             b"http://2130706433:PORT/", b"http://0x7f.1:PORT/", b"http://127.0.0.1:80@127.0.0.1:PORT/", b"http://127.0.0.1:PORT\\@h/", b"HTTP://127.0.0.1:PORT/%00", b"file:///etc/passwd",
+             b"http:127.0.0.1:PORT/", b"http:///127.0.0.1:PORT/", b"http://127.0.0.1:PORT#@h/", b"http://127.0.0.1:99999/", b"\x00", b"", "http://１２７.0.0.1:PORT/".encode(), b"/\\127.0.0.1:PORT/"]
+HEADERS = [b"HTTP/1.1 200 OK\r\nContent-Length: 8\r\n\r\n#EXTM3U\n", b"HTTP/1.1 200 OK\r\nTransfer-Encoding: chunked\r\n\r\n8\r\n#EXTM3U\n\r\n0\r\n\r\n", b"HTTP/1.0 200 OK\r\n\r\n#EXTM3U\n",
+           b"HTTP/1.1 304 Not Modified\r\nETag: \"a\"\r\n\r\n", b"HTTP/1.1 100 Continue\r\n\r\nHTTP/1.1 200 OK\r\nContent-Length: 1\r\nETag: W/\"a\"\r\nLast-Modified: x\r\n\r\na",
+           b"HTTP/1.1 302 Found\r\nLocation: http://localhost:9/\r\nContent-Length: 0\r\n\r\n", *(it for it in ANSWERS.values() if len(it) < 2000)]
+REQUESTS = [b"PUT /decisions/news/a.json HTTP/1.1\r\nHost: h\r\nContent-Length: 17\r\n\r\n{\"fallback\":null}", b"DELETE /decisions/news/a.json HTTP/1.1\r\n\r\n", b"GET / HTTP/1.1\r\n\r\n",
+            b"PUT /decisions/news/..%2fa.json HTTP/1.1\r\nContent-Length: 2\r\n\r\n{}", b"PUT /decisions/news/a.json HTTP/1.1\r\nTransfer-Encoding: chunked\r\n\r\n2\r\n{}\r\n0\r\n\r\n",
+            b"PUT //decisions/news/a.json HTTP/1.0\r\nContent-Length: 17\r\nOrigin: http://h\r\n\r\n{\"fallback\":null}", b"\x16\x03\x01", b"PUT\r\n\r\n"]
+DECISIONS = [b'{"breaks":[{"id":"b1","ads":[{"segments":[{"uri":"http://h/a.ts","duration":"2"}]}]}]}', b'{"fallback":{"ads":[{"segments":[{"uri":"//h/a","duration":".5","offset":0,"length":5}]}]}}',
+             b'{"withdraw":"b1"}', b'{"fallback":null}', b"[[[[]]]]", b'{"breaks":[{"id":"b1","ads":[{"map":{"uri":"http://h/i"},"key":{"method":"NONE"},"segments":[]}]}]}', b"", b"null", b'"\\ud800"']
+NAMES = [b"a.json", b"a", b".a.json", b".json", b"a\nb.json", b"\xff\xfe.json", b"a b.json", "é\u2028.json".encode(), b"done", b"asked", b"a" * 250 + b".json", b"-a.json", b"%2e.json", b"\x1b[2J.json"]
+FILE_KINDS = ("file", "decision", "folder", "pipe", "link", "loop", "outside", "device", "socket", "long", "secret")
+SETTINGS = [
+    b"[DEFAULT]\nat = http://127.0.0.1:8090\nkeep = FOLDER/kept\n[news]\norigin = http://h/i.m3u8 http://b/i.m3u8\ndecisions = FOLDER/d\ntolerance = 0.2\nnetworks = 10.0.0.0/8\n",
+    b"[film]\nat = http://h\norigin = http://h/m.m3u8\nmaster = FOLDER/film.m3u8\nrenditions = 1 2\ndecisions = FOLDER/{}\n[film-1]\nat = http://h\norigin = FOLDER/i.m3u8\nbase = http://h/\n",
+    b"[sport]\nat = http://h\nrenditions = a b\norigin = http://h/{}.m3u8\ndecisions = FOLDER/d/{}\nask = folder\nhold = 1\nsignals = 0x34\ntarget = 6\nline = 300\nredirects = yes\n", b"[", b"a", b"[a]\nat\n"]
 
 
 class Hostile:

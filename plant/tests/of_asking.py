@@ -30,8 +30,8 @@ def needs(*names):
 def modules():
     """The modules that need httpx."""
     if not MODULES:
-        from adsplice_plant import asking, breaks, events, fed, settings, shell
-        MODULES.update(asking=asking, breaks=breaks, events=events, fed=fed, settings=settings, shell=shell)
+        from adsplice_plant import asking, breaks, events, fed, location, settings, shell
+        MODULES.update(asking=asking, breaks=breaks, events=events, fed=fed, location=location, settings=settings, shell=shell)
     return MODULES
 
 
@@ -102,7 +102,7 @@ class Asking(Live):
         self.controller, names = room.server(FakeController()), {it: f"news-{it}" if it else "news" for it in renditions}
         for it in renditions:
             os.makedirs(f"{room.path}/{it}", exist_ok=True)
-        super().__init__(room, [modules()["settings"].Settings(name, f"{room.path}/none.m3u8", self.controller.url, "http://origin.example/i.m3u8", keep=keep,
+        super().__init__(room, [modules()["settings"].Settings(name, modules()["location"].LocalFile(Path(room.path, "none.m3u8")), self.controller.url, "http://origin.example/i.m3u8", keep=keep,
                                                                 decisions=Path(room.path) / it, programme="news" if it else "", ask=ask, hold=hold) for it, name in names.items()], timeout)
 
     def give(self, newest, style=STYLE):
@@ -277,6 +277,38 @@ def test_many_breaks_are_asked_for_in_bounds(room):
     assert "news ask - TooMany: 16 questions are open; b16 isn't asked for" in it.lines()
 
 
+def test_ever_new_breaks_are_asked_for_in_bounds_of_a_minute(room):
+    it, number = Asking(room, "folder", hold=0.1), 0
+    asker = it.feed.asker
+    for _ in range(6):
+        it.ask(*(modules()["breaks"].Break(f"b{number + n}", 0, n, "splice_insert") for n in range(16)))
+        number += 16
+        time.sleep(0.15)  # (the questions before are over)
+    assert len(os.listdir(f"{room.path}/asked")) == 32, "questions within a minute"
+    assert [line for line in it.lines() if "TooMany" in line] == ["news ask - TooMany: 32 breaks were asked for within a minute; b32 isn't asked for"], it.lines()
+    asker.begun = [moment - 60 for moment in asker.begun]
+    it.ask(modules()["breaks"].Break("late", 0, 1, "splice_insert"))
+    assert len(os.listdir(f"{room.path}/asked")) == 33
+
+
+def test_old_questions_cost_next_to_nothing(room):
+    it, seen, real = Asking(room, "folder", hold=0.1), [], os.scandir
+    os.makedirs(f"{room.path}/asked")
+    for n in range(5000):
+        Path(room.path, "asked", f"old{n}.json").touch()
+    os.utime(f"{room.path}/asked/old7.json", (1, 1))
+    try:
+        own = threading.get_ident()  # (others run beside)
+        os.scandir = lambda *place: (seen.append(place) if threading.get_ident() == own else None) or real(*place)
+        begun = time.thread_time()
+        it.ask(*(modules()["breaks"].Break(f"b{n}", n * SECOND, n, "splice_insert") for n in range(16)))
+        assert time.thread_time() - begun < 0.5
+    finally:
+        os.scandir = real
+    names = os.listdir(f"{room.path}/asked")
+    assert len(seen) == 1 and len(names) == 4096 + 16 and "old7.json" not in names, (len(seen), len(names))
+
+
 def test_what_is_kept_on_disk_goes_on(room):
     keep = Path(room.path) / "kept"
     os.makedirs(keep)
@@ -300,7 +332,7 @@ class Fed(Live):
         settings = {"decisions": Path(room.path) / "decisions", "keep": Path(room.path) / "kept", **settings}
         for folder in (settings["decisions"], settings["keep"]):
             folder.mkdir(exist_ok=True)
-        super().__init__(room, [modules()["settings"].Settings("news", f"{room.path}/none.m3u8", at, "http://origin.example/ch/index.m3u8", **settings)], 5.0)
+        super().__init__(room, [modules()["settings"].Settings("news", modules()["location"].LocalFile(Path(room.path, "none.m3u8")), at, "http://origin.example/ch/index.m3u8", **settings)], 5.0)
         self.lines = self.told
 
     def turn(self, newest):

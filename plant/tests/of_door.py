@@ -5,9 +5,13 @@ import os
 import signal
 import socket
 import stat
+import sys
+import threading
 import time
 
-from tools import FakeController, FakeOrigin, decided, free_port, listed, until
+from tools import PLANT, FakeController, FakeOrigin, decided, free_port, listed, until
+
+sys.path.insert(0, PLANT)
 
 NEEDS = ("httpx",)
 ONE = decided(("b1", 2)).encode()
@@ -75,7 +79,7 @@ def test_what_is_refused_is_one_line_and_leaves_nothing(room):
     for method, path, body, fields, status, text in (
             ("PUT", "/decisions/news/a.json", wrong, {}, 422, "break 0, ad 0, segment 0: `duration` has to be a string, as \"2\" (J2 Shape break 0 ad 0 segment 0)"),
             ("PUT", "/decisions/news/a.json", b"", {}, 422, "the file isn't JSON"), ("PUT", "/decisions/news/a.json", b"[" * 100_000, {}, 422, "J1"),
-            ("PUT", "/decisions/news/a.json", b"[0" + b",0" * 300_000 + b"]", {}, 413, "250,000 commas"),
+            ("PUT", "/decisions/news/a.json", b"[0" + b",0" * 300_000 + b"]", {}, 413, "more than 250,000 commas"),
             ("PUT", "/decisions/other/a.json", ONE, {}, 404, "no channel other"), ("PUT", "/", ONE, {}, 404, "a path is"), ("PUT", "/decisions/news", ONE, {}, 404, "a path is"),
             ("PUT", "/decisions/news/../a.json", ONE, {}, 404, "a path is"), ("PUT", "/decisions/../a.json", ONE, {}, 404, "no channel .."),
             ("PUT", "/decisions/news/..%2fa.json", ONE, {}, 400, "a path is"), ("PUT", "/decisions/news/%2e%2e.json", ONE, {}, 400, "a path is"),
@@ -117,27 +121,102 @@ def test_slow_clients_cost_neither_door_nor_channel_more_than_their_time(room):
     it = Opened(room)
     head = b"PUT /decisions/news/a.json HTTP/1.1\r\nContent-Length: 4194304\r\n\r\n"
     slow = [socket.create_connection(("127.0.0.1", it.port)) for _ in range(40)]
+    begun = time.monotonic()
     for n, one in enumerate(slow):
         try:
-            one.sendall(head[: 20 + n])
+            one.sendall(head[: 20 + 2 * n])  # (half heads, and heads whose bodies don't come)
         except OSError:
-            pass  # (one of those that are too many)
-    begun = time.monotonic()
-    until(lambda: b" 503 " in it.raw(b"PUT / HTTP/1.1\r\n\r\n"), 2, "the bound of connections")
+            pass  # (one that made room)
+    for n in range(30):
+        assert it.ask("PUT", f"/decisions/news/b{n}.json", decided((f"b{n}", 2)).encode())[0] == 201, n
     for number in (1, 2, 3):
         it.origin.text = listed(number, number + 5)
         until(lambda text=it.origin.text: it.controller.puts("origin")[-1] == text.encode(), 3, "the next list")
-    while time.monotonic() < begun + 9:
+    while time.monotonic() < begun + 6:
         for one in slow:
             try:
                 one.sendall(b"x")
             except OSError:
                 pass
+        assert it.ask("PUT", "/decisions/news/b0.json", decided(("b0", 2)).encode())[0] == 200
         time.sleep(0.5)
-    until(lambda: b" 201 " in it.raw(b"PUT /decisions/news/b.json HTTP/1.1\r\nContent-Length: %d\r\n\r\n" % len(ONE) + ONE), 6, "a place at the door")
     for one in slow:
         one.close()
-    assert it.files() == ["b.json"]
+    assert it.files() == sorted(f"b{n}.json" for n in range(30))
+
+
+def test_a_head_has_less_time_than_a_body(room):
+    it = Opened(room)
+    for sent, least, most in ((b"", 2.9, 7), (b"PUT /decisions/news/a.json HTTP/1.1\r\nContent-Le", 2.9, 7),
+                              (b"PUT /decisions/news/a.json HTTP/1.1\r\nContent-Length: 9\r\n\r\n{", 9.9, 15)):
+        begun = time.monotonic()
+        with socket.create_connection(("127.0.0.1", it.port), 20) as one:
+            one.sendall(sent)
+            while one.recv(65_536):
+                pass
+        assert least < time.monotonic() - begun < most, (sent, time.monotonic() - begun)
+
+
+def test_the_oldest_that_is_not_whole_makes_room(room):
+    from adsplice_plant import door
+    bounds = door.MOST, door.MOST_HELD, door.GIVES_WAY
+    pairs = [socket.socketpair() for _ in range(6)]
+    mine = [here for here, _ in pairs]
+    try:
+        door.MOST, door.MOST_HELD, door.GIVES_WAY = 3, 100, 0.2
+        seats = door.Seats()
+        assert all(seats.take(one) for one in mine[:3])
+        seats.go_on(mine[0], door.Stage.ANSWERED)
+        leaver = threading.Thread(target=lambda: (mine[1].recv(1), seats.leave(mine[1])))
+        leaver.start()
+        assert seats.take(mine[3]) and list(seats.seats) == [mine[0], mine[2], mine[3]], "the oldest of those that aren't whole"
+        leaver.join()
+        seats.go_on(mine[2], door.Stage.ANSWERED)
+        seats.go_on(mine[3], door.Stage.ANSWERED)
+        assert not seats.take(mine[4]), "those that are being answered stay"
+        seats.go_on(mine[0], door.Stage.ENDED)
+        threading.Thread(target=lambda: (mine[0].recv(1), seats.leave(mine[0]))).start()
+        assert seats.take(mine[4]) and mine[0] not in seats.seats, "one that has its answer makes room"
+        seats.hold(mine[4], 60)
+        seats.hold(mine[2], 30)
+        try:
+            seats.hold(mine[4], 20)
+            raise AssertionError("more than 100 bytes")
+        except door.Refused as refusal:
+            assert refusal.status == 503
+        seats.leave(mine[4])
+        seats.leave(mine[3])
+        assert seats.take(mine[5]) and seats.take(mine[4])
+        seats.hold(mine[5], 50)
+        seats.hold(mine[4], 40)
+        assert seats.seats[mine[5]].is_given_up and not seats.seats[mine[4]].is_given_up, "the oldest whose body isn't whole makes room"
+        try:
+            seats.go_on(mine[5], door.Stage.ANSWERED)
+            raise AssertionError("it made room")
+        except ConnectionAbortedError:
+            pass
+    finally:
+        door.MOST, door.MOST_HELD, door.GIVES_WAY = bounds
+        for one in pairs:
+            for end in one:
+                end.close()
+
+
+def test_files_of_a_folder_are_bounded_in_number_and_bytes(room):
+    from adsplice_plant import admission
+    folder, bounds = admission.Path(room.path), (admission.MOST_FILES, admission.ROOM)
+    try:
+        admission.MOST_FILES, admission.ROOM = 3, 5_000_000
+        for name, size in (("a.json", 4_000_000), ("b.json", 900_000)):
+            with open(folder / name, "wb") as one:
+                one.truncate(size)
+        for name, size, owed in (("c.json", 100_000, ""), ("c.json", 100_001, "the channel's decision files have 4900000 bytes, and may have 5000000"), ("b.json", 1_000_000, ""),
+                                 ("b.json", 1_000_001, "the channel's decision files have 4000000 bytes, and may have 5000000")):
+            assert admission.lack_of_room(folder, name, size) == owed, (name, size)
+        (folder / "c.json").touch()
+        assert admission.lack_of_room(folder, "d.json", 1) == "the channel has 3 decision files" and admission.lack_of_room(folder, "c.json", 1) == ""
+    finally:
+        admission.MOST_FILES, admission.ROOM = bounds
 
 
 def test_disk_that_refuses(room):
@@ -147,9 +226,10 @@ def test_disk_that_refuses(room):
     assert (status, text) == (503, "it can't be kept: Is a directory\n")
     it.feed.sees("news door 503 Unkept: .*/a.json: Is a directory; isn't taken")
     os.rmdir(f"{it.folder}/.a.json.new")
-    os.symlink("/dev/full", f"{it.folder}/.a.json.new")
-    assert it.ask("PUT", "/decisions/news/a.json", ONE)[0] == 503, "a link isn't followed"
-    assert it.ask("PUT", "/decisions/news/b.json", ONE)[0] == 201 and [one for one in it.files() if one[0] != "."] == ["b.json"]
+    for make in (lambda path: os.symlink("/dev/full", path), os.mkfifo):
+        make(f"{it.folder}/.a.json.new")
+        assert it.ask("PUT", "/decisions/news/a.json", ONE)[0] in (200, 201), "it takes the place of a link or a pipe, which nobody opens"
+    assert os.path.exists("/dev/full") and it.ask("PUT", "/decisions/news/b.json", ONE)[0] == 201 and it.files() == ["a.json", "b.json"]
 
 
 def test_unix_socket(room):
@@ -185,7 +265,7 @@ def test_kept_file_is_on_disk_before_it_is_answered(room):
     done, real = [], (os.fsync, os.replace)
     try:
         os.fsync = lambda handle: done.append("folder" if stat.S_ISDIR(os.fstat(handle).st_mode) else "file")
-        os.replace = lambda *it: (done.append("rename"), real[1](*it))[1]
+        os.replace = lambda *it, **named: (done.append("rename"), real[1](*it, **named))[1]
         assert admission.keep(admission.Path(f"{room.path}/d"), "a.json", b"{}") is False
     finally:
         os.fsync, os.replace = real

@@ -3,6 +3,7 @@ import json
 import os
 import socket
 import sys
+import threading
 import time
 from pathlib import Path
 
@@ -64,6 +65,7 @@ def test_what_is_no_file_is_passed_over_and_stops_nothing(room):
     Path(room.path, "secret").write_text(ONE, encoding="utf-8")
     os.symlink(f"{room.path}/secret", it.path / "link.json")
     os.symlink("/dev/zero", it.path / "zero.json")
+    os.symlink("loop.json", it.path / "loop.json")
     os.mkfifo(it.path / "fifo.json")
     os.mkdir(it.path / "folder.json")
     with socket.socket(socket.AF_UNIX) as one:
@@ -74,7 +76,7 @@ def test_what_is_no_file_is_passed_over_and_stops_nothing(room):
     it.write("one.json")
     begun = time.monotonic()
     assert it.look() == ["one.json"] and time.monotonic() - begun < 1
-    assert sorted(line.split(" ")[0] for line in it.told) == [f"decisions/{name}" for name in ("fifo.json", "folder.json", "link.json", "notes.txt", "socket.json", "zero.json")]
+    assert sorted(line.split(" ")[0] for line in it.told) == [f"decisions/{name}" for name in ("fifo.json", "folder.json", "link.json", "loop.json", "notes.txt", "socket.json", "zero.json")]
     assert "decisions/link.json 0 Passed: it is a link, which isn't followed; passes over it" in it.told
     os.remove(it.path / "one.json")
     os.symlink(f"{room.path}/secret", it.path / "one.json")
@@ -103,6 +105,46 @@ def test_files_are_bounded_in_their_number_and_their_bytes(room):
         folders.MOST_FILES, folders.ROOM, folders.MOST_ENTRIES = bounds
     it.look()
     assert any("long.json 0 Passed: it has 4194305 bytes, over 4194304" in line for line in it.told)
+
+
+def test_a_file_that_would_cost_the_judge_much_is_looked_at_once(room):
+    from adsplice_plant import folders
+    it, seen, real = Looked(room), [], folders.read
+    it.write("long.json", "[0" + ",0" * 250_001 + "]")
+    it.write("one.json")
+    try:
+        folders.read = lambda name, *more, **named: seen.append(name) or real(name, *more, **named)
+        assert (it.look(), it.look(), it.look()) == (["one.json"], None, None) and sorted(seen) == ["long.json", "one.json"], seen
+        assert it.told == ["decisions/long.json 0 Passed: it has more than 250,000 commas; passes over it"] * 3
+        it.write("long.json")
+        assert sorted(it.look()) == ["long.json", "one.json"]
+    finally:
+        folders.read = real
+
+
+def test_pipes_that_are_swapped_in_hold_nobody_up(room):
+    # (a file and a pipe are renamed to one name by turns, so that the look finds a file and opens a pipe now and then)
+    it, begun, ending = Looked(room), time.monotonic(), threading.Event()
+
+    def swap():
+        n = 0
+        while not ending.is_set():
+            n += 1
+            aside = it.path / f".{n}"
+            os.mkfifo(aside) if n % 2 else aside.write_text(ONE, encoding="utf-8")
+            os.replace(aside, it.path / "one.json")
+
+    thread = threading.Thread(target=swap, daemon=True)
+    thread.start()
+    it.write("two.json")
+    try:
+        for _ in range(3000):
+            it.folder.look()
+            assert "two.json" in it.folder.files
+    finally:
+        ending.set()
+        thread.join()
+    assert time.monotonic() - begun < 60
 
 
 def test_what_is_over_is_moved_unless_it_was_written_anew(room):

@@ -51,7 +51,7 @@ def by_nginx(room, conf, viewers, operators, has_workers, changed):
     with open(conf, encoding="utf-8") as it:
         text = it.read()
     for old, new in (*changed, ("listen 8080", f"listen 127.0.0.1:{viewers}"), ("listen 127.0.0.1:8090", f"listen 127.0.0.1:{operators}"),
-                     ("/var/log/nginx", room.path), ("/var/cache/adsplice", f"{room.path}/cache")):
+                     ("/var/log/nginx", room.path), ("/var/cache/adsplice", f"{room.path}/cache"), ("/etc/nginx/snippets/adsplice-viewers.conf", f"{LIVE}/nginx-viewers.conf")):
         assert old in text, old
         text = text.replace(old, new)
     rooms = "".join(f"{it}_temp_path {room.path}/{it};\n" for it in ("client_body", "proxy", "fastcgi", "scgi", "uwsgi"))

@@ -6,6 +6,7 @@ import resource
 import shutil
 import signal
 import socket
+import ssl
 import subprocess
 import sys
 import threading
@@ -262,6 +263,29 @@ def test_answers_of_a_hostile_ad_server_are_judged(room):
         assert found is None and why and time.process_time() - begun < 1.5, (body[:40], found, why)
 
 
+def test_what_would_be_written_of_a_list_is_bounded(room):
+    # (a base before each reference, or a key or a map before each segment: over 16,777,216 bytes a list isn't given)
+    from adsplice_plant import origin
+    head, one = b"#EXTM3U\n#EXT-X-TARGETDURATION:2\n", b"#EXTINF:2,\ns.ts\n"
+    key, section = (b'#EXT-X-%s:METHOD=AES-128,URI="%s"\n' % (tag, b"k" * 16_000) for tag in (b"KEY", b"MAP"))
+    for body, base, is_taken in ((one * 10_000, 100, True), (one * 10_000, 2_000, False), (one * 8_000, 2_000, True), (key + one * 1_000, 100, True), (key + one * 2_000, 100, False),
+                                 (section + one * 2_000, 100, False), (one * 2_000 + key, 0, False), (key * 30 + one * 30, 2_000, True), (b"\n" * 90_000 + one, 2_000, True)):
+        why = origin.over_bound(head + body, 16_384, base)
+        assert (why == "") == is_taken and (is_taken or why.startswith("what is written of it may have more than 16777216 bytes: ")), (len(body), base, why)
+
+
+test_what_would_be_written_of_a_list_is_bounded.needs = ("httpx",)
+
+
+def test_a_list_that_would_be_written_long_is_told_and_not_given(room):
+    controller, origin = room.server(FakeController()), room.server(FakeOrigin(listed(0, 5)))
+    feed = room.feed("--channel", "news", "--origin", origin.url, "--at", controller.url, "--base", f"http://origin.example/{'b' * 2000}/i.m3u8")
+    feed.sees("news adsplice 204 -: the list is taken")
+    origin.text = listed(1, 9_000)
+    feed.sees("news origin 200 -: what is written of it may have more than 16777216 bytes: 90[0-9]+ references under a base of 2029 bytes", 30)
+    assert len(controller.puts("origin")) == 1
+
+
 def test_readers_take_time_by_their_bytes(room):
     # (each reader at two sizes of each hostile kind, in a process of its own)
     code = ("import itertools, sys, time; sys.path.insert(0, sys.argv[1])\n"
@@ -309,6 +333,29 @@ def test_answers_of_odd_servers(room):
             thread.join()
             client.close()
         assert (found.status, found.body, found.why) == (status, body, why), (sent, found)
+
+
+def test_a_server_without_a_right_certificate_is_not_read(room):
+    from adsplice_plant.web import Client
+    if not shutil.which("openssl"):
+        return
+    subprocess.run(["openssl", "req", "-x509", "-newkey", "rsa:2048", "-nodes", "-keyout", f"{room.path}/key", "-out", f"{room.path}/certificate", "-days", "2",
+                    "-subj", "/CN=localhost", "-addext", "subjectAltName=DNS:localhost,IP:127.0.0.1"], check=True, capture_output=True, timeout=60)
+    context, got = ssl.SSLContext(ssl.PROTOCOL_TLS_SERVER), []
+    context.load_cert_chain(f"{room.path}/certificate", f"{room.path}/key")
+    with socket.create_server(("127.0.0.1", 0)) as server:
+        def serve():
+            with server.accept()[0] as it:
+                try:
+                    with context.wrap_socket(it, server_side=True) as one:
+                        got.append(one.recv(65_536))
+                except OSError:
+                    pass  # (the client has ended it)
+        thread = threading.Thread(target=serve)
+        thread.start()
+        found = Client(5.0).ask("GET", f"https://localhost:{server.getsockname()[1]}/i.m3u8")
+        thread.join()
+    assert found.status == 0 and "certificate" in found.why.lower() and not any(got), (found, got)
 
 
 def test_a_connection_is_used_for_the_next_request_unless_its_server_has_ended_it(room):

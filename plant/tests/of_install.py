@@ -24,7 +24,7 @@ def test_program_and_plant_in_a_folder(room):
     with open(room.program, "rb") as it, open(f"{to}/adsplice.build", encoding="ascii") as build:
         said = dict(line.rstrip("\n").split(" ", 1) for line in build)
         assert said["sha256"] == hashlib.sha256(it.read()).hexdigest() and set(said) == {"version", "commit", "date", "sha256"}, said
-    assert {"nginx.conf", "monitor", "adsplice_plant", "adsplice_rules"} <= set(os.listdir(to)) and "alerts.yml" in os.listdir(f"{to}/monitor")
+    assert {"nginx.conf", "nginx-viewers.conf", "monitor", "adsplice_plant", "adsplice_rules"} <= set(os.listdir(to)) and "alerts.yml" in os.listdir(f"{to}/monitor")
     file = room.write("d.json", decided(("b1", 1)))
     done = subprocess.run([PYTHON, f"{to}/adsplice-pod", "--check", file], capture_output=True, text=True, check=False)
     assert (done.returncode, done.stdout) == (0, f"{file}: right\n"), done  # (by the program beside it)
@@ -57,7 +57,7 @@ def test_package(room):
     assert status == 0 and err == "" and path.rstrip().endswith(".deb"), (status, path, err)
     listed = subprocess.run(["dpkg-deb", "-c", path.rstrip()], capture_output=True, text=True, check=True).stdout
     for name in ("./usr/bin/adsplice ->", "./usr/bin/adsplice-feed ->", "./lib/systemd/system/adsplice@.service", "./lib/systemd/system/adsplice-feed.service",
-                 "./usr/lib/adsplice/adsplice.build", "./usr/share/adsplice/nginx.conf", "./usr/share/man/man1/adsplice.1.gz", "./etc/adsplice/feed.ini",
+                 "./usr/lib/adsplice/adsplice.build", "./usr/share/adsplice/nginx.conf", "./usr/share/adsplice/nginx-viewers.conf", "./usr/share/man/man1/adsplice.1.gz", "./etc/adsplice/feed.ini",
                  "./usr/share/doc/adsplice/DECISION_FILES.md", "./usr/lib/adsplice/adsplice_plant/programme.py", "./usr/lib/adsplice/adsplice_rules/channel.py"):
         assert name in listed, name
     subprocess.run(["dpkg-deb", "-x", path.rstrip(), f"{room.path}/out"], check=True)
@@ -85,8 +85,8 @@ class Machine:
         for it in self.units:
             shutil.copy(f"{PLANT}/systemd/{it}", f"{self.root}/lib/systemd/system/{it}")
         self.running = set()
-        for name in ("adduser", "install"):
-            self.stand_in(name, "exit 0")
+        for name in ("adduser", "install", "chown"):
+            self.stand_in(name, f'echo {name} "$@" >>{room.path}/did')
         self.stand_in("systemctl", f"""for it; do last=$it; done
 echo "$@" >>{room.path}/asked
 case "$*" in
@@ -112,7 +112,8 @@ esac""")
     def configure(self, before="", running=()):
         """Runs postinst over the version `before` while the units `running` run; answers which are enabled, and what systemctl was told to do."""
         with open(f"{PLANT}/debian/postinst", encoding="utf-8") as it:
-            text = it.read().replace("/run/systemd/system", f"{self.room.path}/run").replace("/var/lib/adsplice", f"{self.room.path}/state")
+            text = it.read().replace("/run/systemd/system", f"{self.room.path}/run").replace("/var/lib/adsplice", f"{self.room.path}/state").replace("/etc/adsplice", f"{self.room.path}/etc")
+        os.makedirs(f"{self.room.path}/state/kept", exist_ok=True)
         self.room.write("running", "".join(f"{it}\n" for it in running))
         self.room.write("asked", "")
         done = subprocess.run(["sh", self.room.write("postinst", text), "configure", before], capture_output=True, text=True, check=False, env={
@@ -141,6 +142,64 @@ def test_what_an_admin_disabled_or_stopped_stays_so_at_an_upgrade(room):
 
 
 test_what_an_admin_disabled_or_stopped_stays_so_at_an_upgrade.needs = ()
+
+
+def test_settings_and_what_is_kept_are_read_by_the_group_alone(room):
+    if not shutil.which("deb-systemd-helper"):
+        return
+    machine = Machine(room)
+    settings, kept = room.write("etc/feed.ini", ""), room.write("state/kept/news.events", "")
+    for path in (settings, kept):
+        os.chmod(path, 0o644)
+    machine.configure()
+    assert [os.stat(path).st_mode & 0o777 for path in (settings, kept)] == [0o640, 0o640]
+    with open(f"{room.path}/did", encoding="utf-8") as it:
+        assert f"chown root:adsplice {settings}\n" in it.read()
+    os.chmod(settings, 0o600)
+    machine.configure("0.1")
+    assert os.stat(settings).st_mode & 0o777 == 0o600, "what an admin made of it stays"
+    with open(f"{ROOT}/install", encoding="utf-8") as it:
+        assert "install -o root -g adsplice -m 640 \"$here/plant/systemd/feed.ini\" /etc/adsplice/feed.ini" in it.read()
+
+
+test_settings_and_what_is_kept_are_read_by_the_group_alone.needs = ()
+
+
+WRITES = """import os, sys
+from pathlib import Path
+sys.path.insert(0, sys.argv[1])
+from adsplice_plant import journal, locks, whole_files
+os.chdir(sys.argv[2])
+os.umask(0o002)
+journal.append("news.events", b"a")
+locks.Lock(Path("news.lock")).take()
+os.mkfifo(".news.log.new")  # (nobody waits for it)
+whole_files.write_aside(Path("news.log"), b"a")
+os.umask(0o077)
+whole_files.write_aside(Path("film.m3u8"), b"a", whole_files.VIEWERS_MODE)
+"""
+
+
+def test_files_that_the_feed_writes_are_read_by_the_group_alone(room):
+    subprocess.run([PYTHON, "-B", "-c", WRITES, PLANT, room.path], check=True, timeout=60)  # (a process has one umask)
+    modes = {name: os.stat(f"{room.path}/{name}").st_mode & 0o777 for name in ("news.events", "news.lock", "news.log", "film.m3u8")}
+    assert modes == {"news.events": 0o640, "news.lock": 0o640, "news.log": 0o640, "film.m3u8": 0o644}, modes
+
+
+test_files_that_the_feed_writes_are_read_by_the_group_alone.needs = ()
+
+
+def test_units_are_bounded_and_closed(room):
+    for path, exposure in ((f"{PLANT}/systemd/adsplice-feed.service", 13), (f"{PLANT}/systemd/adsplice-monitor.service", 13), (f"{ROOT}/examples/live/adsplice@.service", 9)):
+        with open(path, encoding="utf-8") as it:
+            text = it.read()
+        assert "\nMemoryMax=" in text and "\nTasksMax=" in text, path
+        if shutil.which("systemd-analyze"):
+            done = subprocess.run(["systemd-analyze", "security", "--offline=true", f"--threshold={exposure}", path], capture_output=True, text=True, check=False)
+            assert done.returncode == 0, (path, [line for line in done.stdout.split("\n") if "\u2717" in line or "Overall" in line], done.stderr)
+
+
+test_units_are_bounded_and_closed.needs = ()
 
 
 def test_maintainer_scripts_read(room):

@@ -55,7 +55,7 @@ def test_a_master_playlist_keeps_all_but_i_frames(room):
 def test_what_is_no_master_playlist_is_told(room):
     from adsplice_plant import masters
     for body, text in ((listed(0, 5), "it names no rendition"), ("<html>", "it isn't a playlist"), ("", "it isn't a playlist"),
-                       ("#EXTM3U\n" + "".join(f"#EXT-X-STREAM-INF:BANDWIDTH=1\n{it}.m3u8\n" for it in range(65)), "65 renditions")):
+                       ("#EXTM3U\n" + "".join(f"#EXT-X-STREAM-INF:BANDWIDTH=1\n{it}.m3u8\n" for it in range(65)), "more than 64 renditions")):
         try:
             masters.read(body.encode(), BASE)
             raise AssertionError(body[:40])
@@ -132,7 +132,7 @@ def named_by(uri, **settings):
         found = masters.channels_of(masters.read(f"#EXTM3U\n#EXT-X-STREAM-INF:BANDWIDTH=1\n{uri}\n".encode(), BASE), programme)[0]
     except Fault as fault:
         return str(fault)
-    return found.origin, found.second
+    return str(found.origin), found.second or ""
 
 
 def test_a_master_playlist_names_places_of_its_own_origin_alone(room):
@@ -154,7 +154,7 @@ def test_a_master_playlist_names_other_hosts_if_they_may_be_followed_and_never_t
         assert named_by(uri, redirects="yes") == (uri, ""), uri
     for host in ("127.0.0.1", "127.1", "2130706433", "0x7f000001", "0.0.0.0", "[::1]", "[::ffff:127.0.0.1]", "localhost"):
         said = named_by(f"http://{host}:8090/v.m3u8", redirects="yes")
-        assert "is an address of this machine" in said, (host, said)
+        assert "an address of this machine: `networks` has it read" in said, (host, said)
 
 
 def test_a_master_playlist_with_a_host_that_does_not_read_is_told(room):
@@ -177,3 +177,20 @@ def test_names_of_a_master_playlist_s_renditions(room):
 
 
 test_names_of_a_master_playlist_s_renditions.needs = ("httpx",)
+
+
+def test_a_long_master_playlist_takes_time_by_its_bytes(room):
+    from adsplice_plant import masters
+    one, many = b"#EXT-X-STREAM-INF:BANDWIDTH=1\n%s.m3u8\n", b"#EXT-X-MEDIA:TYPE=SUBTITLES,GROUP-ID=\"s\",NAME=\"a\",URI=\"s%d\"\n"
+    for make, is_taken in ((lambda n: b"".join(one % b"%d" % it for it in range(n)), False), (lambda n: one % b"a" + b"".join(many % it for it in range(n)), True),
+                           (lambda n: one % b"a" * n, True), (lambda n: one % (b"a" * 100) * (n // 3), True)):
+        took = []
+        for count in (3000, 12_000):
+            begun = time.process_time()
+            try:
+                masters.read(b"#EXTM3U\n" + make(count), BASE)
+                assert is_taken, count
+            except Fault as fault:
+                assert not is_taken and "more than 64 renditions" in str(fault), fault
+            took.append(time.process_time() - begun)
+        assert took[1] < 7 * took[0] + 0.05 and took[1] < 1, took

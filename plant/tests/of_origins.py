@@ -10,6 +10,7 @@ sys.path.insert(0, PLANT)
 from adsplice_plant import settings as told  # noqa: E402
 from adsplice_plant.handover import Handover, absolute, from_segment  # noqa: E402
 from adsplice_plant.kept import Kept  # noqa: E402
+from adsplice_plant.location import Url  # noqa: E402
 from adsplice_plant.origin import Read  # noqa: E402
 from adsplice_plant.origins import Choice, Place, TwoOrigins  # noqa: E402
 from adsplice_plant.playlist import read, read_instant  # noqa: E402
@@ -235,11 +236,12 @@ def test_references_by_the_second_origins_url(room):
 def test_settings(room):
     said = {"origin": "http://a/i.m3u8  http://b/i.m3u8", "at": "http://h"}
     it = told.settings_of("news", said)
-    assert (it.origin, it.second, it.base, it.second_base) == ("http://a/i.m3u8", "http://b/i.m3u8", "http://a/i.m3u8", "http://b/i.m3u8")
-    assert told.settings_of("news", said | {"base": "http://cdn/i"}).second_base == ""
+    assert (it.origin, it.second, it.base, it.second_base) == (Url("http://a/i.m3u8"), Url("http://b/i.m3u8"), "http://a/i.m3u8", "http://b/i.m3u8")
+    assert told.settings_of("news", said | {"base": "http://cdn/i"}).second_base == "" and it.named == {"a", "b"}
     both = told.ladder_of("news", said | {"renditions": "1 2", "origin": "http://a/{}.m3u8 http://b/{}.m3u8"})
-    assert [(it.origin, it.second) for it in both] == [(f"http://a/{n}.m3u8", f"http://b/{n}.m3u8") for n in (1, 2)]
-    for more, text in (({"repair": "no"}, "a second origin needs repair"), ({"origin": "a b c", "base": "http://h"}, "origin is a URL or a file, or two"), ({"origin": " "}, "names no origin"),
+    assert [(it.origin, it.second) for it in both] == [(Url(f"http://a/{n}.m3u8"), Url(f"http://b/{n}.m3u8")) for n in (1, 2)]
+    for more, text in (({"repair": "no"}, "a second origin needs repair"), ({"origin": "a b c", "base": "http://h"}, "origin is a URL or a file, or two"), ({"origin": " "}, "names no origin"), ({"origin": "http://a/\u00a0/etc/passwd"}, "a sign that isn't printed"),
+                       ({"base": f"http://a/{'b' * 2048}"}, "base has at most 2048 bytes"), ({"networks": "10.0.0.1/8"}, "networks are such as 10.0.0.0/8 192.168.7.3"),
                        ({"origin": "http://a/ http://"}, "isn't a URL"), ({"origin": "http://a/{} http://b/", "renditions": "1 2"}, "origin needs {}")):
         try:
             told.ladder_of("news", said | more)

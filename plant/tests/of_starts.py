@@ -95,11 +95,12 @@ def test_wrong_sections_are_told_and_the_others_are_fed(room):
         "b": (section(room, "b", target="x"), "channel b: target is a whole number of seconds, and not x"),
         "c": (section(room, "c", falback="x"), "channel c: there is no setting falback"),
         "d": (section(room, "d", decisions=f"{room.path}/file/d"), "channel d: decisions: .*/file/d: Not a directory"),
-        "e": (section(room, "e", keep=f"{room.path}/file"), "channel e: .*/file: File exists"),
+        "e": (section(room, "e", keep=f"{room.path}/kept3"), "channel e: .*/kept3: File exists"),
         "film": (f"[film]\nrenditions = 1 2\norigin = {room.path}/{{}}.m3u8\ndecisions = {room.path}/file{{}}\n", "channel film-.: decisions: .*file1: File exists"),
         "f": (section(room, "f", decisions=f"{room.path}/../{os.path.basename(room.path)}/decisions"), "two channels have the folder of decisions .*/decisions"),
         "news": (f"[news]\nrenditions = 1 2\norigin = {room.path}/{{}}.m3u8\n", "two channels have the name news-1")}
-    room.write("file1", "where a folder is to be")
+    for name in ("file1", "kept3"):
+        room.write(name, "where a folder is to be")
     right = [section(room, "sport", listed(0, 5), **twin), section(room, "news-1", listed(0, 5)), section(room, "g", listed(0, 5), fallback=f"{room.path}/none.json")]
     feed = fed(room, "feed.ini", controller, *right, *(text for text, _ in wrong.values()))
     for name in ("sport", "news-1", "g"):
@@ -156,3 +157,42 @@ def test_the_monitor_goes_on_without_a_wrong_section(room):
 
 
 test_the_monitor_goes_on_without_a_wrong_section.needs = ("httpx", "prometheus_client")
+
+
+def test_settings_that_harm_each_other_are_refused_in_a_line_each(room):
+    film = f"[film]\norigin = {room.path}/m.m3u8\nmaster = {room.path}/film.m3u8\n"
+    named, d = film + "renditions = hd sd\n", f"{room.path}/d"
+    one, two = (section(room, name, decisions="{}") for name in ("a", "b"))
+    os.makedirs(d)
+    os.symlink(d, f"{room.path}/link")
+    for text, owed in (
+            (film + section(room, "film-1"), "two channels have the name film-1: of the master playlist of film and of a section"),
+            (section(room, "film-64") + film, "two channels have the name film-64: of a section and of the master playlist of film"),
+            (named + section(room, "film-sd"), "two channels have the name film-sd"), (named + section(room, "film-1"), ""), (film + section(room, "film-65"), ""),
+            (film + film.replace("[film]", "[other]"), "other writes its master playlist to .*/film.m3u8, which film has, too"),
+            (film + section(room, "a", fallback=f"{room.path}/film.m3u8"), "a reads the file .*/film.m3u8, which film writes"),
+            (film.replace("film.m3u8", "m.m3u8"), "film writes its master playlist to .*/m.m3u8, which film has, too"),
+            (one.format(d) + two.format(d), "two channels have the folder of decisions .*/d"), (one.format(d) + two.format(f"{room.path}/link"), "two channels have the folder of decisions .*/d"),
+            (one.format(d) + two.format(f"{d}/done"), "the folder of decisions of b lies in the folder of decisions of a: .*/d/done"),
+            (one.format(f"{d}/asked/x") + two.format(d), "the folder of decisions of a lies in the folder of decisions of b: .*/d/asked/x"),
+            (one.format(f"{room.path}/kept"), "the folder `keep` is the folder of decisions of a, too: .*/kept"), (one.format(f"{room.path}/kept/d"), "the folder of decisions of a lies in the folder `keep`: .*/kept/d"),
+            (section(room, "a", decisions=d, keep=f"{d}/done"), "the folder `keep` lies in the folder of decisions of a: .*/d/done"),
+            (film + f"decisions = {room.path}/film-{{}}\n" + one.format(f"{room.path}/film-3"), "two channels have the folder of decisions .*/film-3"),
+            (one.format(f"{d}/a") + two.format(f"{d}/b"), ""), (one.format(f"{d}/a") + section(room, "b", keep=d + "/kept"), ""),
+            (section(room, "a", tolerance="abc"), "tolerance is a number of seconds of at most 10, and not abc"), (section(room, "a", tolerance="11"), "at most 10, and not 11"),
+            (section(room, "a", tolerance="0.25"), ""), ("[a]\norigin = http://h/\u00a0/etc/passwd\n", "channel a: origin has a sign that isn't printed")):
+        path = room.write("feed.ini", f"[DEFAULT]\nat = http://127.0.0.1:9\nkeep = {room.path}/kept\n{BASE}{text}")
+        faults = read_faults(path)
+        assert [bool(re.search(owed, it)) for it in faults] == [True] * bool(owed), (text, owed, faults)
+
+
+def read_faults(path):
+    """What is wrong with the sections of a file."""
+    from adsplice_plant.config_file import read_file
+    from adsplice_plant.words import Fault
+    found = []
+    try:
+        read_file(Path(path), found)
+    except Fault as fault:
+        return [str(fault)]
+    return [text for _, text in found]

@@ -11,6 +11,7 @@ from adsplice_plant import programme, store
 from adsplice_plant.entries import Known, difference, known_of
 from adsplice_plant.events import (Answered, Ask, AskedInVain, Began, FallbackRead, Find, Finish, FolderRead, Found, ListRead, Note, Repaired, Request, Send, Store, Tell, Ticked, What)
 from adsplice_plant.inbox import Inbox
+from adsplice_plant.location import Url
 from adsplice_plant.settings import Settings
 from adsplice_plant.state import State, begin
 
@@ -66,7 +67,7 @@ def settings_of(plan: Plan) -> list[Settings]:
     found = []
     for name in plan.names:
         url = f"{BASE}/{name}/index.m3u8"
-        found.append(Settings(plan.channel(name), url, "http://controller.example", url, decisions=folder / name, fallback=folder / f"{name}.json" if plan.has_fallback else None,
+        found.append(Settings(plan.channel(name), Url(url), "http://controller.example", url, decisions=folder / name, fallback=folder / f"{name}.json" if plan.has_fallback else None,
                               keep=folder / "keep", programme=programme_name, ask="folder" if plan.asks else "", hold=1.0))
     return found
 
