@@ -39,7 +39,7 @@ class Plant:
         """`port`, `viewers`, `operator`: of the page, of viewers' playlists, and for PUTs; `tell` prints what is done next."""
         self.processes, self.room, self.renditions = processes, room, renditions
         self.site, self.viewers = f"http://{host}:{port}", f"http://{host}:{viewers}"
-        *self.ports, self.decider = free_ports(3)
+        *self.ports, self.decider, self.ad_server = free_ports(4)
         self.operator = f"http://127.0.0.1:{operator}"
         self.relays: list[Relay] = []
         processes.stops.append(self.stop)
@@ -77,6 +77,17 @@ class Plant:
         pods = [media.pod(media.pod_kinds(kinds, plan.length), f"{self.site}/media/ads/{{}}", plan.cut) for kinds in (("ad a", "ad b"), ("ad b", "ad a"))]
         write_aside(f"{self.room}/pods.json", json.dumps([*pods, None]))
         self.processes.start([f"{HERE}/decision_server", f"{self.room}/pods.json", "--port", str(self.decider)])
+        wait_for(self.decider)
+        return f"http://127.0.0.1:{self.decider}/decide"
+
+    def decide_by_vast(self, name: str) -> str:
+        """Starts a VAST ad server with two films, and adsplice-decide between it and the feed of the programme `name`; answers the address at which it
+        is asked. The ads are made for the programme's renditions while the first breaks go by."""
+        self.processes.start([f"{HERE}/ad_server", f"{self.room}/films", "--make", "--port", str(self.ad_server)])
+        wait_for(self.ad_server)
+        write_aside(f"{self.room}/decide.ini", f"[DEFAULT]\nstore = {self.room}/site/media/pods\nkeep = {self.room}/decide\nat = {self.site}/media/pods\n"
+                    f"feed = {self.room}/feed/{name}.ini\n[{name}]\nvast = http://127.0.0.1:{self.ad_server}/vast?d=[BREAKMAXDURATION]\n")
+        self.processes.start([f"{ROOT}/plant/adsplice-decide", "--config", f"{self.room}/decide.ini", "--listen", f"127.0.0.1:{self.decider}"])
         wait_for(self.decider)
         return f"http://127.0.0.1:{self.decider}/decide"
 

@@ -22,7 +22,7 @@ Process = subprocess.Popen[Any]
 HERE = os.path.dirname(os.path.abspath(__file__))
 ROOT = os.path.dirname(os.path.dirname(HERE))
 # The Debian packages of programs that have another name.
-PACKAGES = {"ip": "iproute2", "unshare": "util-linux"}
+PACKAGES = {"ip": "iproute2", "unshare": "util-linux", "python3-prometheus_client": "python3-prometheus-client"}
 
 
 def is_there(name: str) -> bool:

@@ -1,4 +1,5 @@
-"""The as-run log: a JSON line for each break that has left the window, with what viewers were shown in its place."""
+"""The as-run log: a JSON line for each break that is over, with what viewers were shown in its place. It is over once the last segment of its pod was
+listed; without a pod, once it has left the lists."""
 import json
 import threading
 import time
@@ -27,6 +28,8 @@ SETTLED = 2  # target durations after a break's begin, after which it is filled 
 OLD = 120  # seconds after its begin, after which a break isn't news
 USUAL = "Usual"  # in place of the word of a fallback where nobody decides
 PODS = {"own": ("Filled",), "fallback": ("Filled", USUAL), "none": ("NotDecided", "DoesNotFit", "Waiting", "NotSignalled", "NoStart")}
+SECONDS = ("own", "fallback")  # pods of which the seconds that were shown are counted
+SOLD = "sold"
 KEYS = [(pod, why) for pod, words in PODS.items() for why in words]
 
 
@@ -94,9 +97,10 @@ def lines_of(path: Path, most: int) -> list[dict[str, Any]]:
 
 @dataclass
 class AsRun:
-    """What is seen of the breaks of `channel`, and written to `log` once they have left the window. `last` is the newest media
+    """What is seen of the breaks of `channel`, and written to `log` once they are over. `last` is the newest media
     number that was seen, and `seen_at` when; `waiting` are lines that can't be written yet, of which `lost` ones had no room since
     `lost_since`; `counts` are lines by the pod (own, fallback or none) and the word of why, and `begun` are breaks that have begun, likewise.
+    `lengths` are nanoseconds of pods that were shown, and of those that were decided (SOLD).
     `is_decided`: whether somebody decides its breaks; if not, a fallback has the word USUAL there."""
 
     channel: str
@@ -112,6 +116,7 @@ class AsRun:
     counts: Counter[tuple[str, str]] = field(default_factory=Counter)
     begun: Counter[tuple[str, str]] = field(default_factory=Counter)
     is_decided: bool = True
+    lengths: Counter[str] = field(default_factory=Counter)
 
     def __post_init__(self) -> None:
         """Goes on from where an earlier monitor ended."""
@@ -156,8 +161,11 @@ class AsRun:
             if name in words:  # (else its channel is being made anew, and has no list yet: its word is one from before)
                 self.tell_begun(it, listed)
         for name, it in list(self.breaks.items()):
-            if self.has_left(name, it, listed, words, kept):
+            has_left = self.has_left(name, it, listed, words, kept)
+            if not it.is_over and (has_left or self.is_listed_whole(it)):
                 self.over(name, it, kept)
+            if has_left:
+                del self.breaks[name]
         self.write()
 
     def put(self, line: dict[str, object]) -> None:
@@ -173,7 +181,10 @@ class AsRun:
         while self.waiting:
             line = self.waiting[0]
             if self.log.add(line) and "id" in line:
-                self.counts[self.key(str(line["pod"] or "none"), str(line["why"]))] += 1
+                pod = str(line["pod"] or "none")
+                self.counts[self.key(pod, str(line["why"]))] += 1
+                for key, value in ((pod, line.get("seconds")), (SOLD, line.get("sold"))):
+                    self.lengths[key] += nanoseconds(value)
             self.waiting.pop(0)
         if self.lost:
             self.log.add({"at": now_text(), "channel": self.channel, "gap": {"from": self.lost_since, "to": now_text()}, "why": f"{self.lost} lines couldn't be written"})
@@ -234,21 +245,51 @@ class AsRun:
             return name not in words or words[name] != "Filled"
         return listed.first >= seen.first + len(seen.pod.segments)
 
+    def is_listed_whole(self, seen: Seen) -> bool:
+        """Whether the last segment of the pod of `seen` was listed: no more will be shown of it."""
+        return seen.first is not None and seen.pod is not None and self.last is not None and self.last >= seen.first + len(seen.pod.segments) - 1
+
     def over(self, name: str, seen: Seen, kept: Kept) -> None:
         """The break `name` is over: its line is to be written. A pod that no list had, since the channel was made anew as soon as
         the break began, is the one that `kept` has for it."""
-        del self.breaks[name]
+        seen.is_over = True
         if seen.pod is None and seen.word == "Filled":
             seen.pod, seen.is_own = kept.pods.get(name, kept.fallback), name in kept.pods
         start = seen.range.start()
         begins = seen.begins if seen.begins is not None else start
         pod = None if seen.word != "Filled" or seen.pod is None else "own" if seen.is_own else "fallback"
         segments = seen.pod.segments if seen.pod else []
-        self.put({
+        sold = seen.pod if seen.is_own else kept.pods.get(name)
+        line: dict[str, object] = {
             "at": now_text(), "channel": self.channel, "id": name, "start": "" if start is None else instant_text(start),
             "begin": "" if begins is None else instant_text(begins), "pod": pod, "why": seen.word,
-            "shown": len(seen.shown), "of": len(segments), "segments": [segments[place][0] for place in sorted(seen.shown)]}
-            | ({"reason": kept.reasons[name]} if pod != "own" and name in kept.reasons else {}))
+            "shown": len(seen.shown), "of": len(segments), "seconds": seconds(sum(segments[place][1] for place in seen.shown)),
+            "sold": seconds(sold.length() if sold else 0), "ads": ads_of(seen.pod, seen.shown) if pod and seen.pod else [],
+            "segments": [segments[place][0] for place in sorted(seen.shown)]}
+        self.put(line | ({"reason": kept.reasons[name]} if pod != "own" and name in kept.reasons else {}))
+
+
+def ads_of(pod: Pod, shown: set[int]) -> list[dict[str, object]]:
+    """What was shown of each ad of the `pod`, of whose segments those at the places `shown` were: its ID (none if it has none), how many segments, how
+    many seconds, and whether that is all of it."""
+    found: list[dict[str, object]] = []
+    first = 0
+    for name, count in pod.ads:
+        places = [place for place in range(first, first + count) if place in shown]
+        length = sum(pod.segments[place][1] for place in places)
+        found.append({"id": name or None, "shown": len(places), "of": count, "seconds": seconds(length), "whole": len(places) == count})
+        first += count
+    return found
+
+
+def seconds(length: int) -> float:
+    """The `length` of nanoseconds in seconds, to milliseconds."""
+    return round(length / playlist.SECOND, 3)
+
+
+def nanoseconds(said: object) -> int:
+    """The seconds that a line has `said`, in nanoseconds; 0 if it says none."""
+    return round(said * playlist.SECOND) if isinstance(said, (int, float)) and not isinstance(said, bool) else 0
 
 
 def starts_of(listed: Listed, pod: Pod, start: int) -> list[tuple[int, int]]:

@@ -10,7 +10,7 @@ from adsplice_rules.decisions import MOST_DECIDED, MOST_POD_SEGMENTS, Numeral, S
 from adsplice_rules.lines import has_control
 from adsplice_rules.values import Fault
 
-MEMBERS = {"file": {"breaks", "withdraw", "fallback"}, "break": {"id", "ads"}, "fallback": {"ads"}, "ad": {"map", "key", "segments"},
+MEMBERS = {"file": {"breaks", "withdraw", "fallback"}, "break": {"id", "ads"}, "fallback": {"ads"}, "ad": {"id", "map", "key", "segments"},
            "map": {"uri", "offset", "length"}, "key": {"method", "uri", "iv", "format"}, "segment": {"uri", "duration", "offset", "length"}}
 OWNERS = {"file": "the file", "ad": "an ad"}
 # What each kind of thing has to be, if it is no object at all.

@@ -17,19 +17,33 @@ EVENTS = ".events"
 REQUESTS = ("channel", "origin", "decisions")
 RANGE = "#EXT-X-DATERANGE:"
 MOST_PODS = 1024
+LONGEST_ID = 200  # characters of an ad's ID
 LATE = ("decisions", "-", "Late")  # the key of a decision that came late, beside those that were refused
 
 
 @dataclass(frozen=True)
 class Pod:
-    """The segments of a pod that was taken, each as its URI and its duration in nanoseconds."""
+    """The segments of a pod that was taken, each as its URI and its duration in nanoseconds; and its ads, each as its ID (empty if it has none) and
+    how many of the segments are its own."""
 
     segments: list[tuple[str, int]]
+    ads: tuple[tuple[str, int], ...] = ()
+
+    def length(self) -> int:
+        """How long it lasts, in nanoseconds."""
+        return sum(duration for _, duration in self.segments)
 
 
 def pod_of(ads: list[Any]) -> Pod:
     """The pod of the member `ads` of a decision file that was taken."""
-    return Pod([(str(it["uri"]), playlist.read_duration(str(it["duration"])) or 0) for ad in ads for it in ad["segments"]])
+    return Pod([(str(it["uri"]), playlist.read_duration(str(it["duration"])) or 0) for ad in ads for it in ad["segments"]],
+               tuple((id_of(ad), len(ad["segments"])) for ad in ads))
+
+
+def id_of(ad: dict[str, Any]) -> str:
+    """The ID of the `ad` of a decision file, which adsplice passes over; empty if it has none that is a text."""
+    found = ad.get("id")
+    return found[:LONGEST_ID] if isinstance(found, str) else ""
 
 
 def seconds_of(at: str) -> float:

@@ -10,12 +10,13 @@ from prometheus_client.core import CounterMetricFamily, GaugeMetricFamily, Metri
 from prometheus_client.registry import Collector
 
 from . import config_file, words
-from .as_run import BEAT, KEYS, AsRun, Log
+from .as_run import BEAT, KEYS, SECONDS, SOLD, AsRun, Log
 from .journal import BEAT as BEAT_FILE
 from .kept import EVENTS, Kept
 from .masters import written_names
 from .store import repairs_kept
 from .origins import NAMES
+from .playlist import SECOND
 from .reconcile import report
 from .watch import UNFILLABLE, WORDS, Watch
 from .web import Client
@@ -36,7 +37,8 @@ for --still; both are three target durations if they aren't named. An ended list
 
 Refused pushes and the as-run log need what adsplice-feed --keep has kept (--kept, or `keep` of --config).
 
---reconcile compares the decision files of a folder with the as-run log: which sold break was shown whole, in part or not, and why.
+--reconcile compares the decision files of a folder with the as-run log: which sold break was shown whole, in part or not, and why; of each
+ad with an ID how often it was shown, and for how many seconds. With --kept it names the files that adsplice refused, too.
 
 Exit status with --reconcile: 0 if all that was sold was shown whole; 2 if not. With --once: 0 all is well; 2 a channel is late, stands still or doesn't answer, or a process doesn't answer;
 1 a fault. Wrong words are 2, too. Without --once: 0 after SIGTERM, SIGINT or SIGHUP."""
@@ -131,6 +133,8 @@ class Figures(Collector):
         unfillable = GaugeMetricFamily("adsplice_breaks_unfillable", "Listed breaks that SCTE 35 signals and that can't be filled", labels=["channel", "why"])
         lines = CounterMetricFamily("adsplice_as_run", "Breaks that were written to the as-run log, by the pod that was shown", labels=["channel", "pod", "why"])
         begun = CounterMetricFamily("adsplice_breaks_begun", "Breaks that have begun, by the pod in their place", labels=["channel", "pod", "why"])
+        shown = CounterMetricFamily("adsplice_as_run_seconds", "Seconds of pods that were shown, by the pod", labels=["channel", "pod"])
+        sold = CounterMetricFamily("adsplice_as_run_sold_seconds", "Seconds of the decided pods of breaks that are over", labels=["channel"])
         waiting = GaugeMetricFamily("adsplice_as_run_waiting", "Lines of the as-run log that can't be written", labels=["channel"])
         for it in self.watches:
             with it.lock:
@@ -151,8 +155,11 @@ class Figures(Collector):
                     for pod, why in dict.fromkeys([*KEYS, *it.as_run.counts, *it.as_run.begun]):  # (each from 0 on, so that its first one is seen to come)
                         lines.add_metric([it.name, pod, why], it.as_run.counts[pod, why])
                         begun.add_metric([it.name, pod, why], it.as_run.begun[pod, why])
+                    for pod in SECONDS:
+                        shown.add_metric([it.name, pod], it.as_run.lengths[pod] / SECOND)
+                    sold.add_metric([it.name], it.as_run.lengths[SOLD] / SECOND)
                     waiting.add_metric([it.name], len(it.as_run.waiting) + it.as_run.lost)
-        yield from (answers, behind, still, target, ended, breaks, unfillable, lines, begun, waiting)
+        yield from (answers, behind, still, target, ended, breaks, unfillable, lines, begun, shown, sold, waiting)
 
     def pushes(self) -> Iterator[Metric]:
         """The figures of what the feeds kept."""
@@ -304,7 +311,7 @@ def main(arguments: list[str]) -> int:
     said = read_words(arguments)
     try:
         if said.reconcile is not None:
-            lines, is_well = report(said.reconcile, said.as_run, said.channel)
+            lines, is_well = report(said.reconcile, said.as_run, said.channel, said.kept)
             words.write_out("".join(f"{words.plain(it)}\n" for it in lines))
             return 0 if is_well else CRITICAL
         watches, processes = watches_of(said), Processes(said.process)

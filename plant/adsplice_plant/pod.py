@@ -1,19 +1,24 @@
-"""adsplice-pod: makes a decision file of ads' own playlists, and judges decision files."""
+"""adsplice-pod: makes a decision file of ads' own playlists, and judges decision files; puts breaks into a programme on demand."""
 import argparse
 import json
 import sys
+from pathlib import Path
 from typing import Any
 
 from . import judge, playlist, words
 from .ads import Advertisement, local_base, read_ad
 from .program import find_program
+from .whole_files import write_aside
 from .words import Fault
 
-HELP = """Makes a decision file for a break of the playlists of its ads, or judges a decision file.
+HELP = """Makes a decision file for a break of the playlists of its ads, or judges a decision file; or puts breaks into a programme on demand.
 
   adsplice-pod ID ad1/index.m3u8 ad2/index.m3u8 --at http://ads.example > decisions.json
   adsplice-pod --fallback ad1/index.m3u8 --at http://ads.example > fallback.json
   adsplice-pod --check decisions.json
+  adsplice-pod --vmap breaks.xml --list index.m3u8 --base http://origin.example/film/index.m3u8 --ads /var/www/ads --at http://ads.example --to film
+  adsplice-pod --breaks 0=CAR0001H 600=CAR0001H,SOAP0001H end=CAR0001H --list index.m3u8 --base .. --ads .. --at .. --to film
+  adsplice vod http://origin.example/film/index.m3u8 film/decisions.json < film/index.m3u8 > written.m3u8
 
 The playlists are read by adsplice itself: byte ranges, keys and initialisation sections as RFC 8216 has them. A file's URL is
 the one of --at with the file's path behind it; an ad may also be named by its URL, and is then fetched. Warnings go to
@@ -21,6 +26,10 @@ standard error, a line each: a segment over the target duration, a pod that isn'
 have an initialisation section and some haven't, an ad with several keys.
 
 --check prints `right`, or the member that is wrong, in words, by the rules in adsplice_rules. A member that adsplice doesn't know, and so ignores, is told.
+
+--vmap (IAB VMAP 1.0) and --breaks put breaks into the list of a programme on demand: before it, within it where a segment begins, and after
+it. No segment goes. The ads are those that adsplice-condition made in folders of --ads, by their IDs. DIR gets the list with signals, and the
+decision file, for `adsplice vod`. An ad or a break that can't be put in is told in a line each, and left out.
 
 Exit status: 0 done (or right); 1 a fault, or a wrong file; 2 wrong words; with --strict also 1 after a warning."""
 NEAR = playlist.SECOND // 10  # how far a pod's length may be from its break's
@@ -35,9 +44,20 @@ def read_words(arguments: list[str]) -> argparse.Namespace:
     it.add_argument("--target", type=int, metavar="SECONDS", help="the channel's EXT-X-TARGETDURATION")
     it.add_argument("--length", type=words.seconds, metavar="SECONDS", help="how long the break lasts")
     it.add_argument("--check", metavar="FILE", help="judges a decision file (- is standard input)")
+    it.add_argument("--vmap", metavar="FILE", help="a VMAP document, or its URL")
+    it.add_argument("--breaks", nargs="+", metavar="OFFSET=ID,..", help="breaks by their offsets: seconds, HH:MM:SS, start or end")
+    it.add_argument("--list", metavar="FILE", help="the list of the programme, or its URL")
+    it.add_argument("--base", type=words.web_address, metavar="URL", help="under which the list is published")
+    it.add_argument("--ads", type=Path, metavar="DIR", help="of ads that adsplice-condition made, which is published at --at")
+    it.add_argument("--rendition", default="main", metavar="NAME", help="of the ads' renditions (main)")
+    it.add_argument("--to", type=Path, metavar="DIR", help="for the list with signals and the decision file")
     it.add_argument("--strict", action="store_true", help="a warning is a fault")
     it.add_argument("--program", metavar="PATH", help="the built adsplice, if it isn't beside this program, on the path or in /opt/adsplice")
     said = it.parse_args(arguments)
+    if said.vmap or said.breaks:
+        if said.vmap and said.breaks or said.names or not (said.list and said.base and said.ads and said.at and said.to):
+            it.error("--vmap or --breaks needs --list, --base, --ads, --at and --to")
+        return said
     if said.check is None and len(said.names) < (1 if said.fallback else 2):
         it.error("an ID and at least one playlist are needed, or --check FILE")
     if said.check is not None and said.names:
@@ -132,11 +152,48 @@ def make(program: str, said: argparse.Namespace) -> int:
     return 0
 
 
+def put_in(said: argparse.Namespace) -> int:
+    """Puts breaks into a programme on demand, as the words `said` ask for; answers the exit status."""
+    from . import on_demand  # (with what it needs, which others don't)
+    from .bounded_xml import NoXml
+    try:
+        programme = on_demand.programme_of(body_of(said.list))
+    except Fault as fault:
+        raise Fault(f"{said.list}: {fault}") from None
+
+    def ready_of(name: str) -> Any:
+        return on_demand.ready_in(said.ads, said.at, said.rendition, name)
+
+    try:
+        places, faults = on_demand.of_words(said.breaks, ready_of) if said.breaks else on_demand.of_vmap(
+            body_of(said.vmap), on_demand.length_of(programme), ready_of)
+    except NoXml as fault:
+        raise Fault(f"{said.vmap}: {fault}") from None
+    faults += [f"break {it.name}: it has no ads, and is left out" for it in places if not it.ads]
+    cuts, more = on_demand.cuts_of(programme, [it for it in places if it.ads])
+    for text in faults + more:
+        print(words.plain(f"adsplice-pod: {text}"), file=sys.stderr)
+    if faults and said.strict:
+        return words.FAULT
+    if not cuts:
+        raise Fault("there is no break with ads")
+    listed, decisions = on_demand.with_breaks(programme, cuts)
+    if wrong := verdict(decisions) or on_demand.check(said.base, listed, decisions, [it.name for it in cuts.values()]):
+        raise Fault(wrong)
+    said.to.mkdir(parents=True, exist_ok=True)
+    write_aside(said.to / "index.m3u8", listed)
+    write_aside(said.to / "decisions.json", decisions)
+    words.write_out("".join(f"{words.plain(it.name)}: {playlist.seconds_text(it.length())} s of {', '.join(words.plain(ad.id) for ad in it.ads)}\n" for it in cuts.values()))
+    return 0
+
+
 def main(arguments: list[str]) -> int:
     """Makes or judges a decision file; answers the exit status."""
     said = read_words(arguments)
     words.ends_cleanly()
     try:
+        if said.vmap or said.breaks:
+            return put_in(said)
         return check(said.check) if said.check is not None else make(find_program(said.program), said)
-    except Fault as fault:
+    except (Fault, OSError) as fault:
         words.fail("adsplice-pod", str(fault))

@@ -27,20 +27,23 @@ class Seen:
     shown: set[int] = field(default_factory=set)
     counted: int = -1  # the media number up to which the list was looked through for them
     is_told: bool = False  # whether it was counted among those that have begun
+    is_over: bool = False  # whether its line was written, since the last segment of its pod was listed
 
     def packed(self) -> list[Any]:
         """It as JSON takes it."""
         pod = None if self.pod is None else self.pod.segments
-        return [self.range.attributes, self.word, pod, self.is_own, self.first, self.begins, sorted(self.shown), self.counted, self.is_told]
+        ads = None if self.pod is None else self.pod.ads
+        return [self.range.attributes, self.word, pod, self.is_own, self.first, self.begins, sorted(self.shown), self.counted, self.is_told, self.is_over, ads]
 
 
 def seen_of(name: str, said: list[Any]) -> Seen:
     """What was seen of the break `name`, as packed() has `said` it."""
-    attributes, word, pod, is_own, first, begins, shown, counted, is_told = said
-    segments = None if pod is None else Pod([(str(uri), int(duration)) for uri, duration in pod])
+    attributes, word, pod, is_own, first, begins, shown, counted, is_told, *more = said
+    is_over, ads = more if more else (False, ())  # (a monitor before this one knew neither)
+    segments = None if pod is None else Pod([(str(uri), int(duration)) for uri, duration in pod], tuple((str(id_), int(count)) for id_, count in ads or ()))
     range_ = DateRange(name, {str(one): str(value) for one, value in attributes.items()})
     return Seen(range_, str(word), segments, bool(is_own), None if first is None else int(first), None if begins is None else int(begins),
-                {int(it) for it in shown}, int(counted), bool(is_told))
+                {int(it) for it in shown}, int(counted), bool(is_told), bool(is_over))
 
 
 def pack(breaks: dict[str, Seen], first: int, last: int | None, seen_at: str, waiting: list[dict[str, object]]) -> dict[str, Any]:

@@ -1,6 +1,7 @@
 """Tests of the as-run log against what was written: by the rules, with a clock of its own, monitors that end and disks that are full."""
 import json
 import random
+import re
 import sys
 from pathlib import Path
 
@@ -9,7 +10,7 @@ from tools import PLANT, apart, decided, listed
 sys.path.insert(0, PLANT)
 from adsplice_plant import as_run, playlist  # noqa: E402
 from adsplice_plant.journal import Journal  # noqa: E402
-from adsplice_plant.kept import Kept  # noqa: E402
+from adsplice_plant.kept import Kept, Pod, pod_of  # noqa: E402
 from adsplice_rules.channel import Channel, decide, refreshed, words, written  # noqa: E402
 from adsplice_rules.uris import base_of  # noqa: E402
 
@@ -123,6 +124,130 @@ def test_a_break_that_has_begun_is_told_once_though_its_date_range_comes_again_w
     with open(f"{room.path}/as-run.jsonl", encoding="utf-8") as it:
         said = [(line["id"], line["pod"], line["shown"], line["of"]) for line in map(json.loads, it)]
     assert said == [("b1", "own", 2, 2)] and plant.run.begun == {("own", "Filled"): 1}, (said, plant.run.begun)
+
+
+def ads(*said, seconds="2"):
+    """The ads of a pod: for each (ID, number of segments) one with URIs of the ID, which is left out if it begins with a hyphen."""
+    return [({} if name[0] == "-" else {"id": name}) | {"segments": [{"uri": f"http://ads.example/{name}-{n}.ts", "duration": seconds} for n in range(count)]} for name, count in said]
+
+
+def lines_in(room):
+    """The lines of the as-run log."""
+    with open(f"{room.path}/as-run.jsonl", encoding="utf-8") as it:
+        return [json.loads(line) for line in it]
+
+
+def test_a_line_is_written_once_the_last_segment_of_the_pod_was_listed(room):
+    plant = Plant(room, None)
+    plant.give("decisions", json.dumps({"breaks": [{"id": "b1", "ads": ads(("CAR", 1), ("-x", 2))}]}))
+    for newest in range(5, 14):
+        plant.give("origin", listed(newest - 5, newest, [("b1", 20, 6)]))
+        plant.look()
+        is_whole = newest >= 12  # (the segments 10 to 12 are those of the break, and the pod lasts as long)
+        assert Path(f"{room.path}/as-run.jsonl").exists() == is_whole, newest
+    plant.run.log.beat({"news": plant.run.state()})
+    plant.begin_monitor()
+    for newest in range(14, 24):
+        plant.give("origin", listed(newest - 5, newest, [("b1", 20, 6)] if newest < 16 else ()))
+        plant.look()
+    assert not plant.run.breaks
+    [line] = lines_in(room)
+    assert (line["seconds"], line["sold"], line["shown"], line["of"]) == (6.0, 6.0, 3, 3), line
+    assert line["ads"] == [{"id": "CAR", "shown": 1, "of": 1, "seconds": 2.0, "whole": True}, {"id": None, "shown": 2, "of": 2, "seconds": 4.0, "whole": True}], line["ads"]
+
+
+def test_an_ad_of_which_a_part_was_seen_and_a_pod_that_was_sold_but_not_shown(room):
+    plant = Plant(room, None)
+    plant.give("decisions", json.dumps({"fallback": {"ads": ads(("house", 2))}}))
+    plant.give("decisions", json.dumps({"breaks": [{"id": "b1", "ads": ads(("CAR", 1), ("SOAP", 3))}, {"id": "b2", "ads": ads(("BIG", 2), seconds="9")}]}))
+    for newest in range(5, 40):
+        plant.give("origin", listed(newest - 5, newest, [("b1", 20, 8), ("b2", 44, 4)] if newest < 30 else ()))
+        if newest not in range(12, 19):  # (of SOAP the last two segments are in no list that it sees)
+            plant.look()
+    said = {line["id"]: line for line in lines_in(room) if "id" in line}
+    assert [(it["id"], it["shown"], it["whole"]) for it in said["b1"]["ads"]] == [("CAR", 1, True), ("SOAP", 1, False)] and (said["b1"]["seconds"], said["b1"]["sold"]) == (4.0, 8.0), said["b1"]
+    assert (said["b2"]["pod"], said["b2"]["seconds"], said["b2"]["sold"], said["b2"]["ads"]) == (None, 0.0, 18.0, []), said["b2"]  # (its segments are too long: nothing is in its place)
+    assert {name: it / playlist.SECOND for name, it in plant.run.lengths.items()} == {"own": 4, "none": 0, "sold": 26}, plant.run.lengths
+
+
+def test_what_a_monitor_before_this_one_kept_is_read(room):
+    from adsplice_plant import unfinished
+    now = unfinished.Seen(playlist.DateRange("b1", {"START-DATE": "x"}), "Filled", Pod([("u", 2)], (("CAR", 1),)), True, 7, 5, {0}, 8, True, True)
+    assert unfinished.seen_of("b1", json.loads(json.dumps(now.packed()))) == now
+    before = unfinished.seen_of("b1", json.loads(json.dumps(now.packed()[:9])))
+    assert (before.pod.segments, before.pod.ads, before.is_over, before.shown) == ([("u", 2)], (), False, {0})
+
+
+def day_of(rng, count):
+    """A day with so many breaks: the decided ads of each, by its ID, and what is listed one after the other, each as its URI, how long it lasts and the
+    break's ID; a programme's segment has none."""
+    sold, items = {}, []
+    for n in range(count):
+        name = f"b{n:04}"
+        sold[name] = [{"id": rng.choice(("CAR", "SOAP", "TEA", "BANK")), "segments": [{"uri": f"http://ads.example/{name}/{k}-{m}.ts", "duration": rng.choice(("2", "1.5", "6.006"))} for m in range(rng.randrange(1, 5))]}
+                      for k in range(rng.randrange(1, 4))]
+        items += [(f"s{len(items) + k}.ts", 2.0, None) for k in range(rng.randrange(9, 13))]
+        items += [(it["uri"], float(it["duration"]), name) for one in sold[name] for it in one["segments"]]
+    return sold, items + [(f"t{k}.ts", 2.0, None) for k in range(20)]
+
+
+def test_a_thousand_breaks_of_a_day_are_reconciled_to_the_second(room):
+    rng = random.Random(11)
+    sold, items = day_of(rng, 1000)
+    kept, log = Kept(Path("none")), as_run.Log(Path(room.path) / "as-run.jsonl")
+    kept.pods = {name: pod_of(its) for name, its in sold.items()}
+    run = as_run.AsRun("news", log)
+    begins, at = [], 1_714_564_800.0
+    for _, length, _ in items:
+        begins.append(at)
+        at += length
+    starts = {}
+    for (_, _, name), begin in zip(items, begins):
+        if name is not None:
+            starts.setdefault(name, begin)
+    skipped, seen, window = set(), set(), 6
+    for last in range(window, len(items) + 1):
+        if last % 97 == 0:
+            skipped = set(range(last, last + rng.randrange(0, 12)))  # (the monitor doesn't look for a while)
+        if last in skipped:
+            continue
+        low = last - window
+        its = [playlist.Segment(n, items[n][0], round(items[n][1] * 10**9), round(begins[n] * 10**9), items[n][2] is None) for n in range(low, last)]
+        names = {items[n][2] for n in range(low, min(last + 3, len(items)))} - {None}
+        kept.ranges = {it: playlist.DateRange(it, {"START-DATE": playlist.instant_text(round(starts[it] * 10**9))}) for it in names}
+        run.look(playlist.Listed(6, low, False, its), dict.fromkeys(names, "Filled"), kept)
+        seen |= set(range(low, last))
+    # what is owed, by what the lists had that were looked at
+    owed, whole = {}, 0
+    places = {}
+    for n, it in enumerate(items):
+        places.setdefault(it[2], []).append(n)
+    for name, its in sold.items():
+        place, is_whole = 0, True
+        for one in its:
+            numbers = places[name][place:place + len(one["segments"])]
+            place += len(numbers)
+            ad = owed.setdefault(one["id"], [0, 0.0, 0.0, 0])
+            ad[0], ad[1], ad[2] = ad[0] + 1, ad[1] + sum(items[n][1] for n in numbers), ad[2] + sum(items[n][1] for n in numbers if n in seen)
+            ad[3] += all(n in seen for n in numbers)
+            is_whole = is_whole and all(n in seen for n in numbers)
+        whole += is_whole
+    folder = Path(room.path) / "orders"
+    folder.mkdir()
+    for name, its in sold.items():
+        (folder / f"{name}.json").write_text(json.dumps({"breaks": [{"id": name, "ads": its}]}), encoding="utf-8")
+    from adsplice_plant import reconcile
+    lines, is_well = reconcile.report(folder, Path(room.path) / "as-run.jsonl", ["news"])
+    assert not is_well and whole < 1000
+    said = {line.split()[1].rstrip(":"): line for line in lines if line.startswith("ad ")}
+    for name, (count, lasts, shown, wholly) in owed.items():
+        assert f"sold {count} times, " in said[name], (name, said[name])
+        found = [float(it) for it in re.findall(r"([0-9.]+) s\b", said[name])]
+        assert abs(found[0] - lasts) < 1e-6 and abs(found[1] - shown) < 1e-6 and f"shown whole {wholly} times" in said[name], (name, said[name], lasts, shown)
+    assert lines[-1].startswith(f"1000 sold: {whole} shown whole, "), lines[-1]
+    total = [float(it) for it in re.findall(r"([0-9.]+) s (?:sold|shown)", lines[-1])]
+    assert abs(total[0] - sum(it[1] for it in owed.values())) < 1e-6 and abs(total[1] - sum(it[2] for it in owed.values())) < 1e-6, (lines[-1], owed)
+    assert abs(run.lengths["own"] / 10**9 - sum(it[2] for it in owed.values())) < 1.0, run.lengths
 
 
 def refuse(*_):

@@ -107,9 +107,9 @@ def whole(of, members):
 
 
 def test_words_of_the_pages_are_those_of_the_programs(room):
-    text = page("OPERATING.md") + page("DECISION_FILES.md")
-    for name in ("feed", "pod", "explain", "monitor"):
-        if name in ("feed", "monitor") and room.run(f"adsplice-{name}", "--help")[0]:
+    text = page("OPERATING.md") + page("DECISION_FILES.md") + page("ADS.md")
+    for name in ("feed", "pod", "explain", "monitor", "decide", "condition"):
+        if name not in ("pod", "explain") and room.run(f"adsplice-{name}", "--help")[0]:
             continue  # (their packages aren't installed)
         there = set(re.findall(r"--[a-z-]+", room.run(f"adsplice-{name}", "--help")[1]))
         for command in re.findall(rf"adsplice-{name} ((?:[^\n`|&>]|\\\n)*)", text):

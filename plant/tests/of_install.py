@@ -19,12 +19,12 @@ def install(*words):
 def test_program_and_plant_in_a_folder(room):
     to = f"{room.path}/a b"
     assert install("--program", room.program, to) == (0, f"{to}/adsplice\n", "")
-    names = [f"{to}/adsplice-{it}" for it in ("feed", "pod", "explain", "monitor")]
+    names = [f"{to}/adsplice-{it}" for it in ("feed", "pod", "explain", "monitor", "decide", "condition")]
     assert install("--plant", to) == (0, "\n".join(names) + "\n", "")
     with open(room.program, "rb") as it, open(f"{to}/adsplice.build", encoding="ascii") as build:
         said = dict(line.rstrip("\n").split(" ", 1) for line in build)
         assert said["sha256"] == hashlib.sha256(it.read()).hexdigest() and set(said) == {"version", "commit", "date", "sha256"}, said
-    assert {"nginx.conf", "nginx-viewers.conf", "monitor", "adsplice_plant", "adsplice_rules"} <= set(os.listdir(to)) and "alerts.yml" in os.listdir(f"{to}/monitor")
+    assert {"nginx.conf", "nginx-viewers.conf", "as-run.logrotate", "monitor", "adsplice_plant", "adsplice_rules"} <= set(os.listdir(to)) and "alerts.yml" in os.listdir(f"{to}/monitor")
     file = room.write("d.json", decided(("b1", 1)))
     done = subprocess.run([PYTHON, f"{to}/adsplice-pod", "--check", file], capture_output=True, text=True, check=False)
     assert (done.returncode, done.stdout) == (0, f"{file}: right\n"), done  # (by the program beside it)
@@ -57,7 +57,8 @@ def test_package(room):
     assert status == 0 and err == "" and path.rstrip().endswith(".deb"), (status, path, err)
     listed = subprocess.run(["dpkg-deb", "-c", path.rstrip()], capture_output=True, text=True, check=True).stdout
     for name in ("./usr/bin/adsplice ->", "./usr/bin/adsplice-feed ->", "./lib/systemd/system/adsplice@.service", "./lib/systemd/system/adsplice-feed.service",
-                 "./usr/lib/adsplice/adsplice.build", "./usr/share/adsplice/nginx.conf", "./usr/share/adsplice/nginx-viewers.conf", "./usr/share/man/man1/adsplice.1.gz", "./etc/adsplice/feed.ini",
+                 "./usr/lib/adsplice/adsplice.build", "./usr/share/adsplice/nginx.conf", "./usr/share/adsplice/nginx-viewers.conf", "./usr/bin/adsplice-decide ->", "./usr/bin/adsplice-condition ->", "./etc/adsplice/decide.ini", "./etc/logrotate.d/adsplice", "./lib/systemd/system/adsplice-decide.service", "./usr/share/man/man1/adsplice-decide.1.gz",
+                 "./usr/share/doc/adsplice/ADS.md", "./usr/share/man/man1/adsplice.1.gz", "./etc/adsplice/feed.ini",
                  "./usr/share/doc/adsplice/DECISION_FILES.md", "./usr/lib/adsplice/adsplice_plant/programme.py", "./usr/lib/adsplice/adsplice_rules/channel.py"):
         assert name in listed, name
     subprocess.run(["dpkg-deb", "-x", path.rstrip(), f"{room.path}/out"], check=True)
@@ -79,7 +80,7 @@ class Machine:
     """A machine in a folder of the test, on which the package's scripts run with Debian's own helpers; `systemctl` is a stand-in."""
 
     def __init__(self, room):
-        self.room, self.root, self.units = room, f"{room.path}/root", ("adsplice-feed.service", "adsplice-monitor.service", "adsplice.target")
+        self.room, self.root, self.units = room, f"{room.path}/root", ("adsplice-feed.service", "adsplice-monitor.service", "adsplice-decide.service", "adsplice.target")
         os.makedirs(f"{self.root}/lib/systemd/system")
         os.makedirs(f"{room.path}/run")
         for it in self.units:
@@ -131,7 +132,7 @@ def test_what_an_admin_disabled_or_stopped_stays_so_at_an_upgrade(room):
     machine = Machine(room)
     first = machine.configure()
     assert first == ({"adsplice.target"}, ["start adsplice.target"]), first
-    tried = ["try-restart adsplice@8081.service", "try-restart adsplice@8082.service", "try-restart adsplice-feed.service adsplice-monitor.service"]
+    tried = ["try-restart adsplice@8081.service", "try-restart adsplice@8082.service", "try-restart adsplice-feed.service adsplice-monitor.service adsplice-decide.service"]
     assert machine.configure("0.1") == ({"adsplice.target"}, tried)
     machine.enable("adsplice-feed.service")
     assert machine.configure("0.1") == ({"adsplice.target", "adsplice-feed.service"}, tried)  # (systemctl starts none that doesn't run by these)

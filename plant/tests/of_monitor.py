@@ -192,7 +192,7 @@ def test_as_run_log_of_a_channel_that_is_made_anew_within_a_break(room):
         look(0, [it if it < 25 else f"f{it - 25}" for it in range(12, last)], {"b4": "Waiting", "b5": "Filled" if last > 25 else "Waiting"})
     look(20, [40, 41], {})
     with open(path, encoding="utf-8") as it:
-        assert [(said["id"], said["pod"], said["shown"], said["of"]) for said in map(json.loads, it) if "id" in said] == [("b4", "own", 2, 5), ("b5", "fallback", 5, 5)]
+        assert [(said["id"], said["pod"], said["shown"], said["of"]) for said in map(json.loads, it) if "id" in said] == [("b5", "fallback", 5, 5), ("b4", "own", 2, 5)]
 
 
 def as_run_line(name, pod="own", why="Filled", segments=(), of=3, **more):
@@ -436,11 +436,35 @@ def test_what_was_sold_is_held_against_what_was_shown(room):
         f"b1 (1.json): shown whole {at} (3 of 3 segments)", f"b2 (1.json): shown in part {at} (2 of 3 segments)", f"b3 (1.json): not shown {at}: the fallback was in its place (Filled)",
         f"b4 (2.json): not shown {at}: nothing was in its place (NotDecided)", "b5 (2.json): not shown, or not over yet: the log has no line of it",
         "b6 (2.json): not shown, or not over yet: the log has no line of it"]), out
-    assert out.splitlines()[-2:] == [f"from {instant(30)} to {instant(90)} not recorded: no monitor ran", "6 sold: 1 shown whole, 1 in part, 4 not"], out
+    assert out.splitlines()[-2:] == [f"from {instant(30)} to {instant(90)} not recorded: no monitor ran", "6 sold: 1 shown whole, 1 in part, 4 not; 36 s sold, 10 s shown"], out
     assert room.run("adsplice-monitor", "--reconcile", f"{room.path}/orders", "--as-run", log, "--channel", "sport")[1].count("shown whole at") == 1
     for words, status, text in ((("--reconcile", "nowhere", "--as-run", log), 1, "no such folder"), (("--reconcile", room.path), 2, "needs --as-run"), (("--reconcile", room.path, "--as-run", "no"), 1, "no such as-run log")):
         found, out, err = room.run("adsplice-monitor", *words)
         assert (found, out) == (status, "") and text in err, (words, found, err)
+
+
+def test_a_break_counts_as_whole_by_any_of_its_files_and_refused_ones_are_named(room):
+    room.write("orders/1.json", decided(("b1", 3), ("b2", 2)))
+    room.write("orders/2.json", decided(("b1", 2)).replace("b1-", "other-").replace('"segments"', '"id":"LATE","segments"'))
+    room.write("orders/done/3.json", decided(("b2", 2)).replace('"2"', "2"))
+    room.write("orders/4.json", json.dumps({"breaks": [{"id": "b3", "ads": [{"id": "SLATE", "segments": [{"uri": "http://ads.example/s.ts", "duration": "1.5"}] * 3}]}]}))
+    for n, name in enumerate(("1.json", "2.json", "done/3.json", "4.json")):
+        os.utime(f"{room.path}/orders/{name}", (n + 1, n + 1))
+    events = Journal(Path(room.path) / "news.events", lambda: [])
+    with open(f"{room.path}/orders/2.json", "rb") as it:
+        events.add("decisions", 409, "J9 Used b1", it.read())
+    lines = [as_run_line("b1", segments=(0, 1, 2)), as_run_line("b2", segments=(0,), of=2), as_run_line("b3") | {"segments": ["http://ads.example/s.ts"] * 2, "shown": 2}]
+    log = room.write("as-run.jsonl", "".join(json.dumps(it) + "\n" for it in lines))
+    status, out, err = room.run("adsplice-monitor", "--reconcile", f"{room.path}/orders", "--as-run", log, "--channel", "news", "--kept", room.path)
+    at = f"at {instant(20)}"
+    assert (status, err) == (2, "") and out.splitlines() == [
+        f"b1 (1.json): shown whole {at} (3 of 3 segments)", "b1 (2.json): refused: J9 Used b1", f"b2 (1.json): shown in part {at} (1 of 2 segments)",
+        "b2 (3.json): refused: break 0, ad 0, segment 0: `duration` has to be a string, as \"2\" (J2 Shape break 0 ad 0 segment 0)", f"b3 (4.json): shown in part {at} (2 of 3 segments)",
+        "ad SLATE: sold 1 times, 4.5 s; shown whole 0 times, in part 1 times, 3 s", "3 sold: 1 shown whole, 2 in part, 0 not; 14.5 s sold, 11 s shown"], out
+    os.replace(log, f"{log}-20261201")  # (as logrotate does)
+    room.write("as-run.jsonl", json.dumps(as_run_line("b2", segments=(0, 1), of=2)) + "\n")
+    assert room.run("adsplice-monitor", "--reconcile", f"{room.path}/orders", "--as-run", log, "--channel", "news")[1].splitlines()[-1].startswith("3 sold: 2 shown whole, 1 in part")
+    assert "b1 (2.json)" not in room.run("adsplice-monitor", "--reconcile", f"{room.path}/orders", "--as-run", log, "--channel", "news")[1]
 
 
 LEFT_OUT = {"adsplice_ended"}  # figures that the dashboard hasn't: a list that has ended is no fault

@@ -87,11 +87,11 @@ def test_words_of_lines_are_those_of_the_pages(room):
     for path in sources - {f"{PLANT}/adsplice_plant/{it}.py" for it in ("words", "explain", "monitor", "causes", "excerpt", "judge", "as_run", "watch")}:
         with open(path, encoding="utf-8") as it:
             text = it.read()
-        for call in re.findall(r"(?:\b(?:tell|tell_decision|say|line|refuse|Tell|Telling|WORDS)\b|\bword)(?:\(| = )(?:[^()\n]|\([^()\n]*\))*", text):
-            told |= set(re.findall(r'"([A-Z][a-z]+(?:[A-Z][a-z]+)?)"', call))
+        for call in re.findall(r"(?:\b(?:tell|tell_decision|say|line|refuse|Tell|Telling|WORDS|lack|Lack)\b|\bword)(?:\(| = )(?:[^()\n]|\([^()\n]*\))*", text):
+            told |= set(re.findall(r'"([A-Z][a-z]+(?:[A-Z][a-z]+)*)"', call))
     told = (told - {"Shape"}) | {"First", "Second"}
     rows = []
-    for page, title in (("OPERATING.md", "| Who | Word | What it says |"), ("SIGNALS.md", "| Who | Word | Meaning |")):
+    for page, title in (("OPERATING.md", "| Who | Word | What it says |"), ("SIGNALS.md", "| Who | Word | Meaning |"), ("ADS.md", "| Who | Word | What it says |")):
         with open(f"{PLANT}/../docs/{page}", encoding="utf-8") as it:
             rows += it.read().partition(title)[2].partition("\n\n")[0].split("\n")[2:]
     named = {word for row in rows for word in re.findall(r"`([A-Z][A-Za-z]+)`", row.split(" | ")[1])}

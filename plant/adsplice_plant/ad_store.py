@@ -1,0 +1,330 @@
+"""The ads that are made for channels' ladders, on disk, and those that are being made: bounded in number, time and room.
+
+An ad's folder is STORE/LADDER/AD, by the key of the ladder, and by the sum of the file's bytes and how long the ad is to last. So a file that
+changes under its URL becomes another ad. Which file a URL had is in KEEP/files.json.
+"""
+from __future__ import annotations
+
+import hashlib
+import json
+import os
+import shutil
+import tempfile
+import threading
+import time
+from collections import deque
+from collections.abc import Callable
+from dataclasses import dataclass, field
+from pathlib import Path
+
+from . import download, making
+from .ad_server import Asking, shown
+from .children import Children
+from .conditioning import SECTION
+from .download import Download
+from .filling import Ready
+from .ladders import ALONE, Ladder
+from .locks import Lock, Taken
+from .making import Choices, Made
+from .pauses import Pauses
+from .whole_files import write_aside
+from .words import Fault
+
+MOST_WAITING = 256  # ads that wait to be made
+MOST_KNOWN = 20_000  # URLs that are known
+AGAIN = 3600.0  # seconds after which the server of a file is asked whether it has changed
+FIRST_PAUSE, LONGEST_PAUSE = 10.0, 3600.0  # seconds until an ad that couldn't be made is tried again
+RECENT = 3600.0  # seconds since its last use in which an ad doesn't go, for viewers may read it yet
+CLEANED = 600.0  # seconds between two times that old ads are taken away
+DAY = 86_400.0
+FETCH = 300.0  # seconds for a file
+FILES = "files.json"
+
+
+@dataclass(frozen=True)
+class Wanted:
+    """An ad that is to be made for `ladder`: its `id`, the URL or the path of its file (`url`), how long it is said to last in nanoseconds, the
+    `loudness` of its sound in LUFS, and who fetches a file at a URL (`client`)."""
+
+    ladder: Ladder
+    id: str
+    url: str
+    length: int | None
+    loudness: float | None = None
+    client: Asking | None = None
+
+    def key(self) -> tuple[str, str]:
+        """By what it is known: the ladder's key, and the file with all else that the ad depends on. The query of a URL isn't among that: many a server
+        signs its URLs anew for each answer."""
+        return self.ladder.key(), f"{self.length or 0} {self.loudness if self.loudness is not None else '-'} {self.id} {self.url.partition('?')[0]}"
+
+
+@dataclass
+class Known:
+    """What is known of a file: the folder of its ad (`ad`), the server's mark for it (`tag`), and when it was looked at, in seconds since 1970."""
+
+    ad: str
+    tag: str
+    at: float
+
+
+@dataclass
+class Failed:
+    """Why an ad couldn't be made, and when it is tried again (a moment of the monotonic clock)."""
+
+    why: str
+    until: float
+    pauses: Pauses = field(default_factory=lambda: Pauses(FIRST_PAUSE, LONGEST_PAUSE))
+
+
+@dataclass(frozen=True)
+class Bounds:
+    """What the store may take: so many `processes` that make ads at a time, `threads` for each, `patience` in seconds, bytes of a file (`largest`),
+    bytes of all ads (`room`), and `days` after its last use that an ad stays."""
+
+    processes: int
+    threads: int
+    patience: float
+    largest: int
+    room: int
+    days: float
+
+
+class Store:
+    """The ads in the folder `store`, which is published `at` a URL; what is known of them is in the folder `keep`. `say` is called with a word (none if nothing
+    is wrong) and a sentence for a line."""
+
+    def __init__(self, store: Path, keep: Path, at: str, bounds: Bounds, say: Callable[[str, str], None]) -> None:
+        self.store, self.keep, self.at, self.bounds, self.say = store, keep, at, bounds, say
+        self.children, self.lock = Children(), threading.Lock()
+        self.known: dict[tuple[str, str], Known] = {}
+        self.failed: dict[tuple[str, str], Failed] = {}
+        self.waiting: deque[Wanted] = deque()
+        self.making: set[tuple[str, str]] = set()
+        self.there: dict[tuple[str, str], Made] = {}  # by the folders
+        self.is_over, self.work = False, threading.Condition(self.lock)
+        self.made_count, self.bytes, self.cleaned = 0, 0, -CLEANED
+        self.threads: list[threading.Thread] = []
+        self.taken = Lock(keep / "decide.lock")
+
+    def begin(self) -> None:
+        """Takes in what is there, and begins to make what is wanted; raises Fault, or OSError."""
+        self.store.mkdir(parents=True, exist_ok=True)
+        self.keep.mkdir(parents=True, exist_ok=True)
+        try:
+            self.taken.take()
+        except Taken:
+            raise Fault(f"{self.keep}: another adsplice-decide keeps its things there") from None
+        for it in self.store.iterdir():
+            making.sweep(it)
+        shutil.rmtree(self.keep / "files", ignore_errors=True)
+        (self.keep / "files").mkdir()
+        self.known = known_in(self.keep / FILES)
+        self.clean()
+        for _ in range(self.bounds.processes):
+            thread = threading.Thread(target=self.run, daemon=True)
+            thread.start()
+            self.threads.append(thread)
+
+    def end(self) -> None:
+        """Makes no more, and leaves no ad that isn't whole."""
+        with self.work:
+            self.is_over = True
+            self.work.notify_all()
+        self.children.end()
+        for it in self.threads:
+            it.join(5)
+        shutil.rmtree(self.keep / "files", ignore_errors=True)
+        if self.taken.handle >= 0:
+            self.taken.release()
+
+    # ---- what is there
+
+    def ready(self, it: Wanted, is_alone: bool) -> Ready | str:
+        """The ad `it` if it is made, or why it isn't; it is wanted from now on. `is_alone`: for a channel by itself, whose rendition has no name."""
+        key = it.key()
+        with self.work:
+            known = self.known.get(key)
+            made = None if known is None else self.at_hand(key[0], known.ad)
+            if known is None or made is None:
+                return self.want(it, key)
+            if time.time() - known.at > AGAIN:
+                self.want(it, key)
+        folder = self.store / key[0] / known.ad
+        try:
+            os.utime(folder / making.FACTS)
+        except OSError:
+            return "it isn't there any more"
+        at = f"{self.at}/{key[0]}/{known.ad}/{ALONE if is_alone else '{}'}"
+        return Ready(it.id, made.pieces, f"{at}/s{{n}}.{made.ending}", f"{at}/{SECTION}" if made.has_map else "")
+
+    def at_hand(self, ladder: str, ad: str) -> Made | None:
+        """The ad in the folder `ad` of the `ladder`; none if there is none. (The lock is held.)"""
+        if (ladder, ad) not in self.there and (found := making.read(self.store / ladder / ad)) is not None:
+            self.there[ladder, ad] = found
+        return self.there.get((ladder, ad))
+
+    def want(self, it: Wanted, key: tuple[str, str]) -> str:
+        """The ad `it` of this `key` is to be made, or looked at again; why it isn't ready. (The lock is held.)"""
+        if key in self.making:
+            return "it is being made"
+        failed = self.failed.get(key)
+        if failed is not None and time.monotonic() < failed.until:
+            return f"it can't be made: {failed.why}"
+        if any(one.key() == key for one in self.waiting):
+            return "it waits to be made"
+        if len(self.waiting) >= MOST_WAITING:
+            return f"it isn't made: {MOST_WAITING} ads wait to be made"
+        self.waiting.append(it)
+        self.work.notify()
+        return "it isn't made yet"
+
+    def counts(self) -> dict[str, int]:
+        """How many ads are ready, wait or are being made, and couldn't be made of those that were wanted lately."""
+        with self.lock:
+            failed = sum(it.until > time.monotonic() - CLEANED for it in self.failed.values())
+            return {"ready": len(self.there), "waiting": len(self.waiting), "making": len(self.making), "failed": failed}
+
+    # ---- what is being made
+
+    def run(self) -> None:
+        """Makes what is wanted, one after the other, until the end."""
+        while (it := self.next()) is not None:
+            key = it.key()
+            try:
+                self.make(it, key)
+            except (Fault, OSError) as fault:
+                self.fail(it, key, str(fault) if isinstance(fault, Fault) else f"{fault.filename or ''} {fault.strerror}".strip())
+            except Exception as fault:  # noqa: BLE001  (one ad's fault isn't to end the making of the others)
+                self.fail(it, key, f"{type(fault).__name__}: {str(fault)[:200]}")
+            finally:
+                with self.work:
+                    self.making.discard(key)
+
+    def next(self) -> Wanted | None:
+        """The next ad that is to be made; none at the end."""
+        with self.work:
+            while not self.waiting and not self.is_over:
+                self.work.wait(60)
+                if not self.waiting and time.monotonic() - self.cleaned > CLEANED:
+                    self.clean_held()
+            if self.is_over:
+                return None
+            it = self.waiting.popleft()
+            self.making.add(it.key())
+            return it
+
+    def fail(self, it: Wanted, key: tuple[str, str], why: str) -> None:
+        """The ad `it` couldn't be made, for the reason `why`."""
+        if self.is_over:
+            return
+        with self.lock:
+            failed = self.failed.setdefault(key, Failed(why, 0.0))
+            pause = failed.pauses.next()
+            failed.why, failed.until = why, time.monotonic() + pause
+            while len(self.failed) > MOST_KNOWN:
+                self.failed.pop(next(iter(self.failed)))
+        self.say("NotMade", f"ad {it.id}: MediaFile {shown(it.url)}: {why}; it is tried again after {pause:.0f} s if it is wanted")
+
+    def make(self, it: Wanted, key: tuple[str, str]) -> None:
+        """Makes the ad `it`, unless it is there; raises Fault or OSError."""
+        with self.lock:
+            known = self.known.get(key)
+        client = it.client if it.url.startswith(("http://", "https://")) else None
+        is_there = known is not None and making.read(self.store / key[0] / known.ad) is not None
+        if known is not None and is_there and client is not None and not download.has_changed(client, it.url, known.tag):
+            return self.note(key, Known(known.ad, known.tag, time.time()))
+        if self.room() <= 0:
+            raise Fault(f"the ads take {self.bytes} bytes, and may take {self.bounds.room}")
+        begun = time.monotonic()
+        with tempfile.NamedTemporaryFile(prefix="ad-", dir=self.keep / "files") as file:
+            fetched = self.fetch(client, it.url, Path(file.name)) if client is not None else copied(Path(it.url), Path(file.name), self.bounds.largest)
+            name = f"{fetched.sum[:24]}-{(it.length or 0) // 10**6}{'' if it.loudness is None else f'{it.loudness:+g}'}"
+            made = making.read(self.store / key[0] / name)
+            if made is None:
+                choices = Choices(it.loudness, self.bounds.patience, self.bounds.threads)
+                made = making.make(self.children, Path(file.name), it.ladder, self.store / key[0] / name, it.id, choices, it.length)
+                self.made_count += 1
+                self.say("", f"ad {it.id}: MediaFile {shown(it.url)} is {len(made.pieces)} pieces for {len(it.ladder.renditions)} renditions, after {time.monotonic() - begun:.1f} s")
+        with self.lock:
+            self.there[key[0], name] = made
+            self.failed.pop(key, None)
+        self.note(key, Known(name, fetched.tag, time.time()))
+        self.clean()
+
+    def fetch(self, client: Asking, url: str, to: Path) -> download.Fetched:
+        """Has `client` fetch what is at `url` into the file `to`; raises Fault or OSError."""
+        with open(to, "wb") as file:
+            return Download(client, url, file, self.bounds.largest, FETCH, lambda: self.is_over).run()
+
+    def note(self, key: tuple[str, str], known: Known) -> None:
+        """The ad of this `key` is `known`, which is kept. Raises OSError."""
+        with self.lock:
+            self.known.pop(key, None)
+            self.known[key] = known
+            while len(self.known) > MOST_KNOWN:
+                self.known.pop(next(iter(self.known)))
+            said = json.dumps([[*name, it.ad, it.tag, it.at] for name, it in self.known.items()]).encode()
+            write_aside(self.keep / FILES, said)
+
+    # ---- room
+
+    def room(self) -> int:
+        """How many bytes the ads may take yet."""
+        self.clean()
+        return self.bounds.room - self.bytes
+
+    def clean(self) -> None:
+        """Takes ads away that weren't used for long, and the least used ones if there is no room."""
+        with self.lock:
+            self.clean_held()
+
+    def clean_held(self) -> None:
+        """The same. (The lock is held.)"""
+        self.cleaned, now = time.monotonic(), time.time()
+        its = []
+        for path in self.store.glob("*/*"):
+            try:
+                used = (path / making.FACTS).stat().st_mtime
+            except OSError:
+                continue
+            its.append((used, size_of(path), path))
+        self.bytes = sum(size for _, size, _ in its)
+        for used, size, path in sorted(its):
+            is_old = now - used > self.bounds.days * DAY
+            if not is_old and (self.bytes <= self.bounds.room or now - used < RECENT):
+                continue
+            self.there.pop((path.parent.name, path.name), None)
+            shutil.rmtree(path, ignore_errors=True)
+            self.bytes -= size
+        self.known = {key: it for key, it in self.known.items() if (self.store / key[0] / it.ad).is_dir()}
+
+
+def known_in(path: Path) -> dict[tuple[str, str], Known]:
+    """What the file `path` says of files; nothing if it doesn't read."""
+    try:
+        return {(str(ladder), str(url)): Known(str(ad), str(tag), float(at)) for ladder, url, ad, tag, at in json.loads(path.read_bytes())}
+    except (OSError, ValueError, TypeError, RecursionError):
+        return {}
+
+
+def size_of(folder: Path) -> int:
+    """How many bytes the files in the `folder` and those in it have."""
+    total = 0
+    for place, _, names in os.walk(folder):
+        for name in names:
+            try:
+                total += os.lstat(os.path.join(place, name)).st_size
+            except OSError:
+                continue
+    return total
+
+
+def copied(source: Path, to: Path, most: int) -> download.Fetched:
+    """Copies the file `source`, of at most `most` bytes, to the file `to`; raises Fault or OSError."""
+    found = source.stat()
+    if found.st_size > most:
+        raise Fault(f"the file has {found.st_size} bytes, over {most}")
+    shutil.copyfile(source, to)
+    with open(to, "rb") as it:
+        return download.Fetched(hashlib.file_digest(it, "sha256").hexdigest(), found.st_size, f"{found.st_mtime_ns}")

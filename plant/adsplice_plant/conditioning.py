@@ -1,0 +1,132 @@
+"""How an ad is made for a ladder: where it is cut, and the words for ffmpeg. Values in, values out."""
+from __future__ import annotations
+
+from dataclasses import dataclass
+from fractions import Fraction
+from pathlib import Path
+
+from .ladders import FMP4, SOUND, TEXT, VIDEO, Ladder, Picture, Rendition, Sound
+from .playlist import SECOND, seconds_text
+
+SHORTEST = 4  # a rest below a fourth of a piece is no piece of its own
+NEAR = SECOND // 2  # how far a file's length may be from the stated one, which is then taken
+# What ffmpeg reads an ad's file as. Lists of other files (HLS, concat, DASH) aren't among them: such a file would have it read any file.
+FORMATS = "mov,mp4,m4a,3gp,3g2,mj2,matroska,webm,mpegts,mpeg,avi,mxf,flv,asf"
+READS = ("-protocol_whitelist", "file", "-format_whitelist", FORMATS)
+DELAYED = {"aac": 1}  # frames that an encoder puts before the sound
+LIST, PIECE, SECTION = "index.m3u8", "s{n}", "init.mp4"
+
+
+@dataclass(frozen=True)
+class Cut:
+    """Where an ad is cut: the instants in nanoseconds from its begin at which its pieces end, the last one of which is its length."""
+
+    ends: tuple[int, ...]
+
+    def pieces(self) -> tuple[int, ...]:
+        """How long each piece lasts, in nanoseconds."""
+        return tuple(end - begin for begin, end in zip((0, *self.ends), self.ends))
+
+    def length(self) -> int:
+        """How long the ad lasts, in nanoseconds."""
+        return self.ends[-1]
+
+
+def length_of(file: int, stated: int | None) -> int:
+    """How long an ad is to last whose file lasts `file` nanoseconds, and of which `stated` are said: those, if they are near."""
+    return stated if stated is not None and abs(file - stated) <= NEAR else file
+
+
+def cut_of(length: int, piece: int, rate: Fraction) -> Cut:
+    """Where an ad of `length` nanoseconds is cut for segments of `piece` nanoseconds, between two of `rate` pictures in a second. All pieces are as
+    long as the segments, and the last one has the rest; if that is short, all are equally long."""
+    total = max(1, int(Fraction(length) * rate / SECOND + Fraction(1, 100)))
+    usual = max(1, round(Fraction(piece) * rate / SECOND))
+    whole, rest = divmod(total, usual)
+    if rest and whole and rest * SHORTEST < usual:
+        least, more = divmod(total, whole + 1)
+        counts = [least + (n < more) for n in range(whole + 1)]
+    else:
+        counts = [usual] * whole + [rest] * (rest > 0)
+    ends, so_far = [], 0
+    for it in counts:
+        so_far += it
+        ends.append(round(Fraction(so_far * SECOND) / rate))
+    return Cut(tuple(ends))
+
+
+def samples_of(length: int, sound: Sound) -> int:
+    """How many samples of `sound` an ad of `length` nanoseconds gets, so that the encoder makes whole frames: as many as come nearest to it."""
+    frame = SOUND[sound.codec]
+    frames = max(2, round(Fraction(length * sound.rate, SECOND * frame)))
+    return (frames - DELAYED.get(sound.codec, 0)) * frame
+
+
+def ending_of(ladder: Ladder) -> str:
+    """The ending of the names of the pieces for `ladder`."""
+    return "m4s" if ladder.has_map() else "ts"
+
+
+def arguments(source: Path, has_sound: bool, ladder: Ladder, cut: Cut, to: Path, loudness: float | None, threads: int) -> list[str]:
+    """The words for ffmpeg that make the file `source` into the pieces of `cut` for each rendition of `ladder`, in folders of `to`. Silence is its
+    sound unless it `has_sound`; that gets the `loudness` in LUFS, if there is one. Each coder has so many `threads`."""
+    found = ["-nostdin", "-v", "error", "-xerror", "-y", "-filter_threads", str(threads), "-threads", str(threads), *READS, "-i", str(source)]
+    if not has_sound and any(it.sound for it in ladder.renditions.values()):
+        rate = next(it.sound.rate for it in ladder.renditions.values() if it.sound)
+        found += ["-f", "lavfi", "-t", seconds_text(cut.length() + SECOND), "-i", f"anullsrc=r={rate}:cl=stereo"]
+    for name, it in ladder.renditions.items():
+        if it.container != TEXT:
+            found += output_of(it, has_sound, cut, to / name, ending_of(ladder), loudness, threads)
+    return found
+
+
+def output_of(it: Rendition, has_sound: bool, cut: Cut, to: Path, ending: str, loudness: float | None, threads: int) -> list[str]:
+    """The words for the rendition `it`, whose pieces go to the folder `to` under names of this `ending`."""
+    found = []
+    if it.picture:
+        found += ["-map", "0:v:0", *picture_words(it.picture, cut, threads)]
+    if it.sound:
+        found += ["-map", "0:a:0" if has_sound else "1:a:0", *sound_words(it.sound, cut, loudness if has_sound else None)]
+    rate = it.picture.rate if it.picture else Fraction(it.sound.rate, SOUND[it.sound.codec]) if it.sound else Fraction(1)
+    # (each cut is a key frame; the muxer cuts at the first one after this time, which is before it by less than half a picture in all)
+    longest = max(cut.pieces())
+    time = Fraction(longest, SECOND) - min(1 / (2 * rate), Fraction(longest, 4 * SECOND)) / len(cut.ends)
+    found += ["-map_metadata", "-1", "-map_chapters", "-1", "-sn", "-dn", "-f", "hls", "-hls_time", f"{float(time):.6f}", "-hls_list_size", "0",
+              "-hls_playlist_type", "vod"]
+    if it.container == FMP4:
+        found += ["-hls_segment_type", "fmp4", "-hls_fmp4_init_filename", SECTION]
+    else:
+        found += ["-muxdelay", "0", "-muxpreload", "0"]
+    return [*found, "-hls_segment_filename", f"{to}/s%d.{ending}", f"{to}/{LIST}"]
+
+
+def picture_words(it: Picture, cut: Cut, threads: int) -> list[str]:
+    """The words for pictures like `it`, with a key frame at the begin of each piece of `cut` and at no other place."""
+    count = max(1, round(Fraction(cut.length()) * it.rate / SECOND))
+    size = f"{it.width}:{it.height}"
+    chain = (f"yadif=deint=interlaced,fps={it.rate}:start_time=0,scale={size}:force_original_aspect_ratio=decrease,pad={size}:(ow-iw)/2:(oh-ih)/2,setsar=1,"
+             f"format=yuv420p,tpad=stop=-1:stop_mode=clone,trim=end_frame={count}")
+    early = round(Fraction(SECOND) / it.rate / 4)  # (ffmpeg rounds these times to pictures, and takes the first one that isn't earlier)
+    begins = ",".join(seconds_text(max(0, end - early)) for end in (0, *cut.ends[:-1]))
+    found = ["-vf", chain, "-r", str(it.rate), "-c:v", VIDEO[it.codec], "-preset", "veryfast", "-profile:v", it.profile, "-pix_fmt", "yuv420p", "-bf", "0",
+             "-g", str(count + 1), "-force_key_frames", begins, "-b:v", str(it.bits), "-maxrate", str(it.bits * 6 // 5), "-bufsize", str(2 * it.bits),
+             "-threads", str(threads)]
+    if it.codec == "hevc":
+        return [*found, "-tag:v", "hvc1", "-x265-params", f"log-level=error:scenecut=0:bframes=0:open-gop=0:keyint={count + 1}:min-keyint=1:pools={threads}"]
+    return [*found, "-sc_threshold", "0", "-forced-idr", "1"]
+
+
+def sound_words(it: Sound, cut: Cut, loudness: float | None) -> list[str]:
+    """The words for sound like `it` of the length of `cut`, of the `loudness` in LUFS if there is one (EBU R 128)."""
+    louder = f"loudnorm=I={loudness:g}:TP=-1:LRA=11," if loudness is not None else ""
+    layout = {1: "mono", 2: "stereo", 6: "5.1", 8: "7.1"}.get(it.channels, f"{it.channels}c")
+    chain = f"{louder}aresample={it.rate}:async=1:first_pts=0,aformat=channel_layouts={layout},apad,atrim=end_sample={samples_of(cut.length(), it)}"
+    return ["-af", chain, "-ar", str(it.rate), "-ac", str(it.channels), "-c:a", it.codec, "-b:a", str(it.bits)]
+
+
+def list_of(cut: Cut, ending: str, has_map: bool) -> str:
+    """The media playlist of an ad with the pieces of `cut`, whose names have this `ending`."""
+    target = max(1, *((it + SECOND // 2) // SECOND for it in cut.pieces()))
+    head = ["#EXTM3U", f"#EXT-X-VERSION:{7 if has_map else 3}", f"#EXT-X-TARGETDURATION:{target}", "#EXT-X-PLAYLIST-TYPE:VOD", *([f'#EXT-X-MAP:URI="{SECTION}"'] if has_map else [])]
+    pieces = [f"#EXTINF:{seconds_text(it)},\n{PIECE.format(n=n)}.{ending}" for n, it in enumerate(cut.pieces())]
+    return "\n".join([*head, *pieces, "#EXT-X-ENDLIST", ""])

@@ -1,0 +1,273 @@
+"""Answers the feed's questions by a VAST ad server: what it gives and is made already fills the break, and the rest is made for the next one."""
+from __future__ import annotations
+
+import functools
+import json
+import threading
+import time
+from collections import Counter
+from collections.abc import Callable
+from concurrent.futures import ThreadPoolExecutor
+from dataclasses import dataclass, field
+from pathlib import Path
+
+from . import ad_server, filling, macros, playlist, tracking
+from .ad_server import Asking, Found, Lack
+from .ad_store import Store, Wanted
+from .decide_settings import Section, schedule_in
+from .filling import Pod, Ready
+from .ladders import ALONE, Ladder
+from .playlist import SECOND, seconds_text
+from .vast import Ad
+from .words import Fault
+
+NEAR = 10 * SECOND  # how far the start of a question may be from that of the schedule
+AHEAD = 60.0  # seconds before a break of the schedule that its ads are asked for, if nothing else is said
+PREFETCH = 10.0  # seconds that the ad server has if nobody waits
+FILM = 30.0  # seconds for a piece of a file
+WITHIN = "2"  # BREAKPOSITION of a break within the programme
+SLATE = "slate"  # the ID of what fills up
+BUCKETS = (0.05, 0.1, 0.25, 0.5, 1.0, 2.5)
+MOST_LACKS = 20  # lines for one break
+CLEANED = 3600.0  # seconds between two times that old answers are taken away
+
+Tell = Callable[[str, str, str, str], None]  # who, status, word, text
+
+
+@dataclass(frozen=True)
+class Question:
+    """A question of the feed: the `channel`, the break's `id`, its `start` in nanoseconds from 1970 (none if it isn't said), how long it is `planned`
+    in nanoseconds, the longest segment (`target`, in seconds), and the names of the renditions."""
+
+    channel: str
+    id: str
+    start: int | None
+    planned: int | None
+    target: int
+    renditions: tuple[str, ...]
+
+
+def question_of(body: bytes) -> Question:
+    """The question that the `body` asks; raises ValueError if it asks none."""
+    try:
+        said = json.loads(body)
+        channel, id_, target = said["channel"], said["id"], said.get("target") or 0
+        renditions = said.get("renditions") or []
+        is_right = isinstance(channel, str) and isinstance(id_, str) and 0 < len(id_.encode()) <= 255 and isinstance(target, int)
+        if not is_right or not isinstance(renditions, list) or not all(isinstance(it, str) for it in renditions):
+            raise ValueError("a member has another type")
+        start = playlist.read_instant(str(said.get("start") or ""))
+        return Question(channel, id_, start, filling.planned_of(said.get("planned")), target, tuple(renditions))
+    except (ValueError, KeyError, TypeError, AttributeError, RecursionError) as fault:
+        raise ValueError(f"it isn't a question of adsplice-feed: {type(fault).__name__} {str(fault)[:80]}") from None
+
+
+@dataclass
+class Counts:
+    """What is counted of a channel: answers by their status, what was lacking by its word, how long answers took, and nanoseconds that were sold, by
+    ads and by the slate."""
+
+    answers: Counter[str] = field(default_factory=Counter)
+    lacks: Counter[str] = field(default_factory=Counter)
+    took: Counter[float] = field(default_factory=Counter)
+    seconds: float = 0.0
+    sold: Counter[str] = field(default_factory=Counter)
+    tracked: Counter[str] = field(default_factory=Counter)
+
+
+@dataclass(frozen=True)
+class Held:
+    """What an ad server gave before the break: for the one that begins at `start`, if that is known; it came at a moment of the monotonic clock."""
+
+    found: Found
+    start: int | None
+    at: float
+
+
+class Channel:
+    """One channel's questions: by its `section`, and the `store` of ads that are made. `tell` prints a line, and `answers` is the folder in which
+    answers are kept. The ad server is asked by `client` while a list waits, and by `patient` before; `films` fetches the ads' files."""
+
+    def __init__(self, section: Section, store: Store, tell: Tell, answers: Path) -> None:
+        self.section, self.store, self.tell, self.outside = section, store, tell, section.outside()
+        self.client, self.patient, self.films = (self.outside.client(it) for it in (section.timeout, PREFETCH, FILM))
+        self.pool = ThreadPoolExecutor(ad_server.AT_ONCE, f"{section.name}-wrapper")
+        self.ladder: Ladder | None = None
+        self.answers, self.counts, self.lock = answers, Counts(), threading.Lock()
+        self.held: list[Held] = []
+        self.asked_for: set[int] = set()  # breaks of the schedule that were asked for
+        self.asked_at = -1e9  # when it was asked last without a schedule
+        self.breaks: list[tuple[int, int | None]] = []  # of the schedule
+        self.read: tuple[int, int] | None = None  # the time and the size of the file that has them
+        self.cleaned = -1e9  # when old answers were taken away
+
+    # ---- answers
+
+    def answer(self, question: Question) -> tuple[int, bytes]:
+        """The status and the body of the answer to the `question`."""
+        begun = time.monotonic()
+        try:
+            pod = self.pod(question)
+        except Exception as fault:  # noqa: BLE001  (the feed gets an answer in any case)
+            pod = Pod(lacks=[Lack("Wrong", f"{type(fault).__name__}: {str(fault)[:200]}")])
+        status = 200 if pod.ready else 204
+        took = time.monotonic() - begun
+        self.count(pod, status, took)
+        for it in pod.lacks[:MOST_LACKS]:
+            self.tell(f"vast/{question.id}", str(status), it.word, it.text)
+        if not pod.ready:
+            self.tell(f"vast/{question.id}", "204", "-", f"no ads, after {took:.2f} s")
+            return 204, b""
+        ads = sum(it.length() for it, ad in zip(pod.ready, pod.ads) if ad is not None)
+        slate = f", and {seconds_text(pod.length() - ads)} s of the slate" if ads < pod.length() else ""
+        self.tell(f"vast/{question.id}", "200", "-", f"{', '.join(it.id for it in pod.ready if it.id != SLATE)}: {seconds_text(ads)} s{slate}, after {took:.2f} s")
+        self.keep(question, pod)
+        return 200, json.dumps(pod.decision(question.id)).encode()
+
+    def pod(self, question: Question) -> Pod:
+        """What fills the break of the `question`."""
+        ladder = self.ladder
+        if ladder is None:
+            return Pod(lacks=[Lack("NoLadder", "it isn't known yet what the channel's ladder is like")])
+        missing = [it for it in question.renditions or (ALONE,) if it not in ladder.renditions]
+        if missing:
+            return Pod(lacks=[Lack("NoLadder", f"the ladder has no rendition {missing[0]}; it has {', '.join(ladder.renditions)}"[:200])])
+        planned = question.planned or self.section.length
+        held = self.take_held(question.start)
+        found = held.found if held else self.search(self.client, planned, time.monotonic() + self.section.timeout)
+        is_alone = not question.renditions
+        pod = filling.fill(found, planned, functools.partial(self.ready, ladder=ladder, is_alone=is_alone), self.slate(ladder, is_alone))
+        return Pod(pod.ready, pod.ads, found.lacks + pod.lacks)
+
+    def search(self, client: Asking, planned: int | None, until: float) -> Found:
+        """What the ad server gives for a break of `planned` nanoseconds, asked by `client` up to the moment `until`."""
+        values = {**macros.of_break(planned, WITHIN), **self.section.macros}
+        return ad_server.Search(client, self.pool, self.outside, values, until).run()
+
+    def ready(self, ad: Ad, ladder: Ladder, is_alone: bool) -> Ready | str:
+        """The `ad` as it is made for `ladder`, or why it isn't: its best file that can be made counts."""
+        why = ""
+        for file in ad.files:
+            if stray := self.outside.strays(file.url):
+                why = why or f"MediaFile {ad_server.shown(file.url)} isn't read: {stray}"
+                continue
+            found = self.store.ready(Wanted(ladder, ad.id, file.url, ad.length, self.section.loudness, self.films), is_alone)
+            if not isinstance(found, str):
+                return found
+            why = why or f"MediaFile {ad_server.shown(file.url)}: {found}"
+            if "can't be made" not in found:
+                break
+        return why
+
+    def slate(self, ladder: Ladder, is_alone: bool) -> Ready | None:
+        """The slate as it is made for `ladder`; none if there is none yet."""
+        if self.section.slate is None:
+            return None
+        found = self.store.ready(Wanted(ladder, SLATE, str(self.section.slate), None, self.section.loudness), is_alone)
+        return None if isinstance(found, str) else found
+
+    def count(self, pod: Pod, status: int, took: float) -> None:
+        """Counts an answer of this `status` with the `pod`, which `took` so many seconds."""
+        with self.lock:
+            self.counts.answers[str(status)] += 1
+            self.counts.seconds += took
+            self.counts.took[next((it for it in BUCKETS if took <= it), float("inf"))] += 1
+            for it in pod.lacks:
+                self.counts.lacks[it.word] += 1
+            for ready, ad in zip(pod.ready, pod.ads):
+                self.counts.sold["ads" if ad is not None else SLATE] += ready.length()
+
+    def keep(self, question: Question, pod: Pod) -> None:
+        """Keeps what the `pod` for the `question` is, with what its ads call."""
+        try:
+            tracking.keep(self.answers, question.id, question.start, pod)
+        except OSError as fault:
+            self.tell(f"vast/{question.id}", "200", "Unkept", f"what its ads call isn't kept: {fault.strerror}")
+
+    # ---- before the break
+
+    def take_held(self, start: int | None) -> Held | None:
+        """What was given before for the break that begins at `start`; none if nothing was. It is taken once."""
+        with self.lock:
+            newest = None
+            for it in self.held:
+                if (it.start is None and start is not None) or (it.start is not None and start is not None and abs(it.start - start) <= NEAR):
+                    newest = it
+            if newest is not None:
+                self.held.remove(newest)
+            return newest
+
+    def hold(self, found: Found, start: int | None) -> None:
+        """What was `found` is held for the break that begins at `start`; without one it takes the place of what was held."""
+        with self.lock:
+            self.held = [it for it in self.held if it.start is not None and it.start != start] + [Held(found, start, time.monotonic())]
+
+    def prefetch(self, planned: int | None, start: int | None) -> None:
+        """Asks for the ads of a break that will begin at `start`, of `planned` nanoseconds, and has them made."""
+        found = self.search(self.patient, planned, time.monotonic() + PREFETCH)
+        for it in found.lacks[:MOST_LACKS]:
+            with self.lock:
+                self.counts.lacks[it.word] += 1
+            self.tell("prefetch", "-", it.word, it.text)
+        ladder = self.ladder
+        if ladder is not None:
+            for ad in found.ads():
+                self.ready(ad, ladder, not self.has_names(ladder))
+        if found.ads():
+            self.hold(found, start)
+
+    @staticmethod
+    def has_names(ladder: Ladder) -> bool:
+        """Whether the renditions of `ladder` have names of their own."""
+        return set(ladder.renditions) != {ALONE}
+
+    def look_ahead(self, now: int) -> None:
+        """Asks for the ads of each break that will begin soon after `now`, in nanoseconds from 1970, and forgets what came to nothing."""
+        section = self.section
+        with self.lock:
+            age = 2 * (section.prefetch or AHEAD)
+            self.held = [it for it in self.held if (it.start is None and time.monotonic() - it.at <= age) or (it.start is not None and it.start + NEAR > now)]
+            has_one = any(it.start is None for it in self.held)
+        if section.schedule is not None:
+            ahead = int((section.prefetch or AHEAD) * SECOND)
+            coming = [(start, planned) for start, planned in self.schedule(section.schedule) if now - NEAR < start <= now + ahead and start not in self.asked_for]
+            self.asked_for = {it for it in self.asked_for if it > now - NEAR} | {start for start, _ in coming}
+            for start, planned in coming:
+                self.prefetch(planned or section.length, start)
+        elif section.prefetch is not None and (time.monotonic() - self.asked_at >= section.prefetch or (not has_one and time.monotonic() - self.asked_at >= 1)):
+            self.asked_at = time.monotonic()
+            self.prefetch(section.length, None)
+
+    def schedule(self, path: Path) -> list[tuple[int, int | None]]:
+        """The breaks in the file `path`, which is read if it has changed; raises Fault."""
+        try:
+            found = path.stat()
+        except OSError as fault:
+            raise Fault(f"{path}: {fault.strerror}") from None
+        if (found.st_mtime_ns, found.st_size) != self.read:
+            self.breaks, self.read = schedule_in(path), (found.st_mtime_ns, found.st_size)
+        return self.breaks
+
+    def clean(self) -> None:
+        """Takes old answers away, once in an hour."""
+        if time.monotonic() - self.cleaned > CLEANED:
+            self.cleaned = time.monotonic()
+            tracking.clean(self.answers)
+
+    def run(self, ending: threading.Event) -> None:
+        """Looks ahead each second until `ending` is set."""
+        told = ""
+        while not ending.wait(1):
+            try:
+                self.clean()
+                self.look_ahead(time.time_ns())
+                if self.ladder is not None:
+                    self.slate(self.ladder, not self.has_names(self.ladder))
+                why = ""
+            except Fault as fault:
+                why = str(fault)
+            except Exception as fault:  # noqa: BLE001  (the next look goes on)
+                why = f"{type(fault).__name__}: {str(fault)[:200]}"
+            if why and why != told:
+                self.tell("prefetch", "-", "Wrong", why)
+            told = why

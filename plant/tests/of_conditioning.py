@@ -1,0 +1,349 @@
+"""Tests of making ads for a ladder: where they are cut, and by ffprobe what ffmpeg made of them."""
+import json
+import os
+import shutil
+import signal
+import subprocess
+import sys
+import threading
+import time
+from fractions import Fraction
+from pathlib import Path
+
+from tools import PLANT, PYTHON, FakeServer, until
+
+sys.path.insert(0, PLANT)
+from adsplice_plant import conditioning, ladders  # noqa: E402
+from adsplice_plant.words import Fault  # noqa: E402
+
+NEEDS = ("ffmpeg", "httpx")
+SECOND = 10**9
+RENDITIONS = {"v0": {"container": "ts", "picture": {"codec": "h264", "profile": "high", "width": 96, "height": 54, "rate": "25", "bits": 100_000},
+                     "sound": {"codec": "aac", "rate": 48_000, "channels": 2, "bits": 64_000}},
+              "v1": {"container": "ts", "picture": {"codec": "h264", "profile": "baseline", "width": 64, "height": 36, "rate": "50", "bits": 80_000}},
+              "en": {"container": "ts", "sound": {"codec": "aac", "rate": 48_000, "channels": 2, "bits": 64_000}}, "sub": {"container": "vtt"}}
+
+
+def pure(test):
+    """A test that needs nothing that isn't Python's own."""
+    test.needs = ()
+    return test
+
+
+def ffmpeg(*more):
+    """Runs ffmpeg with these words."""
+    subprocess.run(["nice", "ffmpeg", "-nostdin", "-v", "error", "-y", *more], check=True, stdin=subprocess.DEVNULL)
+
+
+def media(path, seconds, rate=30, sound=44_100, size="64x36", pictures=True, tone=880):
+    """An ad's file with a test picture, and a tone."""
+    inputs = (["-f", "lavfi", "-i", f"testsrc2=s={size}:r={rate}"] if pictures else []) + (["-f", "lavfi", "-i", f"sine=f={tone}:r={sound}"] if sound else [])
+    codecs = (["-c:v", "libx264", "-preset", "ultrafast"] if pictures else []) + (["-c:a", "aac"] if sound else [])
+    ffmpeg(*inputs, "-t", str(seconds), *codecs, path)
+    return path
+
+
+def ladder(room, renditions=None, piece="2"):
+    """A file with a ladder."""
+    return room.write("ladder.json", json.dumps({"piece": piece, "renditions": renditions or RENDITIONS}))
+
+
+def condition(room, *words, **more):
+    """Runs adsplice-condition."""
+    return room.run("adsplice-condition", *words, **more)
+
+
+def seen(path, section=None):
+    """The packets of a piece by ffprobe, by the kind of their stream: each as its instant, how long it lasts, and its flags."""
+    data = (Path(section).read_bytes() if section else b"") + Path(path).read_bytes()
+    out = subprocess.run(["ffprobe", "-v", "error", "-of", "json", "-show_packets", "-show_streams", "-"], input=data, capture_output=True, check=True).stdout
+    said = json.loads(out)
+    kinds = {it["index"]: it for it in said["streams"]}
+    found = {}
+    for it in said["packets"]:
+        found.setdefault(kinds[it["stream_index"]]["codec_type"], []).append((float(it["pts_time"]), float(it.get("duration_time", 0)), it["flags"]))
+    return found, {it["codec_type"]: it for it in said["streams"]}
+
+
+# ---- where an ad is cut
+
+@pure
+def test_cuts_by_hand(room):
+    for length, piece, rate, owed in ((10, 2, "25", [2] * 5), (15, 2, "25", [2] * 7 + [1]), (15, 6, "25", [6, 6, 3]), (1, 2, "25", [1]), ("14.04", 2, "25", ["1.76"] * 7 + ["1.72"]),
+                                      (15, "6.006", "30000/1001", ["6.006", "6.006", "2.969633333"]), ("7.53", 2, "25", [2, 2, 2, "1.52"]), ("0.01", 2, "25", ["0.04"]), (4, "1.92", "25", ["1.36", "1.32", "1.32"])):
+        cut = conditioning.cut_of(int(Fraction(length) * SECOND), int(Fraction(piece) * SECOND), Fraction(rate))
+        assert [it / SECOND for it in cut.pieces()] == [float(it) for it in owed], (length, piece, rate, cut.pieces())
+
+
+@pure
+def test_a_files_length_and_the_stated_one(room):
+    assert [conditioning.length_of(it, 15 * SECOND) for it in (14_600_000_000, 15_040_000_000, 14_000_000_000, 15_600_000_000)] == [15 * SECOND, 15 * SECOND, 14 * SECOND, 15_600_000_000]
+    assert conditioning.length_of(7, None) == 7
+
+
+@pure
+def test_samples_by_hand(room):
+    for codec, rate, seconds, owed in (("aac", 48_000, 10, 468 * 1024), ("aac", 44_100, 10, 430 * 1024), ("ac3", 48_000, 10, 312 * 1536)):
+        assert conditioning.samples_of(seconds * SECOND, ladders.Sound(codec, rate, 2, 64_000)) == owed, codec  # (469 frames of AAC: 468.75 to the nearest; one is the encoder's)
+
+
+@pure
+def test_wrong_ladders_are_told(room):
+    def with_(**members):
+        return {"piece": "2", "renditions": {"v0": {**RENDITIONS["v0"], **members}}}
+    for said, owed in (({}, "a ladder has `piece` and `renditions`"), ([], "a ladder has"), ({"piece": "0", "renditions": RENDITIONS}, "a piece lasts 0 s"), ({"piece": "2", "renditions": {}}, "1 to 64 renditions"),
+                       (with_(container="avi"), "its container is avi"), (with_(picture={**RENDITIONS["v0"]["picture"], "codec": "vp9"}), "no pictures of vp9"), (with_(picture={**RENDITIONS["v0"]["picture"], "rate": "1/0"}), "ZeroDivisionError"),
+                       (with_(picture={**RENDITIONS["v0"]["picture"], "width": 99_999}), "pictures of 99999x54"), (with_(sound={**RENDITIONS["v0"]["sound"], "codec": "opus"}), "no sound of opus"),
+                       ({"piece": "2", "renditions": {"../x": RENDITIONS["en"]}}, "a name is that of a folder"), ({"piece": "2", "renditions": {"sub": {"container": "vtt"}}}, "one has pictures or sound"),
+                       ({"piece": "2", "renditions": {**RENDITIONS, "f": {**RENDITIONS["en"], "container": "fmp4"}}}, "some renditions are fragmented MP4, and v0, v1, en, sub not")):
+        try:
+            ladders.ladder_of(said)
+        except Fault as fault:
+            assert owed in str(fault), (owed, str(fault))
+            continue
+        raise AssertionError(said)
+    whole = ladders.ladder_of({"piece": "2", "renditions": RENDITIONS})
+    assert ladders.said_of(whole) == {"piece": "2", "renditions": RENDITIONS} and len(whole.key()) == 16
+    assert whole.key() != ladders.ladder_of({"piece": "4", "renditions": RENDITIONS}).key()
+
+
+# ---- what ffmpeg makes
+
+def pieces_of(folder, count, frames, rate, section=None):
+    """Holds the pictures of each piece in a folder: so many, the first one a key frame and no other."""
+    for n in range(count):
+        found, streams = seen(f"{folder}/s{n}.{'m4s' if section else 'ts'}", section)
+        video = found["video"]
+        assert len(video) == frames[n] and [flags[0] for _, _, flags in video] == ["K"] + ["_"] * (frames[n] - 1), (folder, n, len(video))
+        assert streams["video"]["r_frame_rate"] == rate or len(video) < 3, streams["video"]["r_frame_rate"]
+
+
+def frames_of_sound(folder, count, section=None):
+    """How many frames of sound the pieces in a folder have together."""
+    return sum(len(seen(f"{folder}/s{n}.{'m4s' if section else 'ts'}", section)[0]["audio"]) for n in range(count))
+
+
+def test_an_ad_for_a_ladder_of_mpeg_ts(room):
+    status, out, err = condition(room, media(f"{room.path}/ad.mp4", 7.53), "--ladder", ladder(room), "--to", f"{room.path}/out/ad", "--id", "CAR0001H")
+    assert (status, out, err) == (0, f"CAR0001H: 7.52 s in 4 pieces, in {room.path}/out/ad\n", "")
+    made = f"{room.path}/out/ad"
+    pieces_of(f"{made}/v0", 4, [50, 50, 50, 38], "25/1")
+    pieces_of(f"{made}/v1", 4, [100, 100, 100, 76], "50/1")
+    # 7.52 s of 48 kHz are 352.5 frames of 1,024 samples
+    assert frames_of_sound(f"{made}/v0", 4) in (352, 353) and frames_of_sound(f"{made}/en", 4) in (352, 353)
+    for n, begin in enumerate((0, 2, 4, 6)):
+        first = seen(f"{made}/en/s{n}.ts")[0]["audio"][0][0] - seen(f"{made}/en/s0.ts")[0]["audio"][0][0]
+        assert abs(first - begin) <= 1024 / 48_000, (n, first)
+        assert Path(f"{made}/sub/s{n}.vtt").read_text() == Path(f"{made}/sub/s{n}.ts").read_text() == "WEBVTT\n"
+    lists = {it: Path(f"{made}/{it}/index.m3u8").read_text() for it in RENDITIONS}
+    assert [line for line in lists["v0"].splitlines() if line.startswith("#EXTINF")] == ["#EXTINF:2,"] * 3 + ["#EXTINF:1.52,"]
+    assert lists["v0"] == lists["v1"] == lists["en"] == lists["sub"].replace(".vtt", ".ts")
+    assert sorted(os.listdir(f"{room.path}/out")) == ["ad"] and json.loads(Path(f"{made}/ad.json").read_text())["pieces"] == ["2", "2", "2", "1.52"]
+
+
+def test_an_ad_for_fragmented_mp4_at_rates_of_television(room):
+    picture = {"codec": "h264", "profile": "main", "width": 96, "height": 54, "rate": "30000/1001", "bits": 100_000}
+    sound = {"codec": "aac", "rate": 44_100, "channels": 1, "bits": 64_000}
+    path = ladder(room, {"v": {"container": "fmp4", "picture": picture}, "a": {"container": "fmp4", "sound": sound}}, "2.002")
+    status, out, _ = condition(room, media(f"{room.path}/ad.mp4", 6.1), "--ladder", path, "--to", f"{room.path}/ad", "--seconds", "6")
+    assert status == 0 and "in 3 pieces" in out, out
+    pieces_of(f"{room.path}/ad/v", 3, [60, 60, 59], "30000/1001", f"{room.path}/ad/v/init.mp4")  # (179 pictures are 5.973 s, and 180 over 6 s)
+    assert abs(frames_of_sound(f"{room.path}/ad/a", 3, f"{room.path}/ad/a/init.mp4") - 179 * 1001 / 30_000 * 44_100 / 1024) <= 1
+    assert '#EXT-X-MAP:URI="init.mp4"' in Path(f"{room.path}/ad/a/index.m3u8").read_text()
+
+
+def test_hevc_and_ac3(room):
+    picture = {"codec": "hevc", "profile": "main", "width": 96, "height": 54, "rate": "25", "bits": 100_000}
+    path = ladder(room, {"v": {"container": "fmp4", "picture": picture}, "a": {"container": "fmp4", "sound": {"codec": "ac3", "rate": 48_000, "channels": 2, "bits": 96_000}}})
+    assert condition(room, media(f"{room.path}/ad.mp4", 4), "--ladder", path, "--to", f"{room.path}/ad")[0] == 0
+    pieces_of(f"{room.path}/ad/v", 2, [50, 50], "25/1", f"{room.path}/ad/v/init.mp4")
+    assert seen(f"{room.path}/ad/v/s0.m4s", f"{room.path}/ad/v/init.mp4")[1]["video"]["codec_tag_string"] == "hvc1"
+    assert frames_of_sound(f"{room.path}/ad/a", 2, f"{room.path}/ad/a/init.mp4") == 125  # (4 s of 48 kHz in frames of 1,536 samples)
+
+
+def test_an_ad_without_sound_is_silent_and_one_without_pictures_is_refused(room):
+    assert condition(room, media(f"{room.path}/mute.mp4", 4, sound=0), "--ladder", ladder(room), "--to", f"{room.path}/ad")[0] == 0
+    assert frames_of_sound(f"{room.path}/ad/v0", 2) in (187, 188) and frames_of_sound(f"{room.path}/ad/en", 2) in (187, 188)
+    out = subprocess.run(["ffmpeg", "-nostdin", "-i", f"{room.path}/ad/en/s0.ts", "-af", "volumedetect", "-f", "null", "-"], capture_output=True, text=True, check=True).stderr
+    assert "max_volume: -91.0 dB" in out, out[-400:]
+    status, out, err = condition(room, media(f"{room.path}/radio.mp4", 4, pictures=False), "--ladder", ladder(room), "--to", f"{room.path}/radio")
+    assert (status, out, err) == (1, "", f"adsplice-condition: {room.path}/radio.mp4: it has no pictures\n")
+    alone = ladder(room, {"main": RENDITIONS["en"]})
+    assert condition(room, f"{room.path}/radio.mp4", "--ladder", alone, "--to", f"{room.path}/radio")[0] == 0 and frames_of_sound(f"{room.path}/radio/main", 2) in (187, 188)
+
+
+def test_loudness(room):
+    assert condition(room, media(f"{room.path}/ad.mp4", 6, sound=48_000), "--ladder", ladder(room, {"en": RENDITIONS["en"]}), "--to", f"{room.path}/ad", "--loudness", "-30")[0] == 0
+    joined = room.write("all.ts", "")
+    Path(joined).write_bytes(b"".join(Path(f"{room.path}/ad/en/s{n}.ts").read_bytes() for n in range(3)))
+    out = subprocess.run(["ffmpeg", "-nostdin", "-i", joined, "-af", "ebur128", "-f", "null", "-"], capture_output=True, text=True, check=True).stderr
+    level = float(out.rpartition("I:")[2].split()[0])
+    assert abs(level + 30) < 1.5, level
+
+
+def test_a_ladder_is_profiled(room):
+    for name, more in (("v0", ["-f", "lavfi", "-i", "testsrc2=s=96x54:r=25", "-f", "lavfi", "-i", "sine=r=48000"]), ("en", ["-f", "lavfi", "-i", "sine=r=44100"])):
+        codecs = ["-c:v", "libx264", "-preset", "veryfast", "-g", "50", "-sc_threshold", "0"] if name == "v0" else []
+        ffmpeg(*more, "-t", "7", *codecs, "-pix_fmt", "yuv420p", "-c:a", "aac", "-ac", "2", "-f", "hls", "-hls_time", "2", "-hls_list_size", "0", f"{room.path}/{name}.m3u8")
+    ffmpeg("-f", "lavfi", "-i", "testsrc2=s=64x36:r=30000/1001", "-t", "7", "-c:v", "libx264", "-profile:v", "main", "-pix_fmt", "yuv420p", "-g", "60", "-sc_threshold", "0", "-f", "hls", "-hls_time", "2",
+           "-hls_segment_type", "fmp4", "-hls_flags", "single_file", "-hls_list_size", "0", f"{room.path}/one.m3u8")
+    room.write("sub.m3u8", "#EXTM3U\n#EXT-X-TARGETDURATION:2\n#EXTINF:2,\nt0.vtt\n")
+    room.write("master.m3u8", '#EXTM3U\n#EXT-X-MEDIA:TYPE=AUDIO,GROUP-ID="a",NAME="e",URI="en.m3u8"\n#EXT-X-MEDIA:TYPE=SUBTITLES,GROUP-ID="s",NAME="e",URI="sub.m3u8"\n#EXT-X-STREAM-INF:BANDWIDTH=1,AUDIO="a"\nv0.m3u8\n')
+    status, out, err = condition(room, "--profile", f"{room.path}/master.m3u8", "--names", "en,sub,v0")
+    assert (status, err) == (0, ""), err
+    said = json.loads(out)
+    assert said["piece"] == "2" and list(said["renditions"]) == ["en", "sub", "v0"] and said["renditions"]["sub"] == {"container": "vtt"}, said
+    assert {key: said["renditions"]["v0"]["picture"][key] for key in ("codec", "profile", "width", "height", "rate")} == {"codec": "h264", "profile": "high", "width": 96, "height": 54, "rate": "25"}, said
+    assert (said["renditions"]["en"]["sound"]["rate"], said["renditions"]["en"]["sound"]["channels"]) == (44_100, 2) and said["renditions"]["en"]["container"] == "ts"
+    room.server(files := Files(room.path))
+    status, out, err = condition(room, "--profile", f"{files.url}/one.m3u8")
+    one = json.loads(out)["renditions"]["main"]
+    assert (status, one["container"], one["picture"]["rate"], one["picture"]["profile"]) == (0, "fmp4", "30000/1001", "main"), (err, one)
+    assert "rendition v: " in condition(room, "--profile", f"v={room.path}/none.m3u8", "w=x")[2]
+    room.write("key.m3u8", Path(f"{room.path}/v0.m3u8").read_text().replace("#EXTINF", '#EXT-X-KEY:METHOD=AES-128,URI="k"\n#EXTINF', 1))
+    assert "its segments are encrypted" in condition(room, "--profile", f"{room.path}/key.m3u8")[2]
+
+
+class Files(FakeServer):
+    """The files of a folder, by byte ranges; `status` in place of one, or `cut` for a body that ends early."""
+
+    def __init__(self, path):
+        self.path, self.status, self.has_ranges, self.slow = path, 0, True, 0.0
+        super().__init__()
+
+    @property
+    def url(self):
+        return f"http://127.0.0.1:{self.port}"
+
+    def answer(self, method, path, body, fields):
+        time.sleep(self.slow)
+        file = os.path.join(self.path, path.partition("?")[0].lstrip("/"))
+        if self.status or not os.path.isfile(file):
+            return self.status or 404, {}, b""
+        data = Path(file).read_bytes()
+        tag = f'"{len(data)}-{os.stat(file).st_mtime_ns}"'
+        if fields.get("If-None-Match") == tag:
+            return 304, {"ETag": tag}, b""
+        asked = fields.get("Range")
+        if not asked or not self.has_ranges:
+            return 200, {"ETag": tag}, data
+        begin, end = (int(it or len(data)) for it in asked.removeprefix("bytes=").split("-"))
+        part = data[begin:end + 1]
+        return 206, {"ETag": tag, "Content-Range": f"bytes {begin}-{begin + len(part) - 1}/{len(data)}"}, part
+
+
+def downloaded(room, files, name, most=1 << 30, seconds=5.0, limit=2.0):
+    """What a download of a file gives, and the bytes that were written."""
+    from adsplice_plant import download, web
+    with open(f"{room.path}/got", "wb") as it:
+        found = download.Download(web.Client(limit), f"{files.url}/{name}", it, most, seconds, lambda: False).run()
+    return found, Path(f"{room.path}/got").read_bytes()
+
+
+def test_files_come_in_pieces(room):
+    import hashlib
+    files = room.server(Files(room.path))
+    for size in (1, 2 << 20, (2 << 20) + 1, 9_000_000):
+        Path(f"{room.path}/a.mp4").write_bytes(os.urandom(size))
+        found, got = downloaded(room, files, "a.mp4")
+        assert got == Path(f"{room.path}/a.mp4").read_bytes() and (found.sum, found.size) == (hashlib.sha256(got).hexdigest(), size), size
+    files.has_ranges = False
+    for size, owed in ((3_000_000, ""), (9_000_000, "the server has to answer byte ranges"), (0, "the file is empty")):
+        Path(f"{room.path}/a.mp4").write_bytes(b"x" * size)
+        try:
+            assert len(downloaded(room, files, "a.mp4")[1]) == size and not owed
+        except Fault as fault:
+            assert owed and owed in str(fault), fault
+
+
+test_files_come_in_pieces.needs = ("httpx",)
+
+
+def test_files_that_dont_come_are_told(room):
+    files = room.server(Files(room.path))
+    Path(f"{room.path}/a.mp4").write_bytes(b"x" * 9_000_000)
+    for change, most, owed in (({"status": 404}, 1 << 30, "the server answers 404"), ({"status": 503}, 1 << 30, "the server answers 503"), ({}, 1 << 20, "the file has 9000000 bytes, over 1048576"),
+                               ({"slow": 0.4}, 1 << 30, "the file didn't come within 0.5 s")):
+        files.status, files.slow = change.get("status", 0), change.get("slow", 0.0)
+        try:
+            downloaded(room, files, "a.mp4", most, 0.5)
+        except Fault as fault:
+            assert owed in str(fault), fault
+            continue
+        raise AssertionError(owed)
+    files.status, files.slow, answer = 0, 0.0, files.answer
+
+    def changing(method, path, body, fields):
+        said = answer(method, path, body, fields)
+        return said if fields["Range"].startswith("bytes=0") else (206, {**said[1], "ETag": '"other"'}, said[2])
+    files.answer = changing
+    try:
+        downloaded(room, files, "a.mp4")
+        raise AssertionError
+    except Fault as fault:
+        assert "the file changed while it was fetched" in str(fault)
+
+
+test_files_that_dont_come_are_told.needs = ("httpx",)
+
+
+def test_hostile_files_are_refused_and_leave_nothing(room):
+    os.mkdir(f"{room.path}/out")
+    secret = room.write("secret.ts", "")
+    ffmpeg("-f", "lavfi", "-i", "testsrc2=s=64x36:r=25", "-t", "2", "-c:v", "libx264", "-f", "mpegts", secret)
+    whole = Path(media(f"{room.path}/good.mp4", 2)).read_bytes()
+    bad = {"list.mp4": f"#EXTM3U\n#EXT-X-TARGETDURATION:2\n#EXTINF:2,\n{secret}\n#EXT-X-ENDLIST\n".encode(), "concat.mp4": f"ffconcat version 1.0\nfile '{secret}'\n".encode(), "empty.mp4": b"",
+           "text.mp4": b"<html>" * 100, "cut.mp4": whole[:len(whole) // 3], "noise.mp4": os.urandom(100_000), "dash.mp4": b'<?xml version="1.0"?><MPD><Period/></MPD>'}
+    for name, data in bad.items():
+        Path(f"{room.path}/{name}").write_bytes(data)
+        status, out, err = condition(room, f"{room.path}/{name}", "--ladder", ladder(room, {"main": RENDITIONS["v0"]}), "--to", f"{room.path}/out/ad")
+        assert (status, out, err.count("\n")) == (1, "", 1) and name in err and "Traceback" not in err, (name, status, err)
+        assert os.listdir(f"{room.path}/out") == [], name
+
+
+def test_a_limit_and_a_signal_leave_nothing(room):
+    path, to = media(f"{room.path}/ad.mp4", 60, size="640x360"), f"{room.path}/out/ad"
+    words = [path, "--ladder", ladder(room), "--to", to]
+    status, _, err = condition(room, *words, "--limit", "0.7")
+    assert status == 1 and "took over 0.7 s" in err and os.listdir(f"{room.path}/out") == [], (status, err)
+    for number in (signal.SIGTERM, signal.SIGINT):
+        it = subprocess.Popen([PYTHON, f"{PLANT}/adsplice-condition", *words], stdin=subprocess.DEVNULL, stdout=subprocess.DEVNULL, stderr=subprocess.PIPE, text=True)
+        room.running.append(it)
+        until(lambda: any(os.listdir(f"{room.path}/out/{one}/v0") for one in os.listdir(f"{room.path}/out")), 30, "a piece")
+        it.send_signal(number)
+        assert it.wait(10) == 128 + number and os.listdir(f"{room.path}/out") == [], number
+        it.stderr.close()
+        assert not subprocess.run(["pgrep", "-f", f"ffmpeg.*{room.path}"], capture_output=True, check=False).stdout, "ffmpeg goes on"
+
+
+def test_an_ad_takes_the_place_of_an_earlier_one_as_a_whole(room):
+    to = f"{room.path}/out/ad"
+    assert condition(room, media(f"{room.path}/a.mp4", 2), "--ladder", ladder(room, {"main": RENDITIONS["v1"]}), "--to", to)[0] == 0
+    gone = []
+
+    def watch():
+        while not gone or gone[-1] is not None:
+            try:
+                gone.append(Path(f"{to}/ad.json").read_text())
+            except OSError:
+                gone.append("")
+            time.sleep(0.0005)
+    thread = threading.Thread(target=watch, daemon=True)
+    thread.start()
+    assert condition(room, media(f"{room.path}/b.mp4", 4), "--ladder", f"{room.path}/ladder.json", "--to", to)[0] == 0
+    gone.append(None)
+    thread.join(2)
+    assert len(os.listdir(f"{to}/main")) == 3 and os.listdir(f"{room.path}/out") == ["ad"]
+    assert all(it is None or it == "" or json.loads(it)["pieces"] for it in gone)
+
+
+def test_wrong_words(room):
+    for words, owed in (((), "a file is needed"), (("a.mp4",), "--ladder and --to are needed"), (("--profile", "x", "a.mp4", "--loudness", "3"), "isn't a number of LUFS")):
+        status, _, err = condition(room, *words)
+        assert status == 2 and owed in err, err
+    room.write("no.json", "{")
+    media(f"{room.path}/a.mp4", 1)
+    for path, owed in ((f"{room.path}/no.json", "it isn't JSON"), (f"{room.path}/none.json", "No such file")):
+        status, _, err = condition(room, f"{room.path}/a.mp4", "--ladder", path, "--to", f"{room.path}/ad")
+        assert status == 1 and owed in err and err.count("\n") == 1, err
+    shutil.rmtree(f"{room.path}/ad", ignore_errors=True)
