@@ -7,10 +7,10 @@ ghost use Rattle.connections.specs.Runs.{HasRun};
 use crate::client::{fault_at_socket, was_socket_granted};
 use crate::faults::Faults;
 use connections::{
-    Admission, Arrivals, Call, Client, Connections, Line, NonBlocking, PLACES, Phase, Seat, Socket,
-    Turn, When, ending_deadline, has_come, serving_deadline,
+    Admission, Arrivals, Call, Client, Connections, Line, NonBlocking, PLACES, Part, Phase, Seat,
+    Socket, Turn, When, ending_deadline, has_come, serving_deadline,
 };
-use http_edge::EdgeFault;
+use http_edge::{EdgeFault, MAX_CHANNELS};
 use mio::net::{TcpListener, TcpStream};
 use mio::{Events, Interest, Poll, Token};
 use std::alloc::{AllocError, Global};
@@ -24,6 +24,9 @@ pub const LISTENER: Token = Token(PLACES);
 
 // How many clients are let in before the others have their turn again.
 const LET_IN: u32 = 64;
+
+// How many parts of a client's request are read before the others have their turn.
+const PARTS: u32 = 4;
 
 // Milliseconds from one tick to the next.
 const TICK_MILLIS: u64 = 50;
@@ -54,7 +57,7 @@ pub struct Clients {
     // Those that ask or are answered, and those whose reply is gone.
     served: Arrivals,
     ending: Arrivals,
-    // Those that are ready, and whose requests may take long.
+    // Those whose requests are whole, and may take long.
     line: Line,
 }
 
@@ -375,6 +378,37 @@ impl Server {
         }
     }
 
+    // Reads a part of a request. Whether its client may be heard on at once.
+    fn hear(
+        &mut self,
+        rt: &HostRuntime,
+        connections: &mut Connections,
+        part: &Part,
+        block: &mut [u8],
+    ) -> bool
+        requires { 0 < length block.old }
+        ensures { HasRun connections.old connections.new }
+    {
+        let place = part.place();
+        for _ in 0..PLACES {
+            let Some(Some(client)) = self.clients.at.get_mut(place) else {
+                return false;
+            };
+            if client.place() != place {
+                return false;
+            }
+            match client.hear_part(part, connections, block) {
+                Turn::Goes => return true,
+                Turn::Full => self.make_room(rt, connections, place),
+                turn => {
+                    self.settle(rt, connections, place, turn, false);
+                    return false;
+                }
+            }
+        }
+        false
+    }
+
     // A client has its turn at once if that is short, and else it stands in line.
     fn on_when(
         &mut self,
@@ -392,7 +426,13 @@ impl Server {
                 self.clients.line.leave(place);
                 self.serve(rt, connections, &call, block);
             }
-            When::InLine => self.stand_in_line(rt, connections, place),
+            When::Part(part) => {
+                if self.hear(rt, connections, &part, block) {
+                    self.watch(connections, place, true);
+                }
+            }
+            When::InLine(channel) => self.stand_in_line(rt, connections, place, channel),
+            When::NoMemory => self.stand_in_line(rt, connections, place, MAX_CHANNELS),
             When::NotYet => self.watch(connections, place, false),
             When::Failed(fault) => self.settle(rt, connections, place, Turn::Failed(fault), false),
         }
@@ -409,30 +449,57 @@ impl Server {
         requires { 0 < length block.old }
         ensures { HasRun connections.old connections.new }
     {
-        let Some(Some(client)) = self.clients.at.get_mut(place) else {
-            return;
-        };
-        let when = client.when(connections, block);
-        self.on_when(rt, connections, place, when, block);
+        for _ in 0..PARTS {
+            match self.when(connections, place, block) {
+                Some(When::Part(part)) => {
+                    if !self.hear(rt, connections, &part, block) {
+                        return;
+                    }
+                }
+                Some(when) => {
+                    self.on_when(rt, connections, place, when, block);
+                    return;
+                }
+                None => return,
+            }
+        }
+        self.watch(connections, place, true);
     }
 
-    // Has a client stand in line, or gives it up if there is no memory for that.
-    fn stand_in_line(&mut self, rt: &HostRuntime, connections: &mut Connections, place: usize)
+    // When the client at a place has its turn, if one is there.
+    fn when(&mut self, connections: &Connections, place: usize, block: &mut [u8]) -> Option<When>
+        requires { 0 < length block.old }
+    {
+        match self.clients.at.get_mut(place) {
+            Some(Some(client)) => Some(client.when(connections, block)),
+            _ => None,
+        }
+    }
+
+    // Has a client stand in line for a turn of a channel, or gives it up if there is no memory for that.
+    fn stand_in_line(
+        &mut self,
+        rt: &HostRuntime,
+        connections: &mut Connections,
+        place: usize,
+        channel: usize,
+    )
         ensures { HasRun connections.old connections.new }
     {
-        if self.clients.line.join(place).is_err() {
+        if self.clients.line.join(place, channel).is_err() {
             self.faults.tell(rt, EdgeFault::OutOfMemory.text());
             self.close(connections, place);
         }
     }
 
-    // Calls those that stand in line, until the request of one is answered: at most one in a round. None is called twice.
+    // Calls those that stand in line, by the turns of their channels, until the request of one is answered: at most one in a
+    // round. None is called twice.
     fn call_line(&mut self, rt: &HostRuntime, connections: &mut Connections, block: &mut [u8])
         requires { 0 < length block.old }
         ensures { HasRun connections.old connections.new }
     {
         for _ in 0..self.clients.line.len() {
-            let Some(call) = self.clients.line.call_first() else {
+            let Some(call) = self.clients.line.call_next() else {
                 return;
             };
             self.serve(rt, connections, &call, block);

@@ -5,5 +5,6 @@ pub mod Seated
 pub mod Turning
 mod Isolated
 mod Sent
+mod TurnOrder
 mod Lined
 mod FirstBytes

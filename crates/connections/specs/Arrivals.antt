@@ -7,7 +7,7 @@ use Rattle.std.specs.declared.time.Instant.{Instant}
 use Rattle.connections.specs.declared.arrivals.Arrival.{Arrival}
 use Rattle.connections.specs.declared.conversation.Conversation.{Conversation}
 use Rattle.connections.specs.declared.conversation.Conversation.TheVariants.{Asking, Answering}
-use Rattle.connections.specs.Lines.{is_in_line}
+use Rattle.connections.specs.Lines.{LineState, is_in_line}
 use Rattle.connections.specs.Table.{State, at, held_of}
 
 abbrev pub arrival_place : Arrival → ℕ
@@ -28,8 +28,8 @@ abbrev pub is_late : Instant → Arrival → Bool
 is_late now arrival = has_come arrival.until now
 
 -- its time is up, and it doesn't wait for its turn
-abbrev pub is_overdue : Instant → List ℕ → Arrival → Bool
-is_overdue now line arrival = is_late now arrival && not (is_in_line arrival.place line)
+abbrev pub is_overdue : Instant → LineState → Arrival → Bool
+is_overdue now line arrival = is_late now arrival && not (is_in_line arrival.place line.standing)
 
 -- ---- what a connection is at
 

@@ -1,12 +1,20 @@
 -- A client, and what its turn came to.
-use Rattle.std.specs.Prelude.{◌≡◌, ◌≢◌, ℕ, zero, suc, ◌+◌, ◌*◌, ◌≤◌, Bool, true, false, List, [], ◌∷◌, ◌++◌, length, Option, Some, ◌⊎◌}
+use Rattle.std.specs.Prelude.{◌≡◌, ◌≢◌, ℕ, zero, suc, ◌+◌, ◌*◌, ◌≤◌, Bool, true, false, List, [], ◌∷◌, ◌++◌, codes, length, bytes_eq, Option, Some, ◌⊎◌}
 use Rattle.http_edge.specs.declared.serving.EdgeFault.{EdgeFault}
+use Rattle.http_messages.specs.Requests.{IsUnfinished}
+use Rattle.http_messages.specs.Received.{IsAsked}
+use Rattle.http_messages.specs.declared.receiving.Asked.{Asked}
+use Rattle.http_messages.specs.declared.receiving.Asked.TheVariants as asked
+use Rattle.http_edge.specs.Edges.{NamedChannel}
 use Rattle.http_edge.specs.Served.{BeginsWithRead}
+use Rattle.http_edge.specs.Waiting.{no_channel, turn_of}
 use Rattle.connections.specs.declared.line.When.{When}
-use Rattle.connections.specs.declared.line.When.TheVariants.{AtOnce, InLine, NotYet, Failed}
+use Rattle.connections.specs.declared.line.When.TheVariants.{AtOnce, InLine, NoMemory, NotYet, Failed}
+use Rattle.connections.specs.declared.line.When.TheVariants as when
+use Rattle.connections.specs.declared.line.Part.{Part}
 use Rattle.connections.specs.declared.conversation.Conversation.{Conversation}
 use Rattle.connections.specs.declared.devices.Passage.{Passage}
-use Rattle.connections.specs.declared.devices.Passage.TheVariants.{Bytes, WouldWait}
+use Rattle.connections.specs.declared.devices.Passage.TheVariants.{WouldWait}
 use Rattle.connections.specs.Arrivals.{is_asking}
 use Rattle.connections.specs.Devices.{DeviceStand, AreNext}
 use Rattle.connections.specs.Limits.{reads_in_turn, writes_in_turn}
@@ -25,23 +33,58 @@ pub record ClientAt (X : Type 0) : Type 0 where
 
 abbrev pub IfAtOnce : When → (ℕ → Type 0) → Type 0
 IfAtOnce (AtOnce call) P = P call
-IfAtOnce InLine P = Unit {0}
+IfAtOnce (when.Part part) P = Unit {0}
+IfAtOnce (InLine channel) P = Unit {0}
+IfAtOnce NoMemory P = Unit {0}
 IfAtOnce NotYet P = Unit {0}
 IfAtOnce (Failed fault) P = Unit {0}
+
+abbrev pub IfPart : When → (Part → Type 0) → Type 0
+IfPart (when.Part part) P = P part
+IfPart (AtOnce call) P = Unit {0}
+IfPart (InLine channel) P = Unit {0}
+IfPart NoMemory P = Unit {0}
+IfPart NotYet P = Unit {0}
+IfPart (Failed fault) P = Unit {0}
+
+abbrev pub IfInLine : When → (ℕ → Type 0) → Type 0
+IfInLine (InLine channel) P = P channel
+IfInLine (when.Part part) P = Unit {0}
+IfInLine (AtOnce call) P = Unit {0}
+IfInLine NoMemory P = Unit {0}
+IfInLine NotYet P = Unit {0}
+IfInLine (Failed fault) P = Unit {0}
 
 abbrev pub IfLookFailed : When → (EdgeFault → Type 0) → Type 0
 IfLookFailed (Failed fault) P = P fault
 IfLookFailed (AtOnce call) P = Unit {0}
-IfLookFailed InLine P = Unit {0}
+IfLookFailed (when.Part part) P = Unit {0}
+IfLookFailed (InLine channel) P = Unit {0}
+IfLookFailed NoMemory P = Unit {0}
 IfLookFailed NotYet P = Unit {0}
 
--- the last call gave some bytes, or told the end
-abbrev pub HasGiven : Option Passage → Type 0
-HasGiven last = (count : ℕ) × (last ≡ Some (Bytes count))
+-- the bytes begin with a whole request that takes a turn of the channel of this number, or they are refused, which takes a turn of
+-- none
+abbrev pub TakesTurn : List NamedChannel → ℕ → Asked → Type 0
+TakesTurn edge channel (asked.Request request) = turn_of edge (bytes_eq request.method (codes "GET")) request.target ≡ Some channel
+TakesTurn edge channel (asked.Refused refusal) = channel ≡ no_channel
+
+pub record TakesTurnOf (edge : List NamedChannel) (bytes : List ℕ) (channel : ℕ) : Type 0 where
+  pub asked : Asked
+  pub asks : IsAsked bytes asked
+  pub takes : TakesTurn edge channel asked
 
 -- what was read of its request and what it sends now begin with a whole request that reads a playlist that stands
 abbrev pub SendsRead : DeviceStand → Option Conversation → Type 0
 SendsRead reader it = (bytes : List ℕ) × AreNext bytes reader.bytes × BeginsWithRead (part_of_request it ++ bytes)
+
+-- its request isn't whole with what it sends now, which are so many bytes
+abbrev pub SendsPart : DeviceStand → Option Conversation → ℕ → Type 0
+SendsPart reader it count = (bytes : List ℕ) × AreNext bytes reader.bytes × (length bytes ≡ count) × IsUnfinished (part_of_request it ++ bytes)
+
+-- its request is whole with it, and takes a turn of this channel
+abbrev pub SendsWhole : DeviceStand → State → Option Conversation → ℕ → Type 0
+SendsWhole reader s it channel = (bytes : List ℕ) × AreNext bytes reader.bytes × TakesTurnOf s.edge (part_of_request it ++ bytes) channel
 
 -- it can't hold the others: its end alone is awaited, or it is answered, or it reads what stands
 abbrev pub IsShort : {X : Type 0} → (X → DeviceStand) → ClientAt X → State → Type 0

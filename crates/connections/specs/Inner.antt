@@ -1,3 +1,3 @@
 pub mod Giving
 pub mod Passages
-pub mod Reads
+pub mod Outlooks

@@ -40,6 +40,12 @@ pub record HasHeard (reader_old reader_new : DeviceStand) (place : ℕ) (old new
   pub gave_it : GavePiece reader_old reader_new piece
   pub happens : Happens old (request_bytes place piece) new
 
+-- the client at this place said at most so many bytes
+pub record HasHeardAtMost (most : ℕ) (place : ℕ) (old new : State) : Type 0 where
+  pub piece : List ℕ
+  pub short : length piece ≤ most
+  pub happens : Happens old (request_bytes place piece) new
+
 -- why a client goes that was heard: the read failed; or it gave nothing, which is the client's end; or the request isn't whole
 -- with this piece, which is the last of the most; or an allocation failed
 abbrev pub GoesHeard : EdgeFault → DeviceStand → DeviceStand → Option Conversation → Type 0

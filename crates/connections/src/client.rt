@@ -1,18 +1,20 @@
 //! A client, from its first byte to its end. Its device is read and written to here alone.
-ghost use Rattle.std.specs.Prelude.{◌≡◌, ◌<◌, ◌+◌, ◌≢◌, [], Some, None, length, true, false, IfSome};
+ghost use Rattle.std.specs.Prelude.{◌≡◌, ◌<◌, ◌+◌, ◌≢◌, [], Some, None, length, max, true, false, IfSome};
 ghost use Rattle.connections.specs.declared.devices.Passage.TheVariants.{WouldWait, HasFailed};
 ghost use Rattle.connections.specs.Arrivals.{is_asking};
-ghost use Rattle.connections.specs.Clients.{AreSent, ConnectionHasEnded, HasGiven, HasMoved, HasToWait, HasTurned, HasTurnedUntil, IfAtOnce, IfLookFailed, IsShort, SendsRead};
+ghost use Rattle.connections.specs.Clients.{AreSent, ConnectionHasEnded, HasMoved, HasToWait, HasTurned, HasTurnedUntil, IfAtOnce, IfInLine, IfLookFailed, IfPart, IsShort, SendsPart, SendsRead, SendsWhole};
 ghost use Rattle.connections.specs.Limits.{most_held, drains_in_turn, writes_in_turn};
 ghost use Rattle.connections.specs.Runs.{HasRun};
 ghost use Rattle.connections.specs.Table.{Happens, at, departure, held_in, left_of};
 ghost use Rattle.connections.specs.Turns.{HasNoMore, IfGone, IsHeardOut, MovedEach, Stays};
+ghost use Rattle.connections.specs.Wires.{GoesHeard, HasHeard, HasHeardAtMost};
 
 use crate::devices::{Ending, Incoming, Looking, Outgoing, Passage, Socket};
-use crate::line::{Call, When};
+use crate::line::{Call, Part, When};
 use crate::seats::Seat;
-use crate::table::Connections;
+use crate::table::{Connections, Outlook};
 use crate::turns::{Turn, drain, is_client_read_out, listen, speak};
+use crate::wire::{Moved, hear};
 use http_edge::EdgeFault;
 use mio::{Interest, Registry, Token};
 use std::marker::Model;
@@ -93,8 +95,10 @@ impl<T: Looking> Client<T> {
         ensures unread { (T.stand self.new.device).bytes ≡ (T.stand self.old.device).bytes }
         ensures at_once { IfAtOnce result (λ call. (call ≡ self.old.place)
             × SendsRead (T.stand self.old.device) (at connections.now self.old.place)) }
-        ensures in_line { result ≡ When.InLine →
-            HasGiven (T.stand self.new.device).calls.last }
+        ensures part { IfPart result (λ part. (part.place ≡ self.old.place)
+            × SendsPart (T.stand self.old.device) (at connections.now self.old.place) part.count) }
+        ensures in_line { IfInLine result (SendsWhole (T.stand self.old.device) connections.now
+            (at connections.now self.old.place)) }
         ensures not_yet { result ≡ When.NotYet →
             (T.stand self.new.device).calls.last ≡ Some WouldWait }
         ensures failed { IfLookFailed result (λ fault. (fault ≡ EdgeFault.Read)
@@ -106,16 +110,19 @@ impl<T: Looking> Client<T> {
             Passage::HasFailed => return When::Failed(EdgeFault::Read),
         };
         let place = self.seat.place();
-        match connections.begins_with_read(place, &block[..count]) {
-            Ok(true) => When::AtOnce(Call::new(place)),
-            _ => When::InLine,
+        match connections.foresee(place, &block[..count]) {
+            Ok(Outlook::Read) => When::AtOnce(Call::new(place)),
+            Ok(Outlook::Part) => When::Part(Part { place, count }),
+            Ok(Outlook::Turn(channel)) => When::InLine(channel),
+            Err(_) => When::NoMemory,
         }
     }
 
     /// When the client has its turn. `AtOnce` only if it can't hold the others: its end alone is awaited, or it is
     /// answered, or what it said and what it sends now begin with a whole request that reads a playlist that stands. What
-    /// it sends is looked at, by `block`, and left unread. `InLine` if it sends anything else, or has ended; `NotYet` if it
-    /// sends nothing; `Failed` if the look failed: `Read`. `connections` have what it said.
+    /// it sends is looked at, by `block`, and left unread. `Part` if its request isn't whole with that, also if it has ended;
+    /// `InLine` if it is, with the number of the channel whose turn it takes; `NotYet` if it sends nothing; `Failed` if the look
+    /// failed: `Read`. `NoMemory` only if an allocation failed. `connections` have what it said.
     pub fn when(&mut self, connections: &Connections, block: &mut [u8]) -> When
         requires { 0 < length block.old }
         ensures place { self.new.place ≡ self.old.place }
@@ -124,9 +131,12 @@ impl<T: Looking> Client<T> {
         ensures unread { (T.stand self.new.device).bytes ≡ (T.stand self.old.device).bytes }
         ensures at_once { IfAtOnce result (λ call. (call ≡ self.old.place)
             × IsShort T.stand self.old connections.now) }
-        ensures in_line { result ≡ When.InLine → (self.old.is_ending ≡ false)
+        ensures part { IfPart result (λ part. (part.place ≡ self.old.place)
+            × SendsPart (T.stand self.old.device) (at connections.now self.old.place) part.count) }
+        ensures in_line { IfInLine result (λ channel. (self.old.is_ending ≡ false)
             × (is_asking (at connections.now self.old.place) ≡ true)
-            × HasGiven (T.stand self.new.device).calls.last }
+            × SendsWhole (T.stand self.old.device) connections.now
+            (at connections.now self.old.place) channel) }
         ensures not_yet { result ≡ When.NotYet →
             (T.stand self.new.device).calls.last ≡ Some WouldWait }
         ensures failed { IfLookFailed result (λ fault. (fault ≡ EdgeFault.Read)
@@ -158,8 +168,11 @@ impl<T: Looking> Client<T> {
         // Else it has something unread, has ended, or is gone.
         ensures at_once { IfSome result (λ when. IfAtOnce when (λ call.
             (call ≡ self.old.place) × IsShort T.stand self.old connections.now)) }
-        ensures in_line { result ≡ Some When.InLine →
-            HasGiven (T.stand self.new.device).calls.last }
+        ensures part { IfSome result (λ when. IfPart when (λ part. (part.place ≡ self.old.place)
+            × SendsPart (T.stand self.old.device) (at connections.now self.old.place) part.count)) }
+        ensures in_line { IfSome result (λ when. IfInLine when
+            (SendsWhole (T.stand self.old.device) connections.now
+            (at connections.now self.old.place))) }
         ensures sends { result ≡ Some When.NotYet → ⊥ }
         ensures failed { IfSome result (λ when. IfLookFailed when (λ fault. (fault ≡ EdgeFault.Read)
             × ((T.stand self.new.device).calls.last ≡ Some HasFailed))) }
@@ -170,6 +183,53 @@ impl<T: Looking> Client<T> {
         match self.when(connections, block) {
             When::NotYet => None,
             when => Some(when),
+        }
+    }
+}
+
+impl<T: Incoming> Client<T> {
+    /// Reads once what `when` saw of the client's request, which isn't whole with it: no more bytes than those that it saw, or one
+    /// to see an end. `Goes` if it gave bytes, which are what the client said to `connections`; `Waits` if it would wait; `Full` if
+    /// so many bytes have no room. `block` is room for a read.
+    pub fn hear_part(
+        &mut self,
+        part: &Part,
+        connections: &mut Connections,
+        block: &mut [u8],
+    ) -> Turn
+        requires called { part.now.place ≡ self.old.place }
+        requires room { 0 < length block.old }
+        ensures place { self.new.place ≡ self.old.place }
+        ensures is_ending { self.new.is_ending ≡ self.old.is_ending }
+        ensures is_watched { self.new.is_watched ≡ self.old.is_watched }
+
+        // What it said is what its device gave, and no more than was seen.
+        ensures heard { result ≡ Turn.Goes → HasHeard (T.stand self.old.device) (T.stand self.new.device)
+            self.old.place connections.old connections.new }
+        ensures few { result ≡ Turn.Goes → HasHeardAtMost (max 1 part.now.count)
+            self.old.place connections.old connections.new }
+        ensures waits { result ≡ Turn.Waits →
+            (T.stand self.new.device).calls.last ≡ Some WouldWait }
+        ensures stays { result ≡ Turn.Waits → connections.new ≡ connections.old }
+        ensures full { result ≡ Turn.Full → (most_held < held_in connections.old.places
+            + max 1 part.now.count) × (connections.new ≡ connections.old) }
+        ensures gone { IfGone result (λ fault. GoesHeard fault (T.stand self.old.device)
+            (T.stand self.new.device)
+            (at connections.old self.old.place)) }
+        ensures done { result ≡ Turn.Done → ⊥ }
+        ensures run { HasRun connections.old connections.new }
+    {
+        let most = part.count.max(1).min(block.len());
+        match hear(
+            &mut self.device,
+            connections,
+            &self.seat,
+            &mut block[..most],
+        ) {
+            Moved::Some | Moved::Nothing => Turn::Goes,
+            Moved::Waits => Turn::Waits,
+            Moved::Full => Turn::Full,
+            Moved::Failed(fault) => Turn::Failed(fault),
         }
     }
 }

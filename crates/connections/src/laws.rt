@@ -2,7 +2,7 @@
 ghost use Rattle.connections.specs.Clients.{RepliesAreSent, RequestsAreHeard};
 ghost use Rattle.connections.specs.Runs.{ConnectionsAreServed};
 ghost use Rattle.connections.specs.Isolation.{ClientsAreIsolated};
-ghost use Rattle.connections.specs.Lines.{LineIsKept, RoundsAreFew};
+ghost use Rattle.connections.specs.Lines.{TurnsAreShared, RoundsAreFew};
 
 /// Whatever clients come, say, take and leave, in any order: each is answered as `serve` answers what it said itself, in
 /// the order in which the requests became whole, and is sent that reply from its begin on and nothing else. So it is at each
@@ -33,14 +33,15 @@ pub fn requests_are_heard()
     ensures { RequestsAreHeard }
 {}
 
-/// If in each round one of those is called that stand in line, whoever stands there is called in the round after as many as
-/// stood before it, at the latest.
-pub fn rounds_are_few()
-    ensures { RoundsAreFew }
+/// While a request stands in line, its channel has no more turns than there were requests on it before, and each other channel at
+/// most one more. So the first request on a channel waits for at most one of each other channel, however many stand in line, and none
+/// is passed over by one on its channel that came later.
+pub fn turns_are_shared()
+    ensures { TurnsAreShared }
 {}
 
-/// Whoever stands in line is called after those that stood before it, and before all that join later: while it waits no
-/// more are called than stood before it. So nobody is passed over twice, nor once by one that came later.
-pub fn line_is_kept()
-    ensures { LineIsKept }
+/// If in each round one of those is called that stand in line, the first request on a channel is called after at most 64 rounds, and
+/// each later one after at most 65 more.
+pub fn rounds_are_few()
+    ensures { RoundsAreFew }
 {}

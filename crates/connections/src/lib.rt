@@ -21,7 +21,7 @@ pub use client::Client;
 pub use conversation::Conversation;
 pub use deadlines::{ending_deadline, serving_deadline};
 pub use devices::{Ending, Incoming, Looking, NonBlocking, Outgoing, Passage, Socket};
-pub use line::{Call, Line, When};
+pub use line::{Call, Line, Part, Standing, When};
 pub use seats::Seat;
 pub use table::{Connections, MAX_HELD, NewTable, PLACES, Phase};
 pub use turns::{Turn, drain, is_client_read_out, listen, speak};

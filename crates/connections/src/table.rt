@@ -1,11 +1,11 @@
 //! The connections by their places.
-ghost use Rattle.std.specs.Prelude.{◌≡◌, ◌<◌, ◌≤◌, ◌+◌, ◌++◌, [], true, None, Some, Decides, length, take, drop, replicate, IfOk, IfErr, OnOk, OnErr, IsErrOf};
+ghost use Rattle.std.specs.Prelude.{◌≡◌, ◌<◌, ◌≤◌, ◌+◌, ◌++◌, [], true, None, Some, length, take, drop, replicate, IfOk, IfErr, OnOk, OnErr, IsErrOf};
 ghost use Rattle.http_edge.specs.Edges.{RepresentsRequests};
-ghost use Rattle.http_edge.specs.Served.{BeginsWithRead};
+ghost use Rattle.http_edge.specs.Waiting.{turn_of};
 ghost use Rattle.http_edge.specs.declared.serving.EdgeFault.TheVariants.{TooManyReads};
 ghost use Rattle.connections.specs.Conversing.{HasTooManyAt};
 ghost use Rattle.connections.specs.Inner.Giving.{IsFaultOfGiving};
-ghost use Rattle.connections.specs.Inner.Reads.{is_playlist_read_by_client};
+ghost use Rattle.connections.specs.Inner.Outlooks.{IsOutlook, outlook_of_request};
 ghost use Rattle.connections.specs.Limits.{most_held, place_count};
 ghost use Rattle.connections.specs.Arrivals.{is_asking};
 ghost use Rattle.connections.specs.Table.{at, held_of, held_in, left_of, part_of_request, with_left, phase_of, PutsAtPlace, Happens};
@@ -14,8 +14,8 @@ ghost use Rattle.connections.specs.Seats.{places_below};
 
 use crate::conversation::{Conversation, give_to_connection};
 use crate::seats::{Seat, all_client_seats};
-use http_edge::{Edge, EdgeFault};
-use http_messages::{Arriving, Asked};
+use http_edge::{Edge, EdgeFault, MAX_CHANNELS};
+use http_messages::{Arriving, Foreseen};
 use std::alloc::{AllocError, Global};
 use std::hash::RandomState;
 use std::marker::Model;
@@ -63,6 +63,17 @@ pub enum Phase {
     Asking,
     /// The status of the reply.
     Answering(u16),
+}
+
+/// What a client's request is with the bytes that it sends now.
+#[derive(Clone, Copy, Debug, PartialEq, Eq)]
+pub(crate) enum Outlook {
+    /// It isn't whole.
+    Part,
+    /// It reads the playlist that a channel wrote last.
+    Read,
+    /// It takes a turn of the channel of this number.
+    Turn(usize),
 }
 
 fn bytes_held_by_connection(it: &Option<Conversation>) -> usize
@@ -150,18 +161,17 @@ impl Connections {
         }
     }
 
-    /// Whether what the client at `place` has said, with `bytes`, the next ones, begins with a whole request that reads the
-    /// playlist that a channel wrote last. Fails only if an allocation fails.
-    pub(crate) fn begins_with_read(&self, place: usize, bytes: &[u8]) -> Result<bool, AllocError>
+    /// What the request of the client at `place` is with `bytes`, the next ones, which are left where they are. Fails only if an
+    /// allocation fails.
+    pub(crate) fn foresee(&self, place: usize, bytes: &[u8]) -> Result<Outlook, AllocError>
         requires { is_asking (at self.now place) ≡ true }
-        ensures { IfOk result (λ it. Decides it
-            (BeginsWithRead (part_of_request (at self.now place) ++ bytes.now))) }
+        ensures { IfOk result (IsOutlook self.now.edge (part_of_request (at self.now place) ++ bytes.now)) }
     {
         match self.places.get(place) {
-            Some(Some(Conversation::Asking(arriving, _))) => does_client_begin_with_read(
+            Some(Some(Conversation::Asking(arriving, _))) => client_outlook(
                 &self.edge, self.alloc, arriving, bytes,
             ),
-            _ => Ok(false),
+            _ => Ok(Outlook::Part),
         }
     }
 
@@ -249,28 +259,29 @@ impl Connections {
     }
 }
 
-// Whether what came, with the next bytes, begins with a whole request that reads a playlist that stands.
-fn does_client_begin_with_read(
+// What a request is with the next bytes.
+fn client_outlook(
     edge: &Edge,
     alloc: Global,
     arriving: &Arriving,
     bytes: &[u8],
-) -> Result<bool, AllocError>
-    ensures { IfOk result (λ it. Decides it (BeginsWithRead (arriving.now ++ bytes.now))) }
+) -> Result<Outlook, AllocError>
+    ensures { IfOk result (IsOutlook edge.now (arriving.now ++ bytes.now)) }
 {
-    match arriving.asks_with(alloc, bytes)? {
-        Some(asked) => Ok(is_playlist_read_by_client(edge, &asked)),
-        None => Ok(false),
+    match arriving.foresee(alloc, bytes)? {
+        Foreseen::Part => Ok(Outlook::Part),
+        Foreseen::Refused => Ok(Outlook::Turn(MAX_CHANNELS)),
+        Foreseen::Whole(gets, target) => Ok(outlook_of_request(edge, gets, target.as_str())),
     }
 }
 
-// Whether what was asked reads a playlist that stands.
-fn is_playlist_read_by_client(edge: &Edge, asked: &Asked) -> bool
-    ensures { result ≡ is_playlist_read_by_client asked.now }
+// What is seen of a whole request.
+fn outlook_of_request(edge: &Edge, gets: bool, target: &str) -> Outlook
+    ensures { result ≡ outlook_of_request (turn_of edge.now gets target.now) }
 {
-    match asked {
-        Asked::Request(request) => edge.reads_playlist(request),
-        Asked::Refused(_) => false,
+    match edge.turn_of(gets, target) {
+        None => Outlook::Read,
+        Some(channel) => Outlook::Turn(channel),
     }
 }
 

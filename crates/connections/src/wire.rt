@@ -5,7 +5,7 @@ ghost use Rattle.connections.specs.Limits.{most_held, most_written};
 ghost use Rattle.connections.specs.Table.{Happens, at, left_of, held_in, departure};
 ghost use Rattle.connections.specs.Runs.{HasRun};
 ghost use Rattle.connections.specs.declared.devices.Passage.TheVariants.{WouldWait};
-ghost use Rattle.connections.specs.Wires.{HasHeard, HasSaid, MovedNothing, GoesHeard, GoesTold, IfFailed, IsFailed};
+ghost use Rattle.connections.specs.Wires.{HasHeard, HasHeardAtMost, HasSaid, MovedNothing, GoesHeard, GoesTold, IfFailed, IsFailed};
 
 use crate::devices::{Incoming, Outgoing, Passage};
 use crate::seats::Seat;
@@ -56,6 +56,8 @@ pub fn hear<T: Incoming>(
     ensures some { result ≡ Moved.Some →
         HasHeard (T.stand device.old) (T.stand device.new)
         seat.now connections.old connections.new }
+    ensures few { result ≡ Moved.Some →
+        HasHeardAtMost (length block.old) seat.now connections.old connections.new }
     ensures waits { result ≡ Moved.Waits →
         MovedNothing WouldWait (T.stand device.old) (T.stand device.new) }
     ensures stays { result ≡ Moved.Waits → connections.new ≡ connections.old }

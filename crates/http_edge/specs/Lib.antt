@@ -5,4 +5,5 @@ pub mod Table
 pub mod Edges
 pub mod Served
 pub mod Isolation
+pub mod Waiting
 pub mod Inner

@@ -6,6 +6,7 @@ ghost use Rattle.http_edge.specs.Replies.{refresh_owed, decisions_owed, live_owe
 ghost use Rattle.http_edge.specs.Table.{turn_at, made, added, removed, read_turn, given_at};
 ghost use Rattle.http_edge.specs.Edges.{TakesTurnOf};
 ghost use Rattle.http_edge.specs.Inner.Events.{event_at};
+ghost use Rattle.http_edge.specs.Waiting.{channel_number};
 
 use crate::events::{decide_on_edge, live_playlist_of_edge, refresh_on_edge};
 use crate::replies::{edge_reply_of_channel_fault, edge_why_reply};
@@ -76,6 +77,16 @@ impl Channels {
             (Resource::Live, "GET") => self.live(name),
             (Resource::Why, "GET") => self.why(name),
             (Resource::Live | Resource::Why, _) => not_allowed(self.alloc, Allow::Get),
+        }
+    }
+
+    /// The number of the channel `name`: from 0, in the order in which they were made. `MAX_CHANNELS` if there is none.
+    pub fn number(&self, name: &str) -> usize
+        ensures { result ≡ channel_number self.now name.now }
+    {
+        match self.by_name.get_index_of(name) {
+            Some(number) => number.min(MAX_CHANNELS),
+            None => MAX_CHANNELS,
         }
     }
 

@@ -1,9 +1,10 @@
 //! The edge: requests on channels, each applied as a whole.
 ghost use Rattle.std.specs.Prelude.{◌≡◌, [], IfOk};
-ghost use Rattle.http_edge.specs.Table.{turn, is_live_resource_of_edge, reads_playlist};
+ghost use Rattle.http_edge.specs.Table.{turn, is_live_resource_of_edge};
+ghost use Rattle.http_edge.specs.Waiting.{turn_of};
 ghost use Rattle.http_edge.specs.Edges.{RepresentsRequests, AnswersRequest, TakesTurnOf};
 
-use crate::channels::Channels;
+use crate::channels::{Channels, MAX_CHANNELS};
 use channel_api::{Resource, Routes, not_found};
 use http::StatusCode;
 use http_messages::{Reply, Request};
@@ -70,18 +71,19 @@ impl Edge {
         }
     }
 
-    /// Whether `request` reads the playlist that a channel wrote last: its reply is there already, and nothing is changed
-    /// by it.
-    pub fn reads_playlist(&self, request: &Request) -> bool
-        ensures { result ≡ reads_playlist request.now }
+    /// Whose turn a request of `target` takes: the number of the channel that it is of, below `MAX_CHANNELS`, or
+    /// `MAX_CHANNELS` if it is of none that is there. `None` if it reads the playlist that a channel wrote last: then its
+    /// method is GET, as `gets` says, its reply is there already, and nothing is changed by it.
+    pub fn turn_of(&self, gets: bool, target: &str) -> Option<usize>
+        ensures { result ≡ turn_of self.now gets target.now }
     {
-        if request.method.as_str() != "GET" {
-            return false;
+        let Some((name, resource)) = self.routes.find(target) else {
+            return Some(MAX_CHANNELS);
+        };
+        if gets && is_live_resource_of_edge(resource) {
+            return None;
         }
-        match self.routes.find(request.target.as_str()) {
-            Some((_, resource)) => is_live_resource_of_edge(resource),
-            None => false,
-        }
+        Some(self.channels.number(name))
     }
 
     fn answer_request(&mut self, request: &Request) -> Result<Reply, AllocError>

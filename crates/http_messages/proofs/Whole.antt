@@ -1,14 +1,12 @@
 -- What bytes ask, and what they ask with more after them.
-use Rattle.std.proofs.Common.{◌≡◌, ℕ, Bool, true, false, cond, List, [], ◌++◌, take, map, codes, bytes_eq, refl, sym, ap, subst, ◌∙◌, inl, inr, arith, true≢false, append_assoc}
-use Rattle.std.specs.Prelude.{Option, Some, None, IfSome, IsSomeAnd, is_some}
-use Rattle.std.proofs.lemmas.Slice.Eq.{bytes_eq-Decides}
+use Rattle.std.proofs.Common.{◌≡◌, ℕ, ◌≤◌, Bool, List, [], ◌++◌, take, drop, length, codes, bytes_eq, refl, sym, ap, subst, ◌∙◌, inl, inr, arith, true≢false, append_assoc}
+use Rattle.std.specs.Prelude.{Option, Some, None, IsSomeAnd}
 use Rattle.std.specs.Io.KnownBytes.{Consumes}
 use Rattle.byte_streams.specs.Stands.{SourceStand}
 use Rattle.std.proofs.KnownBytes.{Consumes-trans}
 use Rattle.std.proofs.lemmas.List.{append-nil}
 use Rattle.std.proofs.lemmas.Grind.{common_steps}
 use Rattle.httparse.specs.Grammar.{RequestHead}
-use Rattle.httparse.specs.Spans.{name_and_value}
 use Rattle.httparse.proofs.GrammarLemmas.{request_unique}
 use Rattle.http_messages.specs.declared.message.Request.{Request}
 use Rattle.http_messages.specs.declared.refusal.Refusal.{Refusal}
@@ -18,9 +16,10 @@ use Rattle.http_messages.specs.declared.head.Framing.{Framing}
 use Rattle.http_messages.specs.declared.head.Framing.TheVariants.{Body, Refused}
 use Rattle.http_messages.specs.declared.receiving.Asked.{Asked}
 use Rattle.http_messages.specs.declared.receiving.Asked.TheVariants as asked
-use Rattle.http_messages.specs.Requests.{BeginsWith, HasNoHead, NeverHasHead, Asks, IsRefusedFor, IsUnfinished, framing_of_put, framing_said}
+use Rattle.http_messages.specs.Requests.{BeginsWith, HasNoHead, NeverHasHead, Asks, IsRefusedFor, framing_said}
+use Rattle.http_messages.specs.Arriving.{AsksFor}
 use Rattle.http_messages.specs.Received.{IsAsked, IsHeadAt, SourceHolds, HasAsked}
-use Rattle.http_messages.proofs.Fronts.{count_in, head_more, is_body}
+use Rattle.http_messages.proofs.Fronts.{count_in, is_body}
 
 -- ---- more bytes
 
@@ -34,41 +33,24 @@ asked_more : (bytes more : List ℕ) (it : Asked) → IsAsked bytes it → IsAsk
 asked_more bytes more (asked.Request request) a = asks_more bytes more request a
 asked_more bytes more (asked.Refused refusal) a = refused_more bytes more refusal a
 
--- ---- a head whose body isn't whole
+-- ---- a head whose body is whole
 
--- any other method's request is whole at the end of its head
-whole_without_body : (bytes : List ℕ) (h : RequestHead) (rest : List ℕ) → BeginsWith bytes h rest → IsUnfinished bytes
-    → bytes_eq h.method (codes "PUT") ≡ false → ⊥
-whole_without_body bytes h rest b unfinished other =
-    unfinished.no_request (record { method = h.method; target = h.target; body = take 0 rest }) (record {
-      h = h;
-      rest = rest;
-      begins = b;
-      count = 0;
-      framing = ap (λ is_put. cond is_put (framing_of_put (map name_and_value h.fields)) (Body 0)) other;
-      whole = omega arith;
-      is = refl;
-    })
-
-put_unless : (is_put : Bool) (method : List ℕ) → bytes_eq method (codes "PUT") ≡ is_put → (bytes_eq method (codes "PUT") ≡ false → ⊥)
-    → method ≡ codes "PUT"
-put_unless true method e not_other = (bytes_eq-Decides method (codes "PUT")).0 e
-put_unless false method e not_other = absurd (not_other e)
-
--- so it is a PUT's
-put_is_awaited : (bytes more : List ℕ) (head : Head) (request : Request) → IsHeadAt bytes head → IsUnfinished bytes
-    → Asks (bytes ++ more) request → request.method ≡ codes "PUT"
-put_is_awaited bytes more head request a unfinished asks =
-    let longer = head_more bytes more head a in
-    let same = request_unique (bytes ++ more) longer.h asks.h _ asks.rest longer.begins.reads asks.begins.reads in
-    let of_head : request.method ≡ a.h.method =
-    ap (λ (r : Request). r.method) asks.is ∙ ap (λ (h : RequestHead). h.method) (sym same.0) ∙ sym longer.method ∙ a.method in
-    of_head ∙ put_unless (bytes_eq a.h.method (codes "PUT")) a.h.method refl (whole_without_body bytes a.h _ a.begins unfinished)
-
-pub put_is_known : (head : Option Head) (bytes more : List ℕ) (request : Request) → IfSome head (IsHeadAt bytes) → is_some head ≡ true → IsUnfinished bytes
-    → Asks (bytes ++ more) request → request.method ≡ codes "PUT"
-put_is_known None bytes more request a known unfinished asks = absurd (true≢false (sym known))
-put_is_known (Some head) bytes more request a known unfinished asks = put_is_awaited bytes more head request a unfinished asks
+pub asks_for : (bytes : List ℕ) (head : Head) (count : ℕ) (gets : Bool) (target : List ℕ) → IsHeadAt bytes head → head.framing ≡ Body count → count ≤ length (drop head.len bytes)
+    → gets ≡ bytes_eq head.method (codes "GET") → target ≡ head.target → AsksFor bytes gets target
+asks_for bytes head count gets target a f whole g t = record {
+  request = record { method = head.method; target = head.target; body = take count (drop head.len bytes) };
+  asks = record {
+    h = a.h;
+    rest = drop head.len bytes;
+    begins = a.begins;
+    count = count;
+    framing = sym a.framing ∙ f;
+    whole = whole;
+    is = λ i. record { method = a.method i; target = a.target i; body = take count (drop head.len bytes) };
+  };
+  method = g;
+  target_is = t;
+}
 
 -- ---- one alone
 

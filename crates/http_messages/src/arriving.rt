@@ -1,10 +1,11 @@
 //! A request that comes in pieces, from whoever has them.
 ghost use Rattle.std.specs.Prelude.{◌≡◌, ◌++◌, [], length, IfOk, IfSome};
 ghost use Rattle.http_messages.specs.Received.{IsHeadAt};
-ghost use Rattle.http_messages.specs.Arriving.{IsArrived, IsAskedUnlessPut};
+ghost use Rattle.http_messages.specs.Arriving.{IsArrived, IsForeseen};
 
-use crate::head::Head;
+use crate::head::{Framing, Head};
 use crate::receiving::{Asked, Step, http_request_of, look_for_request};
+use playlist_model::Text;
 use std::alloc::{AllocError, Global};
 use std::marker::Model;
 
@@ -32,6 +33,17 @@ impl Model for Arriving {
 pub enum Arrived {
     Whole(Asked),
     More(Arriving),
+}
+
+/// What the bytes will be with the next piece.
+#[derive(Drop)]
+pub enum Foreseen {
+    /// A request that isn't whole.
+    Part,
+    /// A whole request: whether its method is GET, and its target.
+    Whole(bool, Text),
+    /// They are refused.
+    Refused,
 }
 
 impl Arriving {
@@ -62,21 +74,49 @@ impl Arriving {
         request_arrived(alloc, bytes, head)
     }
 
-    /// What is asked with `piece`, the next bytes, which are left where they are. `None` if the request isn't whole then,
-    /// or if it is a PUT whose head has come: its body isn't copied. Fails only if an allocation fails.
-    pub fn asks_with(&self, alloc: Global, piece: &[u8]) -> Result<Option<Asked>, AllocError>
-        ensures { IfOk result (IsAskedUnlessPut (self.now ++ piece.now)) }
+    /// What the bytes are with `piece`, the next ones, which are left where they are. No body is copied. Fails only if an
+    /// allocation fails.
+    pub fn foresee(&self, alloc: Global, piece: &[u8]) -> Result<Foreseen, AllocError>
+        ensures { IfOk result (IsForeseen (self.now ++ piece.now)) }
     {
-        if self.head.is_some() {
-            return Ok(None);
+        if let Some(head) = &self.head {
+            return foresee_with_head(alloc, head, self.bytes.as_slice(), piece);
         }
         let mut all = Vec::new(alloc);
         all.extend_from_slice(self.bytes.as_slice())?;
         all.extend_from_slice(piece)?;
-        match request_arrived(alloc, all, None)? {
-            Arrived::Whole(asked) => Ok(Some(asked)),
-            Arrived::More(_) => Ok(None),
-        }
+        foresee_request(alloc, all.as_slice())
+    }
+}
+
+// What `bytes` and then `more` are, which begin with `head`.
+fn foresee_with_head(
+    alloc: Global,
+    head: &Head,
+    bytes: &[u8],
+    more: &[u8],
+) -> Result<Foreseen, AllocError>
+    requires { IsHeadAt (bytes.now ++ more.now) head.now }
+    ensures { IfOk result (IsForeseen (bytes.now ++ more.now)) }
+{
+    let Framing::Body(count) = head.framing else {
+        return Ok(Foreseen::Refused);
+    };
+    if count > (bytes.len() + more.len() - head.len) as u64 {
+        return Ok(Foreseen::Part);
+    }
+    let gets = head.method.as_str() == "GET";
+    Ok(Foreseen::Whole(gets, Text::copy_of(alloc, head.target.as_str())?))
+}
+
+// What all of these bytes are.
+fn foresee_request(alloc: Global, bytes: &[u8]) -> Result<Foreseen, AllocError>
+    ensures { IfOk result (IsForeseen bytes.now) }
+{
+    match look_for_request(alloc, bytes, None)? {
+        Step::Whole(head, _) => Ok(Foreseen::Whole(head.method.as_str() == "GET", head.target)),
+        Step::Refused(_) => Ok(Foreseen::Refused),
+        Step::More(_) => Ok(Foreseen::Part),
     }
 }
 

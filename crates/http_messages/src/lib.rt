@@ -12,7 +12,7 @@ mod refusal;
 mod reply_head;
 mod sending;
 
-pub use arriving::{Arrived, Arriving};
+pub use arriving::{Arrived, Arriving, Foreseen};
 pub use block::{BLOCK, Block, fill_message_block};
 pub use head::{MAX_BODY_BYTES, MAX_FIELDS, MAX_HEAD_BYTES};
 pub use leaving::Leaving;

@@ -1,13 +1,18 @@
 -- Many clients at once: who is given up for whom, what was said and taken, and the limits.
-use Rattle.std.specs.Prelude.{ℕ, ◌-◌, ◌^◌, true, false, List, [], ◌∷◌, codes, Some, None}
+use Rattle.std.specs.Prelude.{ℕ, zero, suc, ◌-◌, ◌^◌, Bool, true, false, List, [], ◌∷◌, codes, Some, None}
 use Rattle.std.specs.declared.time.Instant.{Instant}
 use Rattle.byte_streams.specs.Devices.{one_more}
+use Rattle.live_channel.specs.Channel.{Channel}
+use Rattle.http_edge.specs.Edges.{NamedChannel}
+use Rattle.http_edge.specs.Waiting.{turn_of}
 use Rattle.connections.specs.Devices.{one_call}
 use Rattle.connections.specs.declared.devices.Passage.TheVariants.{WouldWait, HasFailed}
 use Rattle.connections.specs.declared.arrivals.Arrival.{Arrival}
 use Rattle.connections.specs.declared.conversation.Conversation.TheVariants.{Asking, Answering}
 use Rattle.connections.specs.Arrivals.{gives_place, gives_room}
 use Rattle.connections.specs.Limits.{most_held, place_count, serving_nanos, ending_nanos, reads_in_turn, writes_in_turn, most_written, drains_in_turn}
+use Rattle.connections.specs.declared.line.Standing.{Standing}
+use Rattle.connections.specs.Lines.{LineState, LineEvent, joins, leaves, calls, after, line_after, next, place_of, ahead, turns_had}
 use Rattle.connections.specs.Runs.{visits, said, was_sent}
 use Rattle.connections.specs.Table.{State, ClientEvent, arrival, request_bytes, reply_bytes, departure, held_in, left_of, part_of_request, with_left}
 use Rattle.connections.specs.Turns.{bytes_of_pieces}
@@ -96,3 +101,49 @@ abbrev pub FailuresAreCounted : Type 0
 FailuresAreCounted = HasValues one_more (
     (record { count = 5; last = false }, record { count = 6; last = true })
     ∷ (record { count = 2 ^ 64 - 1; last = true }, record { count = 2 ^ 64 - 1; last = true }) ∷ [])
+
+-- ---- whose turn it is
+
+-- two channels, of which `a` was made first
+abbrev pub two : Channel → List NamedChannel
+two channel = record { name = codes "a"; channel = channel } ∷ record { name = codes "b"; channel = channel } ∷ []
+
+-- docs/OPERATING.md, "Slow clients": a GET of live.m3u8 takes no turn. Every other request takes one of its channel, of which the
+-- first has the number 0, and what is on no channel one of none, 64
+abbrev pub TurnsAreTaken : Type 0
+TurnsAreTaken = (channel : Channel) → HasValues (λ (asked : Bool × List ℕ). turn_of (two channel) asked.0 asked.1) (
+    ((true, codes "/channels/a/live.m3u8"), None) ∷ ((true, codes "/channels/c/live.m3u8?x=1"), None)
+    ∷ ((false, codes "/channels/b/live.m3u8"), Some 1) ∷ ((true, codes "/channels/a/why"), Some 0) ∷ ((true, codes "/channels/b/why?x=1"), Some 1)
+    ∷ ((false, codes "/channels/b/origin"), Some 1) ∷ ((false, codes "/channels/b"), Some 1) ∷ ((false, codes "/channels/c"), Some 64) ∷ ((true, codes "/other"), Some 64) ∷ [])
+
+abbrev pub standing : ℕ → ℕ → Standing
+standing place channel = record { place = place; channel = channel }
+
+-- three stand for the channel 1, one for 0 and one for none; the turn of 0 is longest ago, and that of 64 came last
+abbrev pub line : LineState
+line = record { standing = standing 3 1 ∷ standing 4 1 ∷ standing 5 0 ∷ standing 7 1 ∷ standing 6 64 ∷ []; turns = 0 ∷ 1 ∷ 64 ∷ [] }
+
+abbrev pub calls_made : ℕ → List LineEvent
+calls_made zero = []
+calls_made (suc n) = calls ∷ calls_made n
+
+-- each channel has its turn, and of its clients the one that came first
+abbrev pub ChannelsHaveTurns : Type 0
+ChannelsHaveTurns = HasValues (λ (n : ℕ). place_of (next (line_after line (calls_made n)))) ((0, Some 5) ∷ (1, Some 3) ∷ (2, Some 6) ∷ (3, Some 4) ∷ (4, Some 7) ∷ (5, None) ∷ [])
+
+-- in four calls
+abbrev pub TurnsAreCounted : Type 0
+TurnsAreCounted = HasValues (λ (channel : ℕ). turns_had channel line (calls_made 4)) ((0, 1) ∷ (1, 2) ∷ (64, 1) ∷ (2, 0) ∷ [])
+
+-- those of its own channel count
+abbrev pub PlacesAhead : Type 0
+PlacesAhead = HasValues (λ (one : ℕ × ℕ). ahead one.0 one.1 line.standing) (((1, 3), 0) ∷ ((1, 4), 1) ∷ ((1, 7), 2) ∷ ((0, 5), 0) ∷ ((64, 6), 0) ∷ [])
+
+-- who joins stands behind the others, and once; a number that is of no channel is 64
+abbrev pub ClientsJoin : Type 0
+ClientsJoin = HasValues (λ (one : ℕ × ℕ). (after (joins one.0 one.1) (record { standing = standing 3 1 ∷ []; turns = [] })).standing) (
+    ((4, 0), standing 3 1 ∷ standing 4 0 ∷ []) ∷ ((3, 0), standing 3 1 ∷ []) ∷ ((4, 70), standing 3 1 ∷ standing 4 64 ∷ []) ∷ [])
+
+-- who goes leaves the line, and whose turn it is stays so for the others
+abbrev pub ClientsLeave : Type 0
+ClientsLeave = HasValues (λ (place : ℕ). place_of (next (after (leaves place) line))) ((5, Some 3) ∷ (3, Some 5) ∷ (9, Some 5) ∷ [])

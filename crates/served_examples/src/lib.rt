@@ -5,7 +5,7 @@
 
 ghost use Rattle.served_examples.specs.Requests.{NamesAreChecked, QueriesArePassedOver, RoutesAreFound, OtherPathsAreNone, BodiesAreFramed, HeadsAreFramed, MessagesAreLimited, RepliesAreWritten, HeadsAreSent, HeadRepliesAreWritten, AllFieldsCount};
 ghost use Rattle.served_examples.specs.Answers.{ChannelsAreMade, RefreshesAreAnswered, PlaylistsAreRead, DecisionsAreAnswered, DecisionFaultsAreAnswered, RefreshFaultsAreAnswered, WordsOfWhyAreTold, ReasonsAreAnswered, TablesAreLimited, ChannelsAreApart, LongNamesAreServed, LongNamesAreApart, RequestsAreServed, RequestsWereAsked, RequestsWereAnswered, OthersStay, BodyFaultsAreAnswered, BodyFaultsAreTold, ChannelsAreOnce};
-ghost use Rattle.served_examples.specs.Clients.{ClientsAreLimited, PlacesAreGiven, RepliesAreGivenUpLast, RoomIsGiven, BytesAreHeld, RepliesAreLeft, PartsAreRead, BytesAreTaken, VisitsAreCounted, WordsAreSaid, BytesAreSent, PiecesAreJoined, CallsAreCounted, FailuresAreCounted, OthersAreApart};
+ghost use Rattle.served_examples.specs.Clients.{ClientsAreLimited, PlacesAreGiven, RepliesAreGivenUpLast, RoomIsGiven, BytesAreHeld, RepliesAreLeft, PartsAreRead, BytesAreTaken, VisitsAreCounted, WordsAreSaid, BytesAreSent, PiecesAreJoined, CallsAreCounted, FailuresAreCounted, OthersAreApart, TurnsAreTaken, ChannelsHaveTurns, TurnsAreCounted, PlacesAhead, ClientsJoin, ClientsLeave};
 ghost use Rattle.served_examples.specs.Gone.{ChannelsAreMadeOnce};
 ghost use Rattle.served_examples.specs.Kept.{StatesAreMeant, SegmentsAreHeld, StoresAreReplaced, TextsAreKept, RefreshesAreOwed, LackOfMemoryIsSeen, DecisionsAreStored, ShownAreMeant, RunsBegin, EndsAreTold, FirstNumbersAreTold, LastWindowsAreTold};
 ghost use Rattle.served_examples.specs.Runs.{ReadsAreLimited, FilesAreTold, FilesAreGiven, BytesAreTold, UrisAreWhole, ReadNumbersRise, ReadSegmentsAreWritten, LinesKeepTheirLimit, InputsAreReadUnderBases, RunsAreTold};
@@ -65,6 +65,12 @@ pub fn clients_have_their_values()
     ensures calls_are_counted { CallsAreCounted }
     ensures failures_are_counted { FailuresAreCounted }
     ensures others_are_apart { OthersAreApart }
+    ensures turns_are_taken { TurnsAreTaken }
+    ensures channels_have_turns { ChannelsHaveTurns }
+    ensures turns_are_counted { TurnsAreCounted }
+    ensures places_ahead { PlacesAhead }
+    ensures clients_join { ClientsJoin }
+    ensures clients_leave { ClientsLeave }
 {}
 
 /// The law of isolation at one run: a client that was answered and has gone counts.
