@@ -355,7 +355,7 @@ class Breaks:
         for one in [it for it in self.known if it.start < jump.at and not it.has_turned(jump) and (is_set or it.id in names)]:
             end = one.end()
             if end is not None and end > jump.last:
-                one.until, one.is_ended = end, True
+                one.until, one.is_ended = end, jump.by > 0  # (a clock that goes back leaves it open until a segment comes to its end)
             one.said = one.start if one.said is None else one.said
             one.start, one.latest, one.clock = one.start + jump.by, one.latest + jump.by, jump.number
             one.until = None if one.until is None else one.until + jump.by
@@ -418,10 +418,10 @@ class Breaks:
                 found = line.nearest(one.start)
                 one.number = found.number if found else one.number
                 one.start, one.is_settled = line.aligned(one.start), True
-            if one.until is not None and not one.is_ended and line.is_reached(one.until):
+            if one.until is not None and not one.is_ended and line.has_turned(one) and line.is_reached(one.until):
                 one.until, one.is_ended = line.aligned(one.until), True
             end = one.end()
-            if end is not None and not one.is_told and line.is_reached(end):
+            if end is not None and not one.is_told and line.has_turned(one) and line.is_reached(end):
                 one.is_told = True
                 self.tell(f"breaks/{shown(one.id)}", "Ends", f"at {instant_text(end)}, after {seconds_text(end - one.start)} s ({one.name})")
         self.known.sort(key=lambda it: it.start)

@@ -23,7 +23,7 @@ from .replay import as_elsewhere, as_it_runs, put_past
 from .siblings import Sibling, Siblings, reach_of
 from .state import FileState, Rendition, Standing, State, Way
 from .translator import Translator
-from .turn import Turn, window_of
+from .turn import Turn, history_of, window_of
 
 STEP = 3.0  # target durations that the first lists of renditions have to come into step
 MOST_OLDER = 4  # lists that wait to be taken in before the newest one
@@ -489,10 +489,22 @@ def standing(before: Standing, it: Taken, text: bytes, entry: int, translator: T
     pods = before.pods.of(window_of(stands) | ranges.ids_in(lines) | {one.id for one in translator.breaks.known}).copy()
     pods.enter(ranges.starts_in(lines), before.viewed.ranges.keys(), [one.begins for one in new if one.begins is not None], tolerance)
     target = repairer.head.target if repairer.head is not None else 0
+    until = turned_in(before, new) if last and not ahead else 0
+    if until:
+        stands = replace(stands, ahead=controllers.listed_from(stands, len(repairer.past), (0, 0), len(history_of(stands)) - len(new) + until))
     if stands.ahead and last:  # (adsplice forgets what that list doesn't have)
-        viewed.reckon(last, ranges.ranges_in(stands.ahead), Store(pods.held, pods.fallback), tolerance, target)
+        front = listed[:len(listed) - len(new) + until] if until else last
+        viewed.reckon(front, ranges.ranges_in(stands.ahead), Store(pods.held, pods.fallback), tolerance, target)
     viewed.reckon(listed, lines, Store(pods.held, pods.fallback), tolerance, target)
     return replace(stands, pods=pods)
+
+
+def turned_in(before: Standing, new: list[PackagedSegment]) -> int:
+    """The place among the `new` segments of a list of the first one after the packager's clock went back, if a break was open `before`; 0 if there is
+    none. The list up to there comes first: what says by the new clock where the break ends would end it before."""
+    if before.viewed.reckoned is None or before.viewed.reckoned.run is None:
+        return 0
+    return next((n for n in range(1, len(new)) if (new[n].begins or 0) < (new[n - 1].begins or 0)), 0)
 
 
 # ---- lists

@@ -223,7 +223,7 @@ class Translator:
         for it in self.breaks.known:
             found = self.cuts[rendition][it.id]
             for place, instant in enumerate((it.start if it.said is None else it.said, it.until)):
-                if instant is not None and found[place] is None and line.is_reached(instant):
+                if instant is not None and found[place] is None and line.is_reached(instant) and (not place or line.has_turned(it)):
                     own = line.aligned(instant) if line.has_turned(it) else instant
                     found[place] = own if abs(own - instant) > self.tolerance else instant
 
@@ -273,7 +273,7 @@ class Translator:
     def ended(self, name: str, rendition: str) -> int | None:
         """The instant of the segment with which the break `name` has ended in the `rendition`; none if it hasn't."""
         one = self.breaks.named(name)
-        return None if one is None or not one.is_told else self.cuts.get(rendition, {}).get(name, [None, None])[1] or one.end()
+        return None if one is None or not one.is_told else self.cuts.get(rendition, {}).get(name, [None, None])[1]
 
     # ---- what is kept
 

@@ -137,9 +137,11 @@ class Viewers:
             return self.at_first()
         after = self.plan.breaks[self.since[-1].place].end if self.since and self.since[-1].place >= 0 else self.reached
         next_one = next((it.begin for it in self.between(after, after + MOST_AWAY) if self.was_read(it)), after)  # (what lies before that is nobody's)
-        near = [(min(abs(it.start - after), abs(it.start - next_one)), place) for place, it in enumerate(self.plan.breaks)
-                if min(abs(it.start - after), abs(it.start - next_one)) <= self.plan.target // 2 + NEAR]
-        return min(near)[1] if near else -1
+        for at in (after, next_one):
+            near = [(abs(it.start - at), place) for place, it in enumerate(self.plan.breaks) if abs(it.start - at) <= self.plan.target // 2 + NEAR]
+            if near:
+                return min(near)[1]
+        return -1
 
     def was_read(self, it: Cut) -> bool:
         """Whether the feed read a segment of the packager in a list."""
