@@ -1,11 +1,10 @@
 """The numbers of a programme's renditions beside one another: equal at equal segments, or it is told (RFC 8216, 6.2.4)."""
 from __future__ import annotations
 
-from copy import copy
-
 from .ranges import starts_in
 from .state import Standing
 from .turn import Turn
+from .values import changed
 
 
 def compare(turn: Turn) -> None:
@@ -33,9 +32,7 @@ def compare(turn: Turn) -> None:
     most = max(discontinuity for _, discontinuity in found.values())
     if any(it[1] < most for it in found.values()) and not any(may_enter(it, turn.state.translator.tolerance) for it in lists.values()):
         for channel, it in lists.items():
-            repairer = copy(it.repairer)
-            repairer.owed = most - found[channel][1]
-            turn.put_standing(channel, repairer=repairer)
+            turn.put_standing(channel, repairer=changed(it.repairer, owed=most - found[channel][1]))
         turn.set(equal_after=max(it.repairer.last[-1].number for it in lists.values()) + 1)
 
 

@@ -3,7 +3,6 @@ from __future__ import annotations
 
 from bisect import bisect_left, insort
 from collections import deque
-from copy import copy
 from dataclasses import dataclass
 from typing import Any, NamedTuple
 
@@ -12,6 +11,7 @@ from .packaged import Instants, PackagedSegment
 from .playlist import SECOND, instant_text, seconds_text
 from .signals import LONGEST, Signal
 from .splice import Kind, Message
+from .values import changed
 
 AUTO = frozenset(it for it in splice.SPANS if it not in splice.PROMOS)  # the types that begin a break if the settings name none
 TOLERANCE = SECOND // 10  # adsplice's own
@@ -232,8 +232,8 @@ class Breaks:
 
     def copy(self) -> Breaks:
         """The same breaks, of which nothing is told yet."""
-        found = copy(self)
-        found.known, found.cancelled, found.told, found.recent = [copy(it) for it in self.known], set(self.cancelled), [], self.recent.copy()
+        found = changed(self)
+        found.known, found.cancelled, found.told, found.recent = [changed(it) for it in self.known], set(self.cancelled), [], self.recent.copy()
         return found
 
     def tell(self, who: str, word: str, text: str) -> None:

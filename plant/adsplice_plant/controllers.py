@@ -6,7 +6,6 @@ then the decisions up to its next list, and that list, which has all that it lac
 from __future__ import annotations
 
 import re
-from copy import copy
 from dataclasses import replace
 
 from . import apart, decided, faults, numbers, packaged, ranges, replay
@@ -19,6 +18,7 @@ from .repair import Head, Repaired, Repairer
 from .state import Controller, Decided, Rendition, Standing, Way
 from .translator import Translator
 from .turn import MOST, Turn, history_of
+from .values import changed
 
 JUDGED = (409, 413, 422)  # statuses by which adsplice refuses what it was given; after others the same is tried again with pauses
 NO_PUT = (403, 404, 405)  # statuses by which no adsplice answers the making of a channel
@@ -308,9 +308,8 @@ def begin_anew(turn: Turn, channel: str) -> None:
         viewed.reckoned = Reckoned()
         stands = replace(stands, viewed=viewed)
     elif it.settings.target is not None and stands.repairer.head is not None:
-        repairer = copy(stands.repairer)
-        repairer.head = replace(stands.repairer.head, target=it.settings.target)  # (a new channel may have another one)
-        stands = replace(stands, repairer=repairer)
+        head = replace(stands.repairer.head, target=it.settings.target)  # (a new channel may have another one)
+        stands = replace(stands, repairer=changed(stands.repairer, head=head))
     translator = turn.state.translator.copy()
     for one in translator.breaks.known:
         one.is_in_step = False  # (it is shown all of a list's segments at once)

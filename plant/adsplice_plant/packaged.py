@@ -110,7 +110,7 @@ class PackagedList:
     lines after the last one: `tail_tags` and `tail_discontinuities`. `others` are the names of tags
     that change what the list means, and of instants that don't read. `signals`: the EXT-X-DATERANGE lines in place of its own; none if
     it keeps those. `marked`: the places of the segments before which its own stand, once these were looked for; `pieces`: the text
-    of each segment, once it was written; `timed`: when the segments begin, once that was asked for."""
+    of each segment, once it was written; `timed`: when the segments begin, and `own`: its own EXT-X-DATERANGE lines, once that was asked for."""
 
     version: int | None = None
     target: int | None = None
@@ -127,14 +127,17 @@ class PackagedList:
     marked: list[int] | None = None
     pieces: list[bytes] | None = None
     timed: Instants | None = None
+    own: list[tuple[int, int, str]] | None = None
 
     def own_ranges(self) -> list[tuple[int, int, str]]:
         """The packager's EXT-X-DATERANGE lines: the place of the segment before which each stands (past the last one after it), its
         place among the tags there, and the line."""
         if self.marked is None:
             self.marked = [place for place, it in enumerate(self.segments) if any(line.startswith(DATE_RANGE) for line in it.tags)]
-        tags = [(place, self.segments[place].tags) for place in self.marked] + [(len(self.segments), self.tail_tags)]
-        return [(place, at, line) for place, lines in tags for at, line in enumerate(lines) if line.startswith(DATE_RANGE)]
+        if self.own is None:
+            tags = [(place, self.segments[place].tags) for place in self.marked] + [(len(self.segments), self.tail_tags)]
+            self.own = [(place, at, line) for place, lines in tags for at, line in enumerate(lines) if line.startswith(DATE_RANGE)]
+        return self.own
 
     def instants(self) -> Instants | None:
         """When its segments begin; none if that isn't known of each."""

@@ -7,7 +7,6 @@ from __future__ import annotations
 
 from collections import Counter
 from collections.abc import Collection
-from copy import copy
 from dataclasses import dataclass, replace
 
 from . import apart, controllers, decided, packaged, ranges, repairs, spelling
@@ -24,6 +23,7 @@ from .siblings import Sibling, Siblings, reach_of
 from .state import FileState, Rendition, Standing, State, Way
 from .translator import Translator
 from .turn import Turn, history_of, window_of
+from .values import changed
 
 STEP = 3.0  # target durations that the first lists of renditions have to come into step
 MOST_OLDER = 4  # lists that wait to be taken in before the newest one
@@ -264,7 +264,8 @@ def put_right(turn: Turn, channel: str, found: dict[str, Taken]) -> Taken | None
     tell_why(turn, channel, repaired)
     older = it.older if repaired.waits else it.older[1:]
     turn.put(channel, is_new=repaired.waits or bool(it.older) or taken.is_part, older=older, is_blocked=repaired.why == repairs.SECTIONS)
-    turn.put_standing(channel, repairer=with_hold(it.stands.repairer, taken.repairer.held_since))
+    if taken.repairer.held_since != it.stands.repairer.held_since:
+        turn.put_standing(channel, repairer=changed(it.stands.repairer, held_since=taken.repairer.held_since))
     if repaired.why == repairs.SECTIONS and it.stands.text:
         turn.put_controller(channel, listed=it.stands.entry - 1)  # (it is pushed again, so that it is seen if a person deletes the channel)
     if repaired.found is None and repaired.came is None:
@@ -282,7 +283,7 @@ def righted(turn: Turn, channel: str, found: dict[str, Taken]) -> Taken:
         return Taken(it.stands.repairer, Repaired(as_listed(read(body)), came=body), body, False)
     edge = edge_of(turn, channel) if len(turn.state.renditions) > 1 and not it.older else None
     text = up_to(body, edge) if edge is not None else body
-    repairer = copy(it.stands.repairer)
+    repairer = changed(it.stands.repairer)
     repairer.siblings = siblings_of(turn, channel, found) if len(turn.state.renditions) > 1 else None
     if it.is_other:
         repairer.held_since = float("-inf")
@@ -300,13 +301,6 @@ def go_on_after(repaired: Repaired, end: Numbers) -> None:
         repaired.found.segments[0].discontinuities = max(1, repaired.found.segments[0].discontinuities)
         count_on(PackagedSegment("", 0, number=end[0], discontinuity=end[1]), repaired.found.segments)
         repaired.came = repaired.accepted = None
-
-
-def with_hold(it: Repairer, since: float | None) -> Repairer:
-    """The repairer `it`, whose lists are held back `since` a moment."""
-    found = copy(it)
-    found.held_since = since
-    return found
 
 
 def siblings_of(turn: Turn, channel: str, found: dict[str, Taken]) -> Siblings:

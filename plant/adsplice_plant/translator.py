@@ -4,7 +4,6 @@ It has the state of one channel, or of all renditions of a programme: which brea
 A list that it was given before changes nothing."""
 from __future__ import annotations
 
-from copy import copy
 from dataclasses import dataclass, field
 from typing import Any, NamedTuple
 
@@ -15,6 +14,7 @@ from .packaged import DATE_RANGE, PackagedList
 from .playlist import instant_text, seconds_text
 from .signals import SPLICES
 from .splice import Kind
+from .values import changed
 
 MOST_LINES = 16  # told of one list
 MOST_STYLES = 32  # that are told as not translated
@@ -61,7 +61,7 @@ class Translator:
 
     def copy(self) -> Translator:
         """The same state, as a value of its own."""
-        found = copy(self)
+        found = changed(self)
         found.breaks, found.done, found.styles = self.breaks.copy(), dict(self.done), set(self.styles)
         found.firsts, found.lows = dict(self.firsts), dict(self.lows)
         found.seen = {name: {id_: set(said) for id_, said in it.items()} for name, it in self.seen.items()}

@@ -2,26 +2,16 @@
 from __future__ import annotations
 
 from collections.abc import Iterable
-from typing import Any, TypeVar
+from typing import Any
 
 from .events import Action, Note, Send, Store, Tell
 from .numbers import first_needed
 from .packaged import PackagedSegment
 from .state import Controller, Rendition, Standing, State
+from .values import changed
 
 TARGET = 1  # seconds of a target duration that isn't known
 MOST = 10.0  # seconds between two trials, whatever the target duration is
-
-
-Value = TypeVar("Value")
-
-
-def changed(it: Value, **members: Any) -> Value:
-    """The value `it`, a dataclass, with these `members` (as dataclasses.replace, which sets each of the others, too, and takes ten times as long)."""
-    found = object.__new__(type(it))
-    found.__dict__.update(it.__dict__)
-    found.__dict__.update(members)
-    return found
 
 
 class Turn:
