@@ -8,6 +8,7 @@ from typing import NamedTuple
 from . import packaged, playlist
 from .packaged import InitSection, Key, PackagedSegment
 
+FAR = 10  # segments after a list's end at which it may come next
 NEAR = 30  # segments by which the ends of two lists may be apart that are of one clock
 MOST_BORROWED = 100  # segments that a rendition takes from another one at a time
 
@@ -74,14 +75,14 @@ class Siblings:
 
     def place_at(self, instant: int | None) -> tuple[int, int] | None:
         """Another rendition's media number and discontinuity number at `instant`, by the segment that begins nearest to it. Past its last segment the
-        next ones are as long as that."""
+        next ones are as long as that; none if it is so far away that the two have other clocks."""
         known = [(abs(it.begins - instant), place == 0, it) for one in self.found for place, it in enumerate(reversed(one.newest()))
                  if it.begins is not None and instant is not None]
         if not known or instant is None:
             return None
         _, is_last, it = min(known, key=lambda one: one[0])
-        more = (instant - (it.begins or 0) + it.duration // 2) // it.duration if is_last and it.duration else 0
-        return it.number + max(0, more), it.discontinuity
+        more = max(0, (instant - (it.begins or 0) + it.duration // 2) // it.duration) if is_last and it.duration else 0
+        return (it.number + more, it.discontinuity) if more <= FAR else None
 
     def is_awaited(self, instant: int | None, duration: int) -> bool:
         """Whether a rendition that goes on hasn't come to the segment that begins at `instant`, of `duration` nanoseconds."""

@@ -104,13 +104,13 @@ def hexadecimal_bytes(text: str) -> bytes:
 
 
 def bytes_of(text: str) -> bytes:
-    """The bytes of the hexadecimal or base64 text `text`; raises Unread."""
+    """The bytes of the hexadecimal or base64 text `text`, in either alphabet (RFC 4648, 4 and 5); raises Unread."""
     if len(text) > 2 * MOST_BYTES + 2:
         raise Unread(f"a text of {len(text)} letters, and a section has at most {MOST_BYTES} bytes")
     if text.startswith(("0x", "0X")):
         return hexadecimal_bytes(text)
     try:
-        return base64.b64decode(text + "=" * (-len(text) % 4), validate=True)
+        return base64.b64decode(text.replace("-", "+").replace("_", "/") + "=" * (-len(text) % 4), validate=True)
     except (binascii.Error, ValueError):
         raise Unread("it is neither hexadecimal after 0x nor base64") from None
 

@@ -1,4 +1,5 @@
 """Tests of signals: sections, what each style means, and that exactly the segments that it means are replaced."""
+import base64
 import json
 import random
 import re
@@ -38,7 +39,9 @@ SAMPLES = (
 def test_samples_of_the_standard(room):
     for text, owed in SAMPLES:
         data = bytes.fromhex(text)
+        of_urls = base64.urlsafe_b64encode(data).decode().rstrip("=")
         assert crc(data) == 0 and splice.read(f"0x{text}").messages == splice.read(letters(data)).messages == owed, splice.read(f"0x{text}")
+        assert splice.read(of_urls).messages == owed and ("-" in of_urls or "_" in of_urls or of_urls == letters(data).rstrip("=")), of_urls
 
 
 def test_messages_of_sections(room):
