@@ -66,8 +66,9 @@ class Break:
 
     def has_turned(self, jump: Jump) -> bool:
         """Whether it is on the new clock after the `jump` already. Another rendition may come to it with the segment before or after."""
-        by = 0 if self.said is None else self.start - self.said
-        return self.clock is not None and (self.clock == jump.number or abs(self.clock - jump.number) <= NEAR_JUMPS and abs(by - jump.by) <= SECOND)
+        if self.clock is None or abs(self.clock - jump.number) > NEAR_JUMPS:
+            return False
+        return self.clock == jump.number or self.said is None or abs(self.start - self.said - jump.by) <= SECOND
 
     def is_past_plan(self, instant: int) -> bool:
         """Whether its planned end is before the `instant`; not if it has none."""
