@@ -18,6 +18,8 @@ import time
 
 MAX_SECONDS = 1.0  # that a good client waits, on a busy machine
 MAX_BEHIND_PUSHES = 0.1  # and a viewer beside clients that push, at the best of three tries
+MAX_BEHIND_OTHERS = 16  # so many times as long as one request of another channel takes: a push beside 128 clients that ask such
+LEAST_LARGE = 20  # bodies of 4 MiB that are answered in five seconds, if 64 clients send such without a pause
 # Seconds until a request was sent. A client that the machine holds up for longer is silent meanwhile: if no place is left, the
 # server gives it up for those that came after it, without a reply.
 LATE = 0.001
@@ -193,15 +195,20 @@ def begun(run_live, program, **given):
     return server
 
 
+def ranges_given(run_live, server):
+    """Gives a channel 24,000 breaks, of which each `why` tells, and another channel a list. Whether they were taken."""
+    list_of_one = b"#EXTM3U\n#EXT-X-TARGETDURATION:10\n#EXTINF:10,\na.ts\n"
+    tags = b"".join(b'#EXT-X-DATERANGE:ID="%05d",START-DATE="2024-05-01T12:00:00Z"\n' % number for number in range(24_000))
+    made = [server.put(b"/channels/ranges", run_live.BASE), server.put(b"/channels/a/origin", list_of_one),
+            server.put(b"/channels/ranges/origin", list_of_one.replace(b"#EXTINF", tags + b"#EXTINF"))]
+    return made == [run_live.CREATED, run_live.NO_CONTENT, run_live.NO_CONTENT]
+
+
 def behind_pushes(run_live, program, name):
     """How long a viewer's read of a list waits beside these."""
     server = begun(run_live, program, stderr=subprocess.DEVNULL)
     try:
-        list_of_one = b"#EXTM3U\n#EXT-X-TARGETDURATION:10\n#EXTINF:10,\na.ts\n"
-        tags = b"".join(b'#EXT-X-DATERANGE:ID="%05d",START-DATE="2024-05-01T12:00:00Z"\n' % number for number in range(24_000))
-        made = [server.put(b"/channels/ranges", run_live.BASE), server.put(b"/channels/a/origin", list_of_one),
-                server.put(b"/channels/ranges/origin", list_of_one.replace(b"#EXTINF", tags + b"#EXTINF"))]
-        if made != [run_live.CREATED, run_live.NO_CONTENT, run_live.NO_CONTENT]:
+        if not ranges_given(run_live, server):
             return ["the server didn't take its lists"]
         for _ in range(3):
             with Beside(server, LIVE) as good:
@@ -210,6 +217,70 @@ def behind_pushes(run_live, program, name):
             if found or good.longest <= MAX_BEHIND_PUSHES:
                 return found
         return [f"a viewer waited {good.longest:.3f} s"]
+    finally:
+        server.stop()
+
+
+def push_beside_another_channel(run_live, program):
+    """How long a push waits beside 128 clients that ask another channel: for one of their requests, and not for all."""
+    server = begun(run_live, program, stderr=subprocess.DEVNULL)
+    try:
+        if not ranges_given(run_live, server):
+            return ["the server didn't take its lists"]
+        begun_at = time.monotonic()
+        server.ask(REASONS)
+        most = MAX_BEHIND_OTHERS * (time.monotonic() - begun_at)
+        for _ in range(3):
+            crowd = threading.Thread(target=asking, args=(server, 128, REASONS, 4.0), daemon=True)
+            crowd.start()
+            time.sleep(1.0)  # (all of them ask by now)
+            longest = 0.0
+            for _ in range(10):
+                begun_at = time.monotonic()
+                answer = server.ask(PUSH.replace(b"large", b"a"))
+                longest = max(longest, time.monotonic() - begun_at)
+                if not answer.startswith(b"HTTP/1.1 409 "):
+                    return [f"a push beside others was answered {answer[:80]!r}"]
+            crowd.join()
+            print(f"a push beside 128 that ask another channel: the longest {longest:.3f} s, of {most:.3f} s")
+            if longest <= most:
+                return []
+        return [f"a push waited {longest:.3f} s for another channel's requests"]
+    finally:
+        server.stop()
+
+
+def large_bodies_end(run_live, program):
+    """Of 64 clients that send bodies of 4 MiB without a pause, which have no room together, some come to their end all the time.
+    And a push of 1 MB beside them is answered."""
+    server = begun(run_live, program, stderr=subprocess.DEVNULL)
+    try:
+        body = b"#EXTM3U\n#EXT-X-VERSION:7\n" + b"#" * (4_194_304 - 26)
+        large = b"PUT /channels/large/origin HTTP/1.1\r\nContent-Length: %d\r\n\r\n%s" % (len(body), body)
+        middle = b"PUT /channels/a/origin HTTP/1.1\r\nContent-Length: 1000000\r\n\r\n" + body[:1_000_000]
+        answered, end = [], time.monotonic() + 5.0
+
+        def again():
+            while time.monotonic() < end:
+                try:
+                    answered.append(server.ask(large)[:12])
+                except OSError:
+                    pass  # (it was given up)
+
+        them = [threading.Thread(target=again, daemon=True) for _ in range(64)]
+        for it in them:
+            it.start()
+        time.sleep(1.0)
+        try:
+            good = server.ask(middle)[:12]
+        except OSError:
+            good = b""
+        for it in them:
+            it.join()
+        count = sum(it.startswith(b"HTTP/1.1 4") for it in answered)
+        print(f"64 clients that send 4 MiB without a pause: {count} were answered; a push of 1 MB: {good!r}")
+        found = [f"{count} of their bodies were answered"] if count < LEAST_LARGE else []
+        return found if good.startswith(b"HTTP/1.1 422") else [*found, f"a push of 1 MB was answered {good!r}"]
     finally:
         server.stop()
 
@@ -262,6 +333,8 @@ def cases(run_live, program):
     """The crowds by name, each a function that gives what is wrong."""
     found = {f"beside {name}": lambda name=name: beside(run_live, program, name) for name in CROWDS}
     found |= {f"a viewer beside {name}": lambda name=name: behind_pushes(run_live, program, name) for name in PUSHES}
+    found["a push beside a crowd on another channel"] = lambda: push_beside_another_channel(run_live, program)
+    found["large bodies without a pause"] = lambda: large_bodies_end(run_live, program)
     found["no files left"] = lambda: no_files(run_live, program)
     found["faults that nobody reads"] = lambda: unread_faults(run_live, program)
     return found

@@ -8,7 +8,7 @@ use crate::client::{fault_at_socket, was_socket_granted};
 use crate::faults::Faults;
 use connections::{
     Admission, Arrivals, Call, Client, Connections, Line, NonBlocking, PLACES, Part, Phase, Seat,
-    Socket, Turn, When, ending_deadline, has_come, serving_deadline,
+    Socket, Turn, When, ending_deadline, has_come, quiet_deadline, serving_deadline,
 };
 use http_edge::{EdgeFault, MAX_CHANNELS};
 use mio::net::{TcpListener, TcpStream};
@@ -57,6 +57,10 @@ pub struct Clients {
     // Those that ask or are answered, and those whose reply is gone.
     served: Arrivals,
     ending: Arrivals,
+    // Those of which something came last, with the instants from which on they are quiet.
+    heard: Arrivals,
+    // Those whose next bytes have no room.
+    short: Arrivals,
     // Those whose requests are whole, and may take long.
     line: Line,
 }
@@ -69,6 +73,8 @@ impl Clients {
             vacant: seats,
             served: Arrivals::new(alloc, PLACES)?,
             ending: Arrivals::new(alloc, PLACES)?,
+            heard: Arrivals::new(alloc, PLACES)?,
+            short: Arrivals::new(alloc, PLACES)?,
             line: Line::new(alloc, PLACES)?,
         })
     }
@@ -198,10 +204,17 @@ impl Server {
         ensures { HasRun connections.old connections.new }
     {
         self.leave(connections, place);
-        self.clients.served.remove(place);
+        self.stop_serving(place);
         self.clients.ending.remove(place);
-        self.clients.line.leave(place);
         self.give_back(place);
+    }
+
+    // The client at a place is neither heard nor answered any more.
+    fn stop_serving(&mut self, place: usize) {
+        self.clients.served.remove(place);
+        self.clients.heard.remove(place);
+        self.clients.short.remove(place);
+        self.clients.line.leave(place);
     }
 
     fn give_back(&mut self, place: usize) {
@@ -236,8 +249,7 @@ impl Server {
         ensures { HasRun connections.old connections.new }
     {
         self.leave(connections, place);
-        self.clients.served.remove(place);
-        self.clients.line.leave(place);
+        self.stop_serving(place);
         let Some(Some(client)) = self.clients.at.get_mut(place) else {
             return;
         };
@@ -299,7 +311,7 @@ impl Server {
                 self.faults.tell(rt, fault.text());
                 self.finish(connections, place, false);
             }
-            Turn::Full => self.close(connections, place),
+            Turn::Full => self.wait_for_room(rt, connections, place),
         }
     }
 
@@ -335,16 +347,77 @@ impl Server {
         }
     }
 
-    // Makes room for bytes of the client at a place. Of the clients whose bytes are held, that which has asked longest
-    // is given up.
-    fn make_room(&mut self, rt: &HostRuntime, connections: &mut Connections, place: usize)
+    // Something came of the client at a place: for a while it isn't quiet.
+    fn note_heard(&mut self, place: usize) {
+        self.clients.heard.remove(place);
+        // (its memory was taken before: what isn't noted isn't given up for others)
+        let _ = self
+            .clients
+            .heard
+            .push(place, quiet_deadline(self.opened.now));
+    }
+
+    // The client at a place isn't heard on before there is room for its bytes. If there is no memory to note that, it is
+    // disconnected.
+    fn wait_for_room(&mut self, rt: &HostRuntime, connections: &mut Connections, place: usize)
         ensures { HasRun connections.old connections.new }
     {
-        let Some(other) = self.clients.served.for_bytes(connections) else {
+        self.clients.short.remove(place);
+        if self.clients.short.push(place, self.opened.now).is_err() {
+            self.faults.tell(rt, EdgeFault::OutOfMemory.text());
             self.close(connections, place);
+        }
+    }
+
+    // For each client whose bytes have no room one is given up that is quiet, and of whose bytes some are held.
+    fn make_room(&mut self, rt: &HostRuntime, connections: &mut Connections)
+        ensures { HasRun connections.old connections.new }
+    {
+        for _ in 0..self.clients.short.len() {
+            let quiet = self
+                .clients
+                .heard
+                .for_bytes(connections, self.opened.now, &self.clients.line);
+            let Some(place) = quiet else {
+                return;
+            };
+            self.give_up(rt, connections, place);
+        }
+    }
+
+    // Those whose bytes had no room are heard on, as far as there is room now.
+    fn hear_short(&mut self, rt: &HostRuntime, connections: &mut Connections, block: &mut [u8])
+        requires { 0 < length block.old }
+        ensures { HasRun connections.old connections.new }
+    {
+        for _ in 0..self.clients.short.len() {
+            let short = self
+                .clients
+                .short
+                .overdue(self.opened.now, &self.clients.line);
+            let Some(place) = short else {
+                return;
+            };
+            self.clients.short.remove(place);
+            self.on_ready(rt, connections, place, block);
+        }
+    }
+
+    // The same if fewer bytes are held than `held`.
+    fn hear_short_if_less(
+        &mut self,
+        rt: &HostRuntime,
+        connections: &mut Connections,
+        held: usize,
+        block: &mut [u8],
+    )
+        requires { 0 < length block.old }
+        ensures { HasRun connections.old connections.new }
+    {
+        if connections.held() >= held {
             return;
-        };
-        self.give_up(rt, connections, other);
+        }
+        self.hear_short(rt, connections, block);
     }
 
     // Gives the client that is called its turn.
@@ -359,23 +432,17 @@ impl Server {
         ensures { HasRun connections.old connections.new }
     {
         let place = call.place();
-        for _ in 0..PLACES {
-            let Some(Some(client)) = self.clients.at.get_mut(place) else {
-                return;
-            };
-            if client.place() != place {
-                return;
-            }
-            let was_ending = client.is_ending();
-            let was_asking = connections.is_asking(place);
-            let turn = client.take_turn(call, connections, block);
-            if !matches!(turn, Turn::Full) {
-                self.settle(rt, connections, place, turn, was_ending);
-                self.time_reply(rt, connections, place, was_asking);
-                return;
-            }
-            self.make_room(rt, connections, place);
+        let Some(Some(client)) = self.clients.at.get_mut(place) else {
+            return;
+        };
+        if client.place() != place {
+            return;
         }
+        let was_ending = client.is_ending();
+        let was_asking = connections.is_asking(place);
+        let turn = client.take_turn(call, connections, block);
+        self.settle(rt, connections, place, turn, was_ending);
+        self.time_reply(rt, connections, place, was_asking);
     }
 
     // Reads a part of a request. Whether its client may be heard on at once.
@@ -390,22 +457,18 @@ impl Server {
         ensures { HasRun connections.old connections.new }
     {
         let place = part.place();
-        for _ in 0..PLACES {
-            let Some(Some(client)) = self.clients.at.get_mut(place) else {
-                return false;
-            };
-            if client.place() != place {
-                return false;
-            }
-            match client.hear_part(part, connections, block) {
-                Turn::Goes => return true,
-                Turn::Full => self.make_room(rt, connections, place),
-                turn => {
-                    self.settle(rt, connections, place, turn, false);
-                    return false;
-                }
-            }
+        let Some(Some(client)) = self.clients.at.get_mut(place) else {
+            return false;
+        };
+        if client.place() != place {
+            return false;
         }
+        let turn = client.hear_part(part, connections, block);
+        if turn == Turn::Goes {
+            self.note_heard(place);
+            return true;
+        }
+        self.settle(rt, connections, place, turn, false);
         false
     }
 
@@ -748,11 +811,14 @@ impl Server {
         }
         self.close_late(connections);
         self.give_up_late(rt, connections, block);
+        self.make_room(rt, connections);
+        self.hear_short(rt, connections, block);
     }
 
     /// A round over `connections`: of the clients that `events` name, and of those that are let in then, each has its
     /// turn if it reads what stands, or is answered. Of the others the first one has its request applied.
-    /// Then those are given up whose time is up, and of whom nothing is unread. `block` is room for a read.
+    /// Those whose bytes had no room are heard on if there is some now. Then those are given up whose time is up, and of whom
+    /// nothing is unread. `block` is room for a read.
     pub fn round(
         &mut self,
         rt: &HostRuntime,
@@ -763,9 +829,11 @@ impl Server {
         requires { 0 < length block.old }
         ensures { HasRun connections.old connections.new }
     {
+        let held = connections.held();
         self.serve_events(rt, connections, events, block);
         self.let_in(rt, connections, block);
         self.call_line(rt, connections, block);
+        self.hear_short_if_less(rt, connections, held, block);
         self.tick(rt, connections, block);
     }
 }

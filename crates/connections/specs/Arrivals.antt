@@ -61,6 +61,10 @@ first_that test arrivals = option_map arrival_place (find test arrivals)
 abbrev pub gives_place : State → List Arrival → List Arrival → Option ℕ
 gives_place s served ending = option_or (first_that (asks s) served) (option_or (first_client_arrival ending) (first_client_arrival served))
 
--- for bytes that have no room it is the client that has asked longest, of those whose bytes are held
-abbrev pub gives_room : State → List Arrival → Option ℕ
-gives_room s served = first_that (holds s) served
+-- its bytes are held, nothing came of it for its time, and it doesn't wait for its turn
+abbrev pub is_quiet : State → Instant → LineState → Arrival → Bool
+is_quiet s now line arrival = is_overdue now line arrival && holds s arrival
+
+-- for bytes that have no room the client is given up that is quiet, and of which something came longest ago
+abbrev pub gives_room : State → Instant → LineState → List Arrival → Option ℕ
+gives_room s now line heard = first_that (is_quiet s now line) heard

@@ -5,6 +5,11 @@ use Rattle.std.specs.Prelude.{ℕ}
 abbrev pub most_held : ℕ
 most_held = 67108864
 
+-- so many of them are for all connections alike: what is left has room for one request more of 16,384 and 4,194,304 bytes, and a
+-- read of 65,536, for the connection of which most are held
+abbrev pub most_shared : ℕ
+most_shared = 62832640
+
 -- the places for connections
 abbrev pub place_count : ℕ
 place_count = 512
@@ -16,6 +21,10 @@ serving_nanos = 10000000000
 -- how long a client may take to end, once its reply is gone: a quarter of a second, in nanoseconds
 abbrev pub ending_nanos : ℕ
 ending_nanos = 250000000
+
+-- how long nothing may have come of a client whose bytes are held, if others need the room: a second, in nanoseconds
+abbrev pub quiet_nanos : ℕ
+quiet_nanos = 1000000000
 
 -- how often a client is read, and written to, in its turn at the most
 abbrev pub reads_in_turn : ℕ

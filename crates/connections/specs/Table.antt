@@ -1,5 +1,6 @@
 -- The connections by their places, and what happens to them.
-use Rattle.std.specs.Prelude.{◌≡◌, ◌≢◌, ℕ, List, [], ◌++◌, length, slice_index_or, Option, Some, None, sum_by}
+use Rattle.std.specs.Prelude.{◌≡◌, ◌≢◌, ℕ, ◌+◌, nat_le, Bool, ◌||◌, List, [], ◌++◌, length, slice_index_or, Option, Some, None, sum_by}
+use Rattle.std.specs.List.{list_all}
 use Rattle.http_edge.specs.Edges.{NamedChannel}
 use Rattle.connections.specs.declared.conversation.Conversation.{Conversation}
 use Rattle.connections.specs.declared.conversation.Conversation.TheVariants.{Asking, Answering}
@@ -7,6 +8,7 @@ use Rattle.connections.specs.declared.table.Phase.{Phase}
 use Rattle.connections.specs.declared.table.Phase.TheVariants.{Vacant}
 use Rattle.connections.specs.declared.table.Phase.TheVariants as phase
 use Rattle.connections.specs.Conversing.{Goes}
+use Rattle.connections.specs.Limits.{most_shared}
 
 -- the edge, and each place: nobody, or a connection
 pub record State : Type 0 where
@@ -26,6 +28,15 @@ held_of (Some (Answering rest status)) = 0
 
 abbrev pub held_in : List (Option Conversation) → ℕ
 held_in places = sum_by held_of places
+
+-- of no other connection more are held than of this one
+abbrev pub holds_most : State → ℕ → Bool
+holds_most s place = list_all (λ it. nat_le (held_of it) (held_of (at s place))) s.places
+
+-- so many bytes more of a request that isn't whole are taken: those of the connection that is nearest its end, and of the others as
+-- long as they leave it room
+abbrev pub has_room : State → ℕ → ℕ → Bool
+has_room s place count = nat_le (held_in s.places + count) most_shared || holds_most s place
 
 -- what was read of a request that isn't whole
 abbrev pub part_of_request : Option Conversation → List ℕ

@@ -1,7 +1,7 @@
 //! The order in which connections came, and which of them is given up if there is no room.
 ghost use Rattle.std.specs.Prelude.{◌≡◌, [], ◌∷◌, ◌++◌, filter, option_map, length, IfOk, OnOk, OnErr};
 ghost use Rattle.std.specs.List.{find};
-ghost use Rattle.connections.specs.Arrivals.{is_elsewhere, has_come, is_overdue, asks, holds, first_client_arrival, first_that, gives_place, gives_room};
+ghost use Rattle.connections.specs.Arrivals.{is_elsewhere, has_come, is_overdue, is_quiet, asks, first_client_arrival, first_that, gives_place, gives_room};
 
 use crate::line::Line;
 use crate::table::{Connections, Phase};
@@ -70,11 +70,23 @@ fn first_asking_client(arrivals: &[Arrival], connections: &Connections) -> Optio
     None
 }
 
-fn first_holding_client(arrivals: &[Arrival], connections: &Connections) -> Option<usize>
-    ensures { result ≡ first_that (holds connections.now) arrivals.now }
+// Whether bytes of `arrival` are held, nothing came of it for its time, and it doesn't stand in `line`.
+fn is_client_quiet(arrival: &Arrival, connections: &Connections, now: Instant, line: &Line) -> bool
+    ensures { result ≡ is_quiet connections.now now line.now arrival.now }
+{
+    is_client_overdue(arrival, now, line) && connections.held_at(arrival.place) > 0
+}
+
+fn first_quiet_client(
+    arrivals: &[Arrival],
+    connections: &Connections,
+    now: Instant,
+    line: &Line,
+) -> Option<usize>
+    ensures { result ≡ first_that (is_quiet connections.now now line.now) arrivals.now }
 {
     for arrival in arrivals {
-        if connections.held_at(arrival.place) > 0 {
+        if is_client_quiet(arrival, connections, now, line) {
             return Some(arrival.place);
         }
     }
@@ -146,12 +158,13 @@ impl Arrivals {
         first_asking_client(self.arrivals.as_slice(), connections)
     }
 
-    /// The place of the client that is given up if there is no room for bytes: of those that `connections` hold bytes
-    /// of, the one that has asked longest.
-    pub fn for_bytes(&self, connections: &Connections) -> Option<usize>
-        ensures { result ≡ gives_room connections.now self.now }
+    /// The place of the client that is given up if there is no room for bytes. The arrivals are in the order in which something came
+    /// of them last, with the instants from which on they are quiet. Of those that `connections` hold bytes of, that don't stand in
+    /// `line` and that are quiet at `now`, it is the first.
+    pub fn for_bytes(&self, connections: &Connections, now: Instant, line: &Line) -> Option<usize>
+        ensures { result ≡ gives_room connections.now now line.now self.now }
     {
-        first_holding_client(self.arrivals.as_slice(), connections)
+        first_quiet_client(self.arrivals.as_slice(), connections, now, line)
     }
 
     /// The place of the client that is given up if another comes and no place is vacant: the one that has asked

@@ -1,11 +1,11 @@
 //! A client, from its first byte to its end. Its device is read and written to here alone.
-ghost use Rattle.std.specs.Prelude.{◌≡◌, ◌<◌, ◌+◌, ◌≢◌, [], Some, None, length, max, true, false, IfSome};
+ghost use Rattle.std.specs.Prelude.{◌≡◌, ◌<◌, ◌+◌, ◌≢◌, ◌⊎◌, [], Some, None, length, max, min, true, false, IfSome};
 ghost use Rattle.connections.specs.declared.devices.Passage.TheVariants.{WouldWait, HasFailed};
 ghost use Rattle.connections.specs.Arrivals.{is_asking};
 ghost use Rattle.connections.specs.Clients.{AreSent, ConnectionHasEnded, HasMoved, HasToWait, HasTurned, HasTurnedUntil, IfAtOnce, IfInLine, IfLookFailed, IfPart, IsShort, SendsPart, SendsRead, SendsWhole};
 ghost use Rattle.connections.specs.Limits.{most_held, drains_in_turn, writes_in_turn};
 ghost use Rattle.connections.specs.Runs.{HasRun};
-ghost use Rattle.connections.specs.Table.{Happens, at, departure, held_in, left_of};
+ghost use Rattle.connections.specs.Table.{Happens, at, departure, has_room, held_in, left_of};
 ghost use Rattle.connections.specs.Turns.{HasNoMore, IfGone, IsHeardOut, MovedEach, Stays};
 ghost use Rattle.connections.specs.Wires.{GoesHeard, HasHeard, HasHeardAtMost};
 
@@ -188,9 +188,8 @@ impl<T: Looking> Client<T> {
 }
 
 impl<T: Incoming> Client<T> {
-    /// Reads once what `when` saw of the client's request, which isn't whole with it: no more bytes than those that it saw, or one
-    /// to see an end. `Goes` if it gave bytes, which are what the client said to `connections`; `Waits` if it would wait; `Full` if
-    /// so many bytes have no room. `block` is room for a read.
+    /// Reads once `part`, which `when` saw of the client's request: no more bytes than those that it saw, or one to see an end. `Goes` if it gave bytes, which are what the client said to `connections`; `Waits` if it would wait; `Full` if
+    /// so many bytes have no room, as `Connections::has_room` says. `block` is room for a read.
     pub fn hear_part(
         &mut self,
         part: &Part,
@@ -211,8 +210,13 @@ impl<T: Incoming> Client<T> {
         ensures waits { result ≡ Turn.Waits →
             (T.stand self.new.device).calls.last ≡ Some WouldWait }
         ensures stays { result ≡ Turn.Waits → connections.new ≡ connections.old }
-        ensures full { result ≡ Turn.Full → (most_held < held_in connections.old.places
-            + max 1 part.now.count) × (connections.new ≡ connections.old) }
+        ensures room_left { result ≡ Turn.Goes → has_room connections.old self.old.place
+            (min (max 1 part.now.count) (length block.old)) ≡ true }
+        ensures full { result ≡ Turn.Full → (connections.new ≡ connections.old)
+            × ((has_room connections.old self.old.place
+            (min (max 1 part.now.count) (length block.old)) ≡ false)
+            ⊎ (most_held < held_in connections.old.places + max 1 part.now.count)) }
+        ensures unread { result ≡ Turn.Full → self.new ≡ self.old }
         ensures gone { IfGone result (λ fault. GoesHeard fault (T.stand self.old.device)
             (T.stand self.new.device)
             (at connections.old self.old.place)) }
@@ -220,6 +224,9 @@ impl<T: Incoming> Client<T> {
         ensures run { HasRun connections.old connections.new }
     {
         let most = part.count.max(1).min(block.len());
+        if !connections.has_room(self.seat.place(), most) {
+            return Turn::Full;
+        }
         match hear(
             &mut self.device,
             connections,

@@ -19,7 +19,7 @@ pub use admission::Admission;
 pub use arrivals::{Arrival, Arrivals, has_come};
 pub use client::Client;
 pub use conversation::Conversation;
-pub use deadlines::{ending_deadline, serving_deadline};
+pub use deadlines::{ending_deadline, quiet_deadline, serving_deadline};
 pub use devices::{Ending, Incoming, Looking, NonBlocking, Outgoing, Passage, Socket};
 pub use line::{Call, Line, Part, Standing, When};
 pub use seats::Seat;

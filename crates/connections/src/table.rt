@@ -1,5 +1,6 @@
 //! The connections by their places.
-ghost use Rattle.std.specs.Prelude.{◌≡◌, ◌<◌, ◌≤◌, ◌+◌, ◌++◌, [], true, None, Some, length, take, drop, replicate, IfOk, IfErr, OnOk, OnErr, IsErrOf};
+ghost use Rattle.std.specs.Prelude.{◌≡◌, ◌<◌, ◌≤◌, ◌+◌, ◌++◌, [], true, None, Some, nat_le, length, take, drop, replicate, IfOk, IfErr, OnOk, OnErr, IsErrOf};
+ghost use Rattle.std.specs.List.{list_all};
 ghost use Rattle.http_edge.specs.Edges.{RepresentsRequests};
 ghost use Rattle.http_edge.specs.Waiting.{turn_of};
 ghost use Rattle.http_edge.specs.declared.serving.EdgeFault.TheVariants.{TooManyReads};
@@ -8,7 +9,7 @@ ghost use Rattle.connections.specs.Inner.Giving.{IsFaultOfGiving};
 ghost use Rattle.connections.specs.Inner.Outlooks.{IsOutlook, outlook_of_request};
 ghost use Rattle.connections.specs.Limits.{most_held, place_count};
 ghost use Rattle.connections.specs.Arrivals.{is_asking};
-ghost use Rattle.connections.specs.Table.{at, held_of, held_in, left_of, part_of_request, with_left, phase_of, PutsAtPlace, Happens};
+ghost use Rattle.connections.specs.Table.{at, held_of, held_in, has_room, left_of, part_of_request, with_left, phase_of, PutsAtPlace, Happens};
 ghost use Rattle.connections.specs.Table.{arrival, request_bytes, reply_bytes, departure};
 ghost use Rattle.connections.specs.Seats.{places_below};
 
@@ -22,6 +23,10 @@ use std::marker::Model;
 
 /// The most bytes of requests that aren't whole, over all connections.
 pub const MAX_HELD: usize = 67_108_864;
+
+// So many of them are for all connections alike. The rest is for the one of which most are held: it has room for a longest
+// request, and a read.
+const MAX_SHARED: usize = 62_832_640;
 
 /// The places for connections. A process may have 1,024 files open, if nobody says otherwise.
 pub const PLACES: usize = 512;
@@ -83,6 +88,18 @@ fn bytes_held_by_connection(it: &Option<Conversation>) -> usize
         Some(Conversation::Asking(arriving, _)) => arriving.len(),
         _ => 0,
     }
+}
+
+// Whether of none of these connections more bytes are held than so many.
+fn holds_most_bytes(places: &[Option<Conversation>], most: usize) -> bool
+    ensures { result ≡ list_all (λ it. nat_le (held_of it) most) places.now }
+{
+    for it in places {
+        if bytes_held_by_connection(it) > most {
+            return false;
+        }
+    }
+    true
 }
 
 // The places, all of them vacant.
@@ -159,6 +176,15 @@ impl Connections {
             Some(it) => bytes_held_by_connection(it),
             None => 0,
         }
+    }
+
+    /// Whether `count` bytes more are taken of the request of the client at `place`, from 0, that isn't whole with them. Of the client
+    /// of which most are held they always are, and of others only as long as they leave it room for its own: so it comes to its end.
+    pub fn has_room(&self, place: usize, count: usize) -> bool
+        ensures { result ≡ has_room self.now place count }
+    {
+        let shared = self.held.saturating_add(count) <= MAX_SHARED;
+        shared || holds_most_bytes(self.places.as_slice(), self.held_at(place))
     }
 
     /// What the request of the client at `place` is with `bytes`, the next ones, which are left where they are. Fails only if an

@@ -1,5 +1,5 @@
 -- What bytes ask, and what they ask with more after them.
-use Rattle.std.proofs.Common.{◌≡◌, ℕ, ◌≤◌, Bool, List, [], ◌++◌, take, drop, length, codes, bytes_eq, refl, sym, ap, subst, ◌∙◌, inl, inr, arith, true≢false, append_assoc}
+use Rattle.std.proofs.Common.{◌≡◌, ℕ, ◌≤◌, Bool, List, [], ◌++◌, take, drop, length, codes, bytes_eq, sym, ap, subst, ◌∙◌, inl, inr, arith, true≢false, append_assoc}
 use Rattle.std.specs.Prelude.{Option, Some, None, IsSomeAnd}
 use Rattle.std.specs.Io.KnownBytes.{Consumes}
 use Rattle.byte_streams.specs.Stands.{SourceStand}

@@ -1,5 +1,5 @@
 -- Many clients at once: who is given up for whom, what was said and taken, and the limits.
-use Rattle.std.specs.Prelude.{ℕ, zero, suc, ◌-◌, ◌^◌, Bool, true, false, List, [], ◌∷◌, codes, Some, None}
+use Rattle.std.specs.Prelude.{ℕ, zero, suc, ◌-◌, ◌^◌, Bool, true, false, List, [], ◌∷◌, codes, replicate, Option, Some, None}
 use Rattle.std.specs.declared.time.Instant.{Instant}
 use Rattle.byte_streams.specs.Devices.{one_more}
 use Rattle.live_channel.specs.Channel.{Channel}
@@ -8,19 +8,20 @@ use Rattle.http_edge.specs.Waiting.{turn_of}
 use Rattle.connections.specs.Devices.{one_call}
 use Rattle.connections.specs.declared.devices.Passage.TheVariants.{WouldWait, HasFailed}
 use Rattle.connections.specs.declared.arrivals.Arrival.{Arrival}
+use Rattle.connections.specs.declared.conversation.Conversation.{Conversation}
 use Rattle.connections.specs.declared.conversation.Conversation.TheVariants.{Asking, Answering}
 use Rattle.connections.specs.Arrivals.{gives_place, gives_room}
-use Rattle.connections.specs.Limits.{most_held, place_count, serving_nanos, ending_nanos, reads_in_turn, writes_in_turn, most_written, drains_in_turn}
+use Rattle.connections.specs.Limits.{most_held, most_shared, place_count, serving_nanos, quiet_nanos, ending_nanos, reads_in_turn, writes_in_turn, most_written, drains_in_turn}
 use Rattle.connections.specs.declared.line.Standing.{Standing}
 use Rattle.connections.specs.Lines.{LineState, LineEvent, joins, leaves, calls, after, line_after, next, place_of, ahead, turns_had}
 use Rattle.connections.specs.Runs.{visits, said, was_sent}
-use Rattle.connections.specs.Table.{State, ClientEvent, arrival, request_bytes, reply_bytes, departure, held_in, left_of, part_of_request, with_left}
+use Rattle.connections.specs.Table.{State, ClientEvent, arrival, request_bytes, reply_bytes, departure, has_room, held_in, left_of, part_of_request, with_left}
 use Rattle.connections.specs.Turns.{bytes_of_pieces}
 use Rattle.worked_examples.specs.Tables.{HasValues}
 
--- docs/OPERATING.md, "Slow clients": 64 MiB, 512 places, 10 s, a quarter of a second, and the reads and writes of a turn
+-- docs/OPERATING.md, "Slow clients": 64 MiB, of which a longest request and a read are for one, 512 places, 10 s, a second, a quarter of a second, and the reads and writes of a turn
 abbrev pub ClientsAreLimited : Type 0
-ClientsAreLimited = HasValues (λ (n : ℕ). n) ((most_held, 67108864) ∷ (place_count, 512) ∷ (serving_nanos, 10000000000) ∷ (ending_nanos, 250000000) ∷ (reads_in_turn, 4)
+ClientsAreLimited = HasValues (λ (n : ℕ). n) ((most_held, 67108864) ∷ (most_shared, 67108864 - 16384 - 4194304 - 65536) ∷ (place_count, 512) ∷ (serving_nanos, 10000000000) ∷ (quiet_nanos, 1000000000) ∷ (ending_nanos, 250000000) ∷ (reads_in_turn, 4)
     ∷ (writes_in_turn, 4) ∷ (most_written, 65536) ∷ (drains_in_turn, 32) ∷ [])
 
 -- place 0: a client with a reply on its way; 1: one that has said nothing; 2: one that has said two bytes; 3: nobody
@@ -29,6 +30,9 @@ three = record { edge = []; places = Some (Answering (codes "xyz") 200) ∷ Some
 
 abbrev pub at_place : Instant → ℕ → Arrival
 at_place until place = record { place = place; until = until }
+
+abbrev pub standing : ℕ → ℕ → Standing
+standing place channel = record { place = place; channel = channel }
 
 -- for one that comes, the client is given up that has asked longest; if none asks, the one that has been ending longest; and
 -- only if all have a reply on its way, the one that came first
@@ -40,10 +44,30 @@ abbrev pub RepliesAreGivenUpLast : Type 0
 RepliesAreGivenUpLast = (until : Instant) → HasValues (λ (served : List Arrival). gives_place three served []) (
     (at_place until 0 ∷ at_place until 1 ∷ [], Some 1) ∷ (at_place until 0 ∷ [], Some 0) ∷ ([], None) ∷ [])
 
--- for bytes that have no room, it is the client that has asked longest of those whose bytes are held
+-- so many seconds after the clock's start
+abbrev pub second : ℕ → Instant
+second n = record { since_start = record { secs = n; nanos = 0 } }
+
+-- at the second 7, with the client of place 2 in line or not: those that are at places 0 and 1 hold no bytes
+abbrev pub room_at_seven : List Standing × List Arrival → Option ℕ
+room_at_seven it = gives_room three (second 7) (record { standing = it.0; turns = [] }) it.1
+
+-- for bytes that have no room it is the first whose bytes are held, of which nothing came for its time, and that doesn't stand in line
 abbrev pub RoomIsGiven : Type 0
-RoomIsGiven = (until : Instant) → HasValues (gives_room three) (
-    (at_place until 0 ∷ at_place until 1 ∷ at_place until 2 ∷ [], Some 2) ∷ (at_place until 0 ∷ at_place until 1 ∷ [], None) ∷ [])
+RoomIsGiven = HasValues room_at_seven (
+    (([], at_place (second 5) 0 ∷ at_place (second 5) 1 ∷ at_place (second 7) 2 ∷ []), Some 2)
+    ∷ (([], at_place (second 5) 0 ∷ at_place (second 8) 2 ∷ []), None) ∷ (([], at_place (second 5) 0 ∷ at_place (second 5) 1 ∷ []), None)
+    ∷ ((standing 2 0 ∷ [], at_place (second 5) 2 ∷ []), None) ∷ [])
+
+-- a client that asks, at a place that is one of many, of which so many bytes are held
+abbrev pub asking : ℕ → Option Conversation
+asking count = Some (Asking (replicate count 120) 1)
+
+-- of the second place most bytes are held, 3 of 5: it has room past the bound for all, and so has another that has as many. Others
+-- have room below it
+abbrev pub RoomIsLeft : Type 0
+RoomIsLeft = HasValues (λ (one : ℕ × ℕ). has_room (record { edge = []; places = asking 2 ∷ asking 3 ∷ None ∷ [] }) one.0 one.1) (
+    ((0, 62832635), true) ∷ ((0, 62832636), false) ∷ ((1, 62832636), true) ∷ ((2, 62832636), false) ∷ ((2, 5), true) ∷ [])
 
 abbrev pub BytesAreHeld : Type 0
 BytesAreHeld = HasValues held_in ((three.places, 2) ∷ (Some (Asking (codes "GE") 1) ∷ Some (Asking (codes "PUT") 2) ∷ [], 5)
@@ -115,9 +139,6 @@ TurnsAreTaken = (channel : Channel) → HasValues (λ (asked : Bool × List ℕ)
     ((true, codes "/channels/a/live.m3u8"), None) ∷ ((true, codes "/channels/c/live.m3u8?x=1"), None)
     ∷ ((false, codes "/channels/b/live.m3u8"), Some 1) ∷ ((true, codes "/channels/a/why"), Some 0) ∷ ((true, codes "/channels/b/why?x=1"), Some 1)
     ∷ ((false, codes "/channels/b/origin"), Some 1) ∷ ((false, codes "/channels/b"), Some 1) ∷ ((false, codes "/channels/c"), Some 64) ∷ ((true, codes "/other"), Some 64) ∷ [])
-
-abbrev pub standing : ℕ → ℕ → Standing
-standing place channel = record { place = place; channel = channel }
 
 -- three stand for the channel 1, one for 0 and one for none; the turn of 0 is longest ago, and that of 64 came last
 abbrev pub line : LineState

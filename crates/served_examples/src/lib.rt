@@ -5,7 +5,7 @@
 
 ghost use Rattle.served_examples.specs.Requests.{NamesAreChecked, QueriesArePassedOver, RoutesAreFound, OtherPathsAreNone, BodiesAreFramed, HeadsAreFramed, MessagesAreLimited, RepliesAreWritten, HeadsAreSent, HeadRepliesAreWritten, AllFieldsCount};
 ghost use Rattle.served_examples.specs.Answers.{ChannelsAreMade, RefreshesAreAnswered, PlaylistsAreRead, DecisionsAreAnswered, DecisionFaultsAreAnswered, RefreshFaultsAreAnswered, WordsOfWhyAreTold, ReasonsAreAnswered, TablesAreLimited, ChannelsAreApart, LongNamesAreServed, LongNamesAreApart, RequestsAreServed, RequestsWereAsked, RequestsWereAnswered, OthersStay, BodyFaultsAreAnswered, BodyFaultsAreTold, ChannelsAreOnce};
-ghost use Rattle.served_examples.specs.Clients.{ClientsAreLimited, PlacesAreGiven, RepliesAreGivenUpLast, RoomIsGiven, BytesAreHeld, RepliesAreLeft, PartsAreRead, BytesAreTaken, VisitsAreCounted, WordsAreSaid, BytesAreSent, PiecesAreJoined, CallsAreCounted, FailuresAreCounted, OthersAreApart, TurnsAreTaken, ChannelsHaveTurns, TurnsAreCounted, PlacesAhead, ClientsJoin, ClientsLeave};
+ghost use Rattle.served_examples.specs.Clients.{ClientsAreLimited, PlacesAreGiven, RepliesAreGivenUpLast, RoomIsGiven, RoomIsLeft, BytesAreHeld, RepliesAreLeft, PartsAreRead, BytesAreTaken, VisitsAreCounted, WordsAreSaid, BytesAreSent, PiecesAreJoined, CallsAreCounted, FailuresAreCounted, OthersAreApart, TurnsAreTaken, ChannelsHaveTurns, TurnsAreCounted, PlacesAhead, ClientsJoin, ClientsLeave};
 ghost use Rattle.served_examples.specs.Gone.{ChannelsAreMadeOnce};
 ghost use Rattle.served_examples.specs.Kept.{StatesAreMeant, SegmentsAreHeld, StoresAreReplaced, TextsAreKept, RefreshesAreOwed, LackOfMemoryIsSeen, DecisionsAreStored, ShownAreMeant, RunsBegin, EndsAreTold, FirstNumbersAreTold, LastWindowsAreTold};
 ghost use Rattle.served_examples.specs.Runs.{ReadsAreLimited, FilesAreTold, FilesAreGiven, BytesAreTold, UrisAreWhole, ReadNumbersRise, ReadSegmentsAreWritten, LinesKeepTheirLimit, InputsAreReadUnderBases, RunsAreTold};
@@ -54,6 +54,7 @@ pub fn clients_have_their_values()
     ensures places_are_given { PlacesAreGiven }
     ensures replies_are_given_up_last { RepliesAreGivenUpLast }
     ensures room_is_given { RoomIsGiven }
+    ensures room_is_left { RoomIsLeft }
     ensures bytes_are_held { BytesAreHeld }
     ensures replies_are_left { RepliesAreLeft }
     ensures parts_are_read { PartsAreRead }

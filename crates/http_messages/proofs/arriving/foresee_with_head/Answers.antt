@@ -1,4 +1,4 @@
-use Rattle.std.proofs.Common.{◌≡◌, ◌≤◌, ◌<◌, ◌++◌, length, drop, bytes_eq, codes, arith, length-drop, length-append}
+use Rattle.std.proofs.Common.{◌≡◌, ◌≤◌, ◌++◌, length, drop, bytes_eq, codes, arith, length-drop, length-append}
 use Rattle.http_messages.proofs.Fronts.{no_body_yet}
 use Rattle.http_messages.proofs.Whole.{asks_for}
 use Rattle.http_messages.proofs.arriving.foresee_with_head.Goals as goal

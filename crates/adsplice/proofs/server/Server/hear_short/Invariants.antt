@@ -1,5 +1,5 @@
 use Rattle.connections.specs.Runs.{HasRun}
-use Rattle.adsplice.proofs.server.Server.serve.Given as goal
+use Rattle.adsplice.proofs.server.Server.hear_short.Given as goal
 
 abbrev pub invariant-loop : goal.invariant-loop
 invariant-loop l = HasRun l.fn.connections l.connections
