@@ -1,6 +1,7 @@
 """A packager whose truth is known: what of the programme each of its segments has."""
 from __future__ import annotations
 
+import re
 from collections import deque
 from typing import NamedTuple
 
@@ -15,6 +16,8 @@ OUT = "0xFC302000000000000000FFF00F05000000017FFFFE002932E00001" + "0" * 16
 FRAMES = 1024_000, 48_000  # milliseconds of an AAC frame, as a fraction
 KEPT = 40  # lists that a cache may still have
 BASE = "http://o.example"
+URI = re.compile(r"(?m)^([0-9]+/[0-9]+\.ts)$")
+NEWEST = re.compile(r"(.*#EXTINF:)([0-9.]+)(,.*)", re.S)
 
 
 class Cut(NamedTuple):
@@ -27,6 +30,11 @@ class Cut(NamedTuple):
     text: str
     clock: int
     steps: int
+
+
+def plain(uri: str, name: str) -> str:
+    """The `uri` of a segment of the rendition `name` as its packager has it, however that is spelled in a list."""
+    return "/".join([BASE, name, *uri.partition("?")[0].split("/")[-2:]])
 
 
 def instant(milliseconds: int) -> str:
@@ -130,10 +138,23 @@ class Packager:
             text = text.replace(".ts\n", f".ts?t={self.token}\n")
         elif self.spelled == 2:
             text = text.replace("\n", "\r\n")
+        elif self.spelled:
+            self.token += 1
+            text = self.otherwise(text)
         body = text.encode()
         if not self.bodies or self.bodies[-1][1] != body:
             self.bodies.append((now, body))
         return body
+
+    def otherwise(self, text: str) -> str:
+        """The list `text` with a token in the folders of its segments (3), with hosts by turns (4), or with the newest segment's duration before that is
+        right (5) or as far as it has come (6)."""
+        if self.spelled == 3:
+            return URI.sub(rf"t{self.token}/\1", text)
+        if self.spelled == 4:
+            return URI.sub(rf"http://o{self.token % 2}.example/{self.name}/\1", text)
+        by = 1.05 if self.spelled == 5 else 0.6
+        return NEWEST.sub(lambda it: f"{it[1]}{float(it[2]) * by:.3f}{it[3]}", text)
 
     def older(self, now: int, by: int) -> bytes | None:
         """The list that it had so many milliseconds before `now`."""

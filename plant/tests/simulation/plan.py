@@ -65,6 +65,8 @@ class Plan:
         return f"p-{name}" if len(self.names) > 1 else "p"
 
 
+SPELLED = 1_000_000  # from this seed on packagers spell their segments otherwise in each list, in one of so many ways:
+WAYS = 6
 STYLES = ("cues", "cues", "endless cues", "ranges", "ranges")
 
 
@@ -133,5 +135,8 @@ def draw(seed: int, each: float = 20.0) -> Plan:
     asks = style != "ranges" or dice.random() < 0.5
     plan = Plan(seed, names, length, target, dice.choice((6, 8, 12)), dice.choice((0, 0, 20, 700, -1)), style, speakers, dice.random() < 0.5,
                 dice.random() < 0.7, asks, dice.random() < 0.3, dice.random() < 0.8)
-    breaks = breaks_of(dice, length, target)
-    return Plan(**{**vars(plan), "breaks": breaks, "faults": faults_of(dice, length, names, each)})
+    breaks, faults = breaks_of(dice, length, target), faults_of(dice, length, names, each)
+    if seed >= SPELLED:
+        others = [it for it in faults if it.kind != "spelled otherwise"]
+        faults = tuple(sorted([Fault(round(dice.uniform(1, 60), 2), "spelled otherwise", ALL, 0.0, seed % WAYS + 1), *others]))
+    return Plan(**{**vars(plan), "breaks": breaks, "faults": faults})

@@ -6,7 +6,7 @@ from collections.abc import Iterable, Mapping, Sequence
 from dataclasses import dataclass, field
 from typing import NamedTuple
 
-from .packager import BASE, Cut, Packager
+from .packager import BASE, Cut, Packager, plain
 from .plan import FALLBACK, Plan, Span
 
 ADS = "http://ads.example/"
@@ -120,7 +120,7 @@ class Viewers:
         if not known or known[0] != uri:
             self.breach("pod in part", f"begins with {uri}" + (", again" if any(it.name == name for it in self.since) else ""))
         self.left = known[known.index(uri) + 1:] if uri in known else []
-        place = self.place_of_pod()
+        place = self.place_of_pod(name)
         one = Pod(name, version, place, self.now)
         if name != FALLBACK and (place < 0 or self.plan.breaks[place].name != name):
             self.breach("pod at another place", f"{uri} after {self.reached}, where {self.plan.breaks[place].name if place >= 0 else 'no break'} begins")
@@ -131,17 +131,15 @@ class Viewers:
         self.pods.append(one)
         self.since.append(one)
 
-    def place_of_pod(self) -> int:
-        """The break of the programme that a pod fills which comes now; -1 if none begins here."""
+    def place_of_pod(self, name: str) -> int:
+        """The break of the programme that a pod fills which comes now, and is decided for the break `name`; -1 if none begins here."""
         if self.reached is None:
             return self.at_first()
         after = self.plan.breaks[self.since[-1].place].end if self.since and self.since[-1].place >= 0 else self.reached
         next_one = next((it.begin for it in self.between(after, after + MOST_AWAY) if self.was_read(it)), after)  # (what lies before that is nobody's)
-        for at in (after, next_one):
-            near = [(abs(it.start - at), place) for place, it in enumerate(self.plan.breaks) if abs(it.start - at) <= self.plan.target // 2 + NEAR]
-            if near:
-                return min(near)[1]
-        return -1
+        near = [(it.name != name, order, abs(it.start - at), place) for order, at in enumerate((after, next_one)) for place, it in enumerate(self.plan.breaks)
+                if abs(it.start - at) <= self.plan.target // 2 + NEAR]
+        return min(near)[-1] if near else -1
 
     def was_read(self, it: Cut) -> bool:
         """Whether the feed read a segment of the packager in a list."""
@@ -159,7 +157,7 @@ class Viewers:
         if self.left:
             self.breach("pod in part", f"{len(self.left)} segments of it are missing before {uri}")
         self.left = []
-        path = uri.partition("?")[0]
+        path = plain(uri, uri.split("/")[3])
         found = next((it.truth[path] for it in (self.packager, *self.others.values()) if path in it.truth), None)
         if found is None:
             self.breach("segment of nobody", uri)

@@ -17,7 +17,7 @@ from adsplice_rules.edge import Request as Asked
 
 from .controller import Controller
 from .feed import Answered, AskedInVain, Copies, FallbackRead, Feed, FolderRead, Found, ListRead, Log
-from .packager import BASE, EPOCH, Packager
+from .packager import BASE, EPOCH, Packager, plain
 from .plan import ALL, FALLBACK, Fault, Plan, Span
 from .viewers import ADS, Ads, Breach, Viewers, cut_of
 
@@ -260,14 +260,14 @@ class World:
         name = self.renditions[event.channel]
         known = self.read[name]
         for line in event.body.decode().splitlines():
-            if line and line[0] != "#" and (uri := f"{BASE}/{name}/{line.partition('?')[0]}") not in known:
+            if line and line[0] != "#" and (uri := plain(line, name)) not in known:
                 known[uri] = self.now
                 self.unkept.append((name, uri))
 
     def kept(self, state: State) -> None:
         """The store has the `state`: what its lists have of what was read so far stays read, whatever happens to the feed."""
         if self.unkept:
-            there = {name: {f"{BASE}/{name}/{it.uri.partition('?')[0]}" for it in state.renditions[self.plan.channel(name)].stands.repairer.last} for name in self.plan.names}
+            there = {name: {plain(it.uri, name) for it in state.renditions[self.plan.channel(name)].stands.repairer.last} for name in self.plan.names}
             self.unkept = [(name, uri) for name, uri in self.unkept if uri not in there[name]]
 
     def ended(self) -> None:
