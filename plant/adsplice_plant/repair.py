@@ -7,7 +7,7 @@ from __future__ import annotations
 
 from bisect import bisect_left
 from dataclasses import dataclass, field, replace
-from itertools import dropwhile, takewhile
+from itertools import accumulate, dropwhile
 
 from . import growth, packaged, repairs, spelling, variables
 from .growth import Accepted
@@ -284,8 +284,9 @@ class Repairer:
         taken = siblings.between(end, first) if first is not None else []
         if found.segments[0].own <= last.own:
             return taken
-        until = end + missed_by(last, found.segments)
-        return list(takewhile(lambda it: middle_of(it) < until, taken))
+        missed = missed_by(last, found.segments)
+        lasted = accumulate((it.duration for it in taken), initial=0)
+        return [it for it, before in zip(taken, lasted) if before + it.duration // 2 <= missed]
 
     def go_on(self, found: PackagedList, place: Place, kinds: dict[str, str]) -> tuple[Lead | None, int]:
         """The list `found` goes on at `place`: what was listed stays what it was, and what is new is counted on. Answers the same as
