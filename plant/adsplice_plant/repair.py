@@ -24,6 +24,7 @@ OTHER_LISTS = {"EXT-X-I-FRAMES-ONLY", "EXT-X-STREAM-INF", "EXT-X-MEDIA", "EXT-X-
 NOTED = {  # what the reader noted, and the repair
     "EXT-X-PROGRAM-DATE-TIME": "instants", packaged.MISPLACED: "sequence tags", "EXT-X-SESSION-KEY": "session tags", "EXT-X-SESSION-DATA": "session tags"}
 MOST_PAST = 1_000  # segments that left the list and are remembered
+LESS, MORE = 10, 12  # a newest segment grows whose duration is so much more in the next list: of `MORE` to `LESS`
 LEAST = 3  # target durations that a list lasts at least, if it did before (RFC 8216, 6.2.2)
 
 
@@ -105,6 +106,7 @@ class Repairer:
         self.last: list[PackagedSegment] = []  # of the list that was accepted last
         self.past: list[PackagedSegment] = []  # those that left it, the oldest first
         self.adds = False  # whether the instants of the last list were added
+        self.grows = False  # whether the packager lists its newest segment before that is whole
         self.held_since: float | None = None  # when the first list that didn't go on was seen
         self.owed = 0  # discontinuities that the next new segment has for other renditions
         self.lead: Lead | None = None  # what stays in front of the packager's list, since it began again
@@ -138,6 +140,9 @@ class Repairer:
         counted = (found.discontinuity_sequence, [it.discontinuities for it in found.segments])
         drop_gaps(found, kinds)
         drop_twice(found, kinds)
+        if self.grows and not found.is_ended and len(found.segments) > 1:
+            kinds["growing"] = ""
+            found.segments.pop()
         if not found.segments:
             return Repaired(why=repairs.EMPTY)
         is_timed = any(it.stated is not None for it in found.segments)
@@ -299,6 +304,7 @@ class Repairer:
         first = self.front + max(0, place.offset)
         kept = self.last[first: first + len(found.segments)]
         for it, old in zip(found.segments, kept):
+            self.grows = self.grows or old is self.last[-1] and it.duration * LESS > old.said * MORE
             keep(it, old, kinds)
         count_on(kept[-1] if kept else self.last[-1], found.segments[len(kept):])
         if self.lead is None or self.lead.is_over(found.segments):

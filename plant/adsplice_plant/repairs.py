@@ -24,6 +24,7 @@ KINDS = {
     "discontinuity sequence": ("6.2.2", "EXT-X-DISCONTINUITY-SEQUENCE is counted on when a discontinuity leaves the list"),
     "numbers": ("6.2.1", "the packager's media numbers don't say which segments went: the segments themselves do"),
     "own numbers": ("6.2.1", "media numbers go on from what viewers have; the packager's are others"),
+    "growing": ("6.2.1", "the newest segment is listed before it is whole, and isn't given before that"),
     "changed segments": ("6.2.1", "a segment that was listed isn't what it was; it stays as it was"),
     "began again": ("6.2.1", "{}"),
     "few segments": ("6.2.2", "the packager began again: what was listed before stays until the list lasts three target durations"),
