@@ -481,6 +481,19 @@ def test_a_listed_segment_that_is_spelled_otherwise_is_the_same(room):
     assert not wrong, (len(wrong), wrong)
 
 
+def test_a_newest_segment_that_grows_is_not_given_before_it_is_whole(room):
+    rules, repairer, given = Rules(), Repairer(Choices()), []
+    for turn in range(24):
+        last, part = 5 + turn // 2, ("0.9", "1.4")[turn % 2]  # (each is listed twice as the newest one)
+        found = repairer.take(spelled(last - 5, last, 0, "each", newest=part), turn, CLOCK)
+        written = rules.push(found.body())
+        repairer.accept(found)
+        given.append({it.uri.rpartition("/")[2]: it.nanos for it in written.segments})
+    lasts = {name: {it[name] for it in given if name in it} for name in {name for it in given for name in it}}
+    assert all(len(it) == 1 for it in lasts.values()), "a segment stays what it was"
+    assert [name for name, it in lasts.items() if it != {1_900_000_000}] == ["s5.ts"], "the first one alone was given too early"
+
+
 def test_an_older_list_that_is_spelled_otherwise_lags(room):
     for kind, said in SPELLED.items():
         for times in ("each", ""):
