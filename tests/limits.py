@@ -88,7 +88,7 @@ OTHERS = (
         ("crates/attr_list/src/list.rt", "MAX_ATTRIBUTES: usize = {n};"),
         ("crates/read_is_writable/specs/Limits.antt", "nat_le (length (pieces attributes)) {n}\n"),
         ("plant/adsplice_rules/attributes.py", "MOST_ATTRIBUTES = {n} "),
-        ("plant/adsplice_plant/packaged.py", "MOST_ATTRIBUTES = {n} "),
+        ("plant/adsplice_plant/spelling.py", "MOST_ATTRIBUTES = {n} "),
         ("docs/CONFORMANCE.md", "at most {n} attributes in a tag"),
         ("docs/OPERATING.md", "the attribute list doesn't read, or has more than {n} "),
         ("README.md", "{n} attributes a tag"))),
