@@ -45,4 +45,4 @@ def without_moved(before: bytes, lines: Collection[str], new: Collection[str], t
     is another by more than `tolerance`; none if there are none. adsplice keeps the first one for as long as a list has the ID (RFC 8216, 4.3.2.7)."""
     now = starts_in(new)
     moved = {line.encode() for line in lines if (it := start_in(line)) is not None and it[0] in now and abs(now[it[0]] - it[1]) > tolerance}
-    return b"\n".join(line for line in before.split(b"\n") if line not in moved) if moved else None
+    return b"\n".join(line for line in before.split(b"\n") if line.rstrip(b"\r") not in moved) if moved else None
