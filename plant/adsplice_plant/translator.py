@@ -90,7 +90,7 @@ class Translator:
         self.firsts[rendition], self.lows[rendition] = self.done[rendition].since(line.first), line.low_number
         self.breaks.is_first = False
         near = [name for name, first in self.firsts.items() if first >= line.first - STALE]  # (one that stands still for long holds nothing)
-        self.breaks.forget(min((self.firsts[name] for name in near), default=line.first), min((self.lows[name] for name in near), default=line.low_number))
+        self.breaks.forget(min((self.firsts[name] for name in near), default=line.first), min(self.lows.get(name, line.low_number) for name in (*near, rendition)))
         self.cut(line, rendition)
         listed = [it for it in self.breaks.known if self.is_listed(it, line, rendition)]
         is_known = self.passes(ranges, listed, line, rendition)

@@ -575,7 +575,7 @@ def test_a_broken_log_is_told_in_one_line(room):
 def test_a_state_that_could_not_be_kept_is_kept_as_a_whole_by_the_next(room):
     store_, states = several(room.path, 2)
     states += [taken(states[-1], "news", with_breaks(newest - 5, newest, [(8, 3)]), 2.0 * newest) for newest in (9, 10)]
-    write, append = os.write, store.append
+    write, append, aside = os.write, store.append, store.write_aside
 
     def full(*_, **__):
         raise OSError(errno.ENOSPC, os.strerror(errno.ENOSPC))
@@ -590,14 +590,14 @@ def test_a_state_that_could_not_be_kept_is_kept_as_a_whole_by_the_next(room):
         is_kept(Path(room.path), states[-1])
         fails(store_, states[-2], errno.ENOSPC)
         store_.path.unlink()
-        os.symlink("/dev/full", f"{room.path}/.news.log.new")  # (nor can a whole state be kept)
+        store.write_aside = full  # (nor can a whole state be kept)
         fails(store_, states[-2], errno.ENOSPC)
         assert not store_.path.exists()
-        os.unlink(f"{room.path}/.news.log.new")
+        store.write_aside = aside
         store_.write(states[-1])
         is_kept(Path(room.path), states[-1])
     finally:
-        journal.os.write, store.append = write, append
+        journal.os.write, store.append, store.write_aside = write, append, aside
     away = FolderStore(Path(f"{room.path}/no file/kept"), "news")
     Path(room.path, "no file").write_bytes(b"")
     fails(away, states[-1], errno.ENOTDIR)
