@@ -67,7 +67,7 @@ def shown(url: str) -> str:
 
 class Search:
     """One search for the ads of a break: at the first URL of `outside`, by `client`, until the moment `until` of the monotonic clock. `values` are
-    those of macros."""
+    those of macros. The threads of `pool` follow its wrappers."""
 
     def __init__(self, client: Asking, pool: ThreadPoolExecutor, outside: Outside, values: Mapping[str, str], until: float) -> None:
         self.client, self.pool, self.outside, self.values, self.until = client, pool, outside, values, until
@@ -75,7 +75,7 @@ class Search:
         self.requests, self.lock = 0, threading.Lock()
 
     def lack(self, word: str, text: str) -> None:
-        """Something is lacking, as the sentence `text` says."""
+        """Something is lacking, as the `word` for figures and the sentence `text` say."""
         with self.lock:
             self.lacks.append(Lack(word, text))
 
@@ -137,7 +137,8 @@ class Search:
         return found
 
     def begin(self, it: Ad | Wrapper, depth: int, follows: bool) -> Callable[[], list[Ad]]:
-        """Begins to look for the ads of `it`; what answers them once it is called."""
+        """Begins to look for the ads of `it`, which came by so many wrappers (`depth`), of which the last one says whether it `follows` more; what
+        answers them once it is called."""
         if isinstance(it, Ad):
             ad = it
             return lambda: [ad]
@@ -151,7 +152,7 @@ class Search:
         return lambda: self.awaited(going, wrapper)
 
     def stops(self, wrapper: Wrapper, depth: int, follows: bool) -> str:
-        """Why the `wrapper` isn't followed; empty if it is."""
+        """Why the `wrapper`, which came by so many others (`depth`), isn't followed; empty if it is. `follows`: whether the one before says so."""
         if not follows:
             return "VASTAdTagURI isn't asked: the wrapper before says that no more are followed"
         if depth >= DEEPEST:

@@ -5,6 +5,7 @@ changes under its URL becomes another ad. Which file a URL had is in KEEP/files.
 """
 from __future__ import annotations
 
+import contextlib
 import hashlib
 import json
 import os
@@ -39,6 +40,7 @@ CLEANED = 600.0  # seconds between two times that old ads are taken away
 DAY = 86_400.0
 FETCH = 300.0  # seconds for a file
 FILES = "files.json"
+PRIVATE = 0o750  # of what is kept: URLs of ads may have tokens
 
 
 @dataclass(frozen=True)
@@ -92,7 +94,7 @@ class Bounds:
 
 class Store:
     """The ads in the folder `store`, which is published `at` a URL; what is known of them is in the folder `keep`. `say` is called with a word (none if nothing
-    is wrong) and a sentence for a line."""
+    is wrong) and a sentence for a line. `bounds` say what it may take."""
 
     def __init__(self, store: Path, keep: Path, at: str, bounds: Bounds, say: Callable[[str, str], None]) -> None:
         self.store, self.keep, self.at, self.bounds, self.say = store, keep, at, bounds, say
@@ -102,6 +104,7 @@ class Store:
         self.waiting: deque[Wanted] = deque()
         self.making: set[tuple[str, str]] = set()
         self.there: dict[tuple[str, str], Made] = {}  # by the folders
+        self.sizes: dict[Path, int] = {}  # of the folders, which don't change
         self.is_over, self.work = False, threading.Condition(self.lock)
         self.made_count, self.bytes, self.cleaned = 0, 0, -CLEANED
         self.threads: list[threading.Thread] = []
@@ -111,6 +114,8 @@ class Store:
         """Takes in what is there, and begins to make what is wanted; raises Fault, or OSError."""
         self.store.mkdir(parents=True, exist_ok=True)
         self.keep.mkdir(parents=True, exist_ok=True)
+        with contextlib.suppress(PermissionError):
+            self.keep.chmod(PRIVATE)
         try:
             self.taken.take()
         except Taken:
@@ -215,7 +220,7 @@ class Store:
             return it
 
     def fail(self, it: Wanted, key: tuple[str, str], why: str) -> None:
-        """The ad `it` couldn't be made, for the reason `why`."""
+        """The ad `it` of this `key` couldn't be made, for the reason `why`."""
         if self.is_over:
             return
         with self.lock:
@@ -227,7 +232,7 @@ class Store:
         self.say("NotMade", f"ad {it.id}: MediaFile {shown(it.url)}: {why}; it is tried again after {pause:.0f} s if it is wanted")
 
     def make(self, it: Wanted, key: tuple[str, str]) -> None:
-        """Makes the ad `it`, unless it is there; raises Fault or OSError."""
+        """Makes the ad `it` of this `key`, unless it is there; raises Fault or OSError."""
         with self.lock:
             known = self.known.get(key)
         client = it.client if it.url.startswith(("http://", "https://")) else None
@@ -288,7 +293,8 @@ class Store:
                 used = (path / making.FACTS).stat().st_mtime
             except OSError:
                 continue
-            its.append((used, size_of(path), path))
+            its.append((used, self.sizes.get(path) or size_of(path), path))
+        self.sizes = {path: size for _, size, path in its}
         self.bytes = sum(size for _, size, _ in its)
         for used, size, path in sorted(its):
             is_old = now - used > self.bounds.days * DAY

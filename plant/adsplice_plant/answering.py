@@ -100,7 +100,7 @@ class Handler(http.server.BaseHTTPRequestHandler):
         self.wfile.write(b"" if status == 204 else data)
 
     def send_error(self, code: int, message: str | None = None, explain: str | None = None) -> None:
-        """What http.server refuses by itself is one line, too; a method that there isn't is 405."""
+        """What http.server refuses by itself, by a `code` and a `message` (it has no use for `explain`), is one line, too; a method that there isn't is 405."""
         self.say(405 if code == 501 else int(code), f"{words.plain((message or 'it is no request that is known')[:200])}\n".encode("utf-8", "replace"), TEXT)
 
     def linger(self) -> None:

@@ -65,7 +65,7 @@ class Builder:
         self.count, self.length = 0, 0
 
     def refuse(self, text: str) -> NoXml:
-        """Why the document isn't taken."""
+        """Why the document isn't taken: `text`, with the line in which that is."""
         return NoXml(f"line {self.parser.CurrentLineNumber}: {text}")
 
     def doctype(self, *_: object) -> None:
@@ -73,7 +73,7 @@ class Builder:
         raise self.refuse("it has a DOCTYPE, which isn't taken")
 
     def start(self, name: str, attributes: dict[str, str]) -> None:
-        """An element begins."""
+        """An element called `name` begins, with its `attributes`."""
         self.count += 1
         if self.count > MOST_ELEMENTS:
             raise self.refuse(f"it has over {MOST_ELEMENTS} elements")
@@ -95,7 +95,7 @@ class Builder:
         self.length = 0
 
     def data(self, text: str) -> None:
-        """A part of an element's text."""
+        """The next part of the open element's text is `text`."""
         self.length += len(text)
         if self.length > LONGEST:
             raise self.refuse(f"a text has over {LONGEST} characters")

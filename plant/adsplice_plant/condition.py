@@ -68,7 +68,7 @@ def read_words(arguments: list[str]) -> argparse.Namespace:
 
 
 def places_of(prober: probing.Prober, profile: list[str], names: list[str]) -> dict[str, str]:
-    """Where each rendition has its list, by the words `profile` and `names`; raises Fault."""
+    """Where each rendition has its list, by the words `profile` and `names`. `prober` reads a master playlist. Raises Fault."""
     found: dict[str, str] = {}
     for text in profile:
         said = PLACE.fullmatch(text)
@@ -85,7 +85,7 @@ def places_of(prober: probing.Prober, profile: list[str], names: list[str]) -> d
 
 
 def profile(children: Children, said: argparse.Namespace) -> int:
-    """Prints the ladder that the words `said` name; answers the exit status."""
+    """Prints the ladder that the words `said` name, at which `children` look; answers the exit status."""
     from .web import Client  # (the one use of it: a file needs no library)
     prober = probing.Prober(children, Client(10, said.redirects), said.redirects)
     words.write_out(json.dumps(ladders.said_of(prober.ladder(places_of(prober, said.profile, said.names), {})), indent=1) + "\n")
@@ -105,7 +105,7 @@ def ladder_in(path: Path) -> Ladder:
 
 
 def condition(children: Children, said: argparse.Namespace) -> int:
-    """Makes the ad that the words `said` name, and prints its ID, its length and its pieces; answers the exit status."""
+    """Has `children` make the ad that the words `said` name, and prints its ID, its length and its pieces; answers the exit status."""
     if not said.file.is_file():
         raise Fault(f"{said.file}: there is no such file")
     stated = None if said.seconds is None else int(said.seconds * SECOND)
@@ -118,7 +118,7 @@ def condition(children: Children, said: argparse.Namespace) -> int:
 
 
 def main(arguments: list[str]) -> int:
-    """Profiles a ladder, or makes an ad; answers the exit status."""
+    """Profiles a ladder, or makes an ad, as the words `arguments` ask for; answers the exit status."""
     said, children = read_words(arguments), Children()
 
     def end(number: int, _frame: FrameType | None) -> None:

@@ -81,7 +81,8 @@ def arguments(source: Path, has_sound: bool, ladder: Ladder, cut: Cut, to: Path,
 
 
 def output_of(it: Rendition, has_sound: bool, cut: Cut, to: Path, ending: str, loudness: float | None, threads: int) -> list[str]:
-    """The words for the rendition `it`, whose pieces go to the folder `to` under names of this `ending`."""
+    """The words for the rendition `it`, whose pieces by the `cut` go to the folder `to` under names of this `ending`; the rest as in arguments():
+    whether the ad `has_sound`, the `loudness` of that, and the `threads` of each coder."""
     found = []
     if it.picture:
         found += ["-map", "0:v:0", *picture_words(it.picture, cut, threads)]
@@ -101,7 +102,7 @@ def output_of(it: Rendition, has_sound: bool, cut: Cut, to: Path, ending: str, l
 
 
 def picture_words(it: Picture, cut: Cut, threads: int) -> list[str]:
-    """The words for pictures like `it`, with a key frame at the begin of each piece of `cut` and at no other place."""
+    """The words for pictures like `it`, with a key frame at the begin of each piece of `cut` and at no other place. Their coder has so many `threads`."""
     count = max(1, round(Fraction(cut.length()) * it.rate / SECOND))
     size = f"{it.width}:{it.height}"
     chain = (f"yadif=deint=interlaced,fps={it.rate}:start_time=0,scale={size}:force_original_aspect_ratio=decrease,pad={size}:(ow-iw)/2:(oh-ih)/2,setsar=1,"
@@ -125,7 +126,7 @@ def sound_words(it: Sound, cut: Cut, loudness: float | None) -> list[str]:
 
 
 def list_of(cut: Cut, ending: str, has_map: bool) -> str:
-    """The media playlist of an ad with the pieces of `cut`, whose names have this `ending`."""
+    """The media playlist of an ad with the pieces of `cut`, whose names have this `ending`; it `has_map` if there is an initialisation section."""
     target = max(1, *((it + SECOND // 2) // SECOND for it in cut.pieces()))
     head = ["#EXTM3U", f"#EXT-X-VERSION:{7 if has_map else 3}", f"#EXT-X-TARGETDURATION:{target}", "#EXT-X-PLAYLIST-TYPE:VOD", *([f'#EXT-X-MAP:URI="{SECTION}"'] if has_map else [])]
     pieces = [f"#EXTINF:{seconds_text(it)},\n{PIECE.format(n=n)}.{ending}" for n, it in enumerate(cut.pieces())]

@@ -34,6 +34,7 @@ A section of FILE is a channel, or a ladder's programme, by the name that the fe
   schedule   file with a line for each break: its begin in UTC, and its seconds
   loudness   LUFS of the ads' sound, as -23; as it is, if there is none
   redirects  no: hosts other than the ad server's aren't asked (yes)
+  networks   to which wrappers, films and calls may lead beside public addresses, as 10.0.0.0/8 (the ad server's own addresses)
   tracking   yes: Impression and quartiles are called once for each ad that was shown whole (no); needs as-run
   as-run     log of adsplice-monitor
 
@@ -73,7 +74,7 @@ class Decider:
     # ---- lines
 
     def tell(self, channel: str, who: str, status: str, word: str, text: str) -> None:
-        """Prints the line `text` of `who`, of a `channel`."""
+        """Prints a line of a `channel`: of `who`, with a `status`, a `word` and a `text`."""
         self.say(f"{words.now_text()} {channel} {who.replace(' ', '_')} {status} {word}: {text}")
 
     def teller(self, channel: str) -> Callable[[str, str, str, str], None]:
@@ -150,7 +151,7 @@ class Decider:
 
 
 def main(arguments: list[str]) -> int:
-    """Answers questions until a signal ends it; answers the exit status."""
+    """Answers questions as the words `arguments` ask for, until a signal ends it; answers the exit status."""
     said = read_words(arguments)
     try:
         settings = decide_settings.read(said.config)

@@ -21,7 +21,7 @@ ALL = "all"  # what stands in place of a channel in a fact of all
 
 
 def of_shop(shop: Shop) -> Iterator[Fact]:
-    """What is so of that which all channels share."""
+    """What is so of that which all channels share (`shop`)."""
     yield folder("store", shop.store)
     yield folder("keep", shop.keep)
     there = next((it for it in (shop.store, *shop.store.absolute().parents) if it.is_dir()), Path("/"))
@@ -35,7 +35,7 @@ def of_shop(shop: Shop) -> Iterator[Fact]:
 
 
 def of_section(section: Section, shop: Shop) -> Iterator[Fact]:
-    """What is so of the channel of `section`."""
+    """What is so of the channel of `section`, one of the `shop`."""
     yield takes_connection("vast", section.vast)
     yield of_ladder(section, shop)
     if shop.feed is not None:
@@ -67,7 +67,7 @@ def takes_connection(what: str, url: str) -> Fact:
 
 
 def of_ladder(section: Section, shop: Shop) -> Fact:
-    """Whether it can be said what the ladder of `section` is like."""
+    """Whether it can be said what the ladder of `section`, a channel of the `shop`, is like."""
     its = children.Children()
     try:
         if section.ladder is not None:
@@ -99,7 +99,7 @@ def of_feed(section: Section, feed: Path) -> Fact:
 
 
 def run(found: Settings) -> int:
-    """Prints what is so, a line for each fact; answers the exit status."""
+    """Prints what is so by the settings that were `found`, a line for each fact; answers the exit status."""
     is_well = True
     for name, facts in ((ALL, of_shop(found.shop)), *((it.name, of_section(it, found.shop)) for it in found.sections)):
         for fact in facts:

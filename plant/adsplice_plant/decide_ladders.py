@@ -23,7 +23,8 @@ FIRST, LONGEST = 1.0, 60.0  # seconds between two looks while its lists can't be
 
 
 def channels_of(name: str, feed: Path, prober: probing.Prober) -> dict[str, Settings]:
-    """The renditions of the channel `name` by the settings of adsplice-feed in the file `feed`, by their names; raises Fault."""
+    """The renditions of the channel `name` by the settings of adsplice-feed in the file `feed`, by their names. `prober` reads a master
+    playlist. Raises Fault."""
     faults: list[str] = []
     for it in config_file.read_right(feed, lambda section, text: faults.append(text)):
         if it.name == name and it.master is not None:
@@ -36,14 +37,16 @@ def channels_of(name: str, feed: Path, prober: probing.Prober) -> dict[str, Sett
 
 
 def seen_by(name: str, feed: Path, prober: probing.Prober) -> Ladder:
-    """The ladder of the channel `name`, by the lists that adsplice-feed reads by its settings in the file `feed`; raises Fault."""
+    """The ladder of the channel `name`, by the lists that adsplice-feed reads by its settings in the file `feed`. `prober` looks at them. Raises
+    Fault."""
     found = channels_of(name, feed, prober)
     return prober.ladder({rendition: str(it.origin) for rendition, it in found.items()}, {rendition: it.base for rendition, it in found.items()})
 
 
 class Watch:
     """Looks at the ladder of the channel of `section` now and then. `changed` is called with it if it is another one than before; what was seen is
-    kept, so that a program that is started anew knows it at once. `tell` is called with what keeps it from that, or with an empty text."""
+    kept in a folder of the `shop`, so that a program that is started anew knows it at once. ffprobe runs as one of `children`. `tell` is called with what
+    keeps it from that, or with an empty text."""
 
     def __init__(self, section: Section, shop: Shop, children: Children, changed: Callable[[Ladder], None], tell: Callable[[str], None]) -> None:
         self.section, self.shop, self.changed, self.tell = section, shop, changed, tell

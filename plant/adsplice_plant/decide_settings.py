@@ -11,10 +11,11 @@ from pathlib import Path
 from . import words
 from .outside import Outside
 from .playlist import SECOND, read_duration, read_instant
+from .reach import Network, networks_of
 from .words import Fault
 
 OF_ALL = ("store", "keep", "at", "feed", "processes", "threads", "days", "room", "largest", "patience")  # which [DEFAULT] alone has
-OF_EACH = ("vast", "macros", "ladder", "slate", "timeout", "length", "prefetch", "schedule", "loudness", "redirects", "tracking", "as-run")
+OF_EACH = ("vast", "macros", "ladder", "slate", "timeout", "length", "prefetch", "schedule", "loudness", "redirects", "networks", "tracking", "as-run")
 UNITS = {"": 1, "k": 10**3, "m": 10**6, "g": 10**9, "t": 10**12}
 MOST_LINES = 10_000  # of a schedule
 LONGEST = 3600  # seconds of a break
@@ -43,7 +44,8 @@ class Section:
     """A channel, or a ladder's programme: its `name`, the URL `vast` of its ad server with macros, of which `macros` has more values; the file `ladder`
     that says what it is like, if its lists aren't looked at; the file `slate` that fills up. The ad server has `timeout` seconds. A break whose signal
     says no length lasts `length` nanoseconds, if that is named. Ads are asked for `prefetch` seconds before the breaks of the file `schedule`, or
-    without one once in `prefetch` seconds. `loudness` is in LUFS. `redirects`: whether other hosts than the ad server's are asked. `tracking`: whether
+    without one once in `prefetch` seconds. `loudness` is in LUFS. `redirects`: whether other hosts than the ad server's are asked, at public
+    addresses and in the `networks`, if some are named. `tracking`: whether
     what an ad calls is called for each that the file `as_run` says was shown whole."""
 
     name: str
@@ -57,12 +59,13 @@ class Section:
     schedule: Path | None = None
     loudness: float | None = None
     redirects: bool = True
+    networks: tuple[Network, ...] | None = None
     tracking: bool = False
     as_run: Path | None = None
 
     def outside(self) -> Outside:
         """Where its requests may lead."""
-        return Outside(self.vast, self.redirects)
+        return Outside(self.vast, self.redirects, self.networks)
 
 
 @dataclass(frozen=True)
@@ -126,12 +129,20 @@ def section_of(name: str, said: Mapping[str, str]) -> Section:
             name, vast, macros_of(said.get("macros", "")), path_of(said, "ladder"), path_of(said, "slate"), amount(said, "timeout", 0.7, 0.05, 10),
             nanoseconds(length) if length else None, amount(said, "prefetch", 0, 1, 86_400) if said.get("prefetch", "").strip() else None,
             path_of(said, "schedule"), amount(said, "loudness", 0, -70, -5) if loudness else None, is_yes(said, "redirects", True),
-            is_yes(said, "tracking", False), path_of(said, "as-run"))
+            networks_in(said), is_yes(said, "tracking", False), path_of(said, "as-run"))
         if found.tracking and found.as_run is None:
             raise Fault("tracking needs as-run, the log of adsplice-monitor by which an ad was shown")
         return found
     except (argparse.ArgumentTypeError, Fault) as fault:
         raise Fault(f"channel {name}: {fault}") from None
+
+
+def networks_in(said: Mapping[str, str]) -> tuple[Network, ...] | None:
+    """The networks that the setting of this name has `said`; none if it isn't there. Raises Fault."""
+    try:
+        return networks_of(said.get("networks", "")) or None
+    except ValueError as fault:
+        raise Fault(f"networks are such as 10.0.0.0/8 192.168.7.3, and {fault}") from None
 
 
 def path_of(said: Mapping[str, str], name: str) -> Path | None:

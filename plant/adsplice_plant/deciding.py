@@ -145,7 +145,7 @@ class Channel:
         return ad_server.Search(client, self.pool, self.outside, values, until).run()
 
     def ready(self, ad: Ad, ladder: Ladder, is_alone: bool) -> Ready | str:
-        """The `ad` as it is made for `ladder`, or why it isn't: its best file that can be made counts."""
+        """The `ad` as it is made for `ladder`, or why it isn't: its best file that can be made counts. `is_alone`: for a channel by itself."""
         why = ""
         for file in ad.files:
             if stray := self.outside.strays(file.url):
@@ -160,7 +160,7 @@ class Channel:
         return why
 
     def slate(self, ladder: Ladder, is_alone: bool) -> Ready | None:
-        """The slate as it is made for `ladder`; none if there is none yet."""
+        """The slate as it is made for `ladder`; none if there is none yet. `is_alone`: for a channel by itself."""
         if self.section.slate is None:
             return None
         found = self.store.ready(Wanted(ladder, SLATE, str(self.section.slate), None, self.section.loudness), is_alone)

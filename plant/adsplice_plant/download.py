@@ -28,7 +28,7 @@ class Fetched:
 
 
 def front(client: Asking, url: str, begin: int = 0, count: int = PIECE) -> tuple[bytes, int]:
-    """The first bytes of the file at `url` from the place `begin` on, at most `count`, and how many bytes the file has; raises Fault."""
+    """The bytes of the file at `url` from the place `begin` on, at most `count`, and how many bytes the file has. `client` asks for them. Raises Fault."""
     answer = client.ask("GET", url, None, {"Range": f"bytes={begin}-{begin + count - 1}"})
     if answer.status == 200:
         return answer.body[begin:begin + count], len(answer.body)
@@ -98,7 +98,8 @@ class Download:
 
 
 def has_changed(client: Asking, url: str, tag: str) -> bool:
-    """Whether the file at `url` isn't the one any more of which the server said the `tag`; a server that gives none, or doesn't answer, doesn't say."""
+    """Whether the file at `url`, for which `client` asks, isn't the one any more of which the server said the `tag`. A server that gives none doesn't
+    say, so it may have changed; if it doesn't answer, it has not."""
     if not tag:
         return True
     answer = client.ask("GET", url, None, {"Range": "bytes=0-0", "If-None-Match": tag})

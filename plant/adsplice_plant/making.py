@@ -58,7 +58,8 @@ def read(folder: Path) -> Made | None:
 
 def make(children: Children, source: Path, ladder: Ladder, to: Path, name: str, choices: Choices, stated: int | None = None) -> Made:
     """Makes the file `source` into the folder `to`: the ad called `name` for `ladder`, which lasts as long as is `stated` in nanoseconds if the file
-    is near that. Raises Fault, and leaves nothing then; OSError if the folder can't be written."""
+    is near that. ffmpeg runs as one of `children`, by the `choices`. Answers what was made. Raises Fault, and leaves nothing then; OSError if the
+    folder can't be written."""
     found = probing.source_of(children, source)
     if not found.has_picture and any(it.picture for it in ladder.renditions.values()):
         raise Fault("it has no pictures")
@@ -96,7 +97,8 @@ def put(aside: Path, to: Path) -> None:
 
 
 def finish(folder: Path, it: Rendition, cut: Cut, made: Made, name: str) -> None:
-    """Holds what was made for the rendition `it`, called `name`, in the `folder` against the `cut`, and writes its list; raises Fault."""
+    """Holds what was made for the rendition `it`, called `name`, in the `folder` against the `cut`, and writes its list.
+    `made` is the ad that it is of. Raises Fault."""
     if it.container == TEXT:
         for n in range(len(made.pieces)):
             (folder / f"{PIECE.format(n=n)}.vtt").write_text(EMPTY_TEXT, encoding="ascii")
@@ -109,7 +111,7 @@ def finish(folder: Path, it: Rendition, cut: Cut, made: Made, name: str) -> None
 
 def hold(folder: Path, it: Rendition, cut: Cut, made: Made, name: str) -> None:
     """Raises Fault if the pieces of the rendition `it`, called `name`, in the `folder` aren't those of the `cut`: each begins within a picture, or a
-    frame of sound, of where it is to."""
+    frame of sound, of where it is to. `made` is the ad that it is of."""
     listed = playlist.read((folder / LIST).read_bytes()).segments
     if [one.uri for one in listed] != [f"{PIECE.format(n=n)}.{made.ending}" for n in range(len(cut.ends))]:
         raise Fault(f"rendition {name}: ffmpeg made {len(listed)} pieces, and not {len(cut.ends)}")

@@ -93,7 +93,8 @@ def replaced(found: Found, search: ad_server.Search) -> Found:
 
 
 def of_words(said: list[str], ready_of: Callable[[str], Ready | str]) -> tuple[list[Place], list[str]]:
-    """The breaks that the words `said` name, each as OFFSET=ID,ID..; and a sentence for each ad that there isn't. Raises Fault."""
+    """The breaks that the words `said` name, each as OFFSET=ID,ID..; and a sentence for each ad that there isn't. `ready_of` answers
+    an ad by its ID, or why there is none. Raises Fault."""
     places, faults = [], []
     for number, text in enumerate(said, 1):
         offset, sign, ids = text.partition("=")

@@ -16,9 +16,8 @@ from .ad_server import Asking
 from .children import Children
 from .conditioning import READS
 from .ladders import FMP4, LARGEST, TEXT, TS, Ladder, Rendition
+from .outside import Outside
 from .playlist import SECOND, Listed
-from .web import strays
-from .reach import Reach
 from .words import Fault
 
 SECONDS = 20.0  # for a look at a file
@@ -36,7 +35,7 @@ class Source:
 
 
 def looked_at(children: Children, path: Path, seconds: float = SECONDS) -> dict[str, Any]:
-    """What ffprobe says of the file at `path`, within `seconds`; raises Fault."""
+    """What ffprobe, one of `children`, says of the file at `path` within `seconds`; raises Fault."""
     status, out, said = children.run(["ffprobe", "-v", "error", *READS, "-of", "json", "-show_streams", "-show_format", str(path)], seconds)
     try:
         found = json.loads(out)
@@ -48,7 +47,7 @@ def looked_at(children: Children, path: Path, seconds: float = SECONDS) -> dict[
 
 
 def source_of(children: Children, path: Path) -> Source:
-    """What the ad's file at `path` has; raises Fault if no ad can be made of it."""
+    """What the ad's file at `path` has, by ffprobe as one of `children`; raises Fault if no ad can be made of it."""
     found = looked_at(children, path)
     streams = [it for it in found["streams"] if isinstance(it, dict)]
     picture = next((it for it in streams if it.get("codec_type") == "video"), None)
@@ -75,8 +74,8 @@ def number(text: Any) -> Fraction:
 # ---- ladders
 
 class Prober:
-    """Looks at the renditions of a ladder: their lists and a segment of each are asked for by `client`, of which `redirects` says whether other
-    hosts than the first are asked."""
+    """Looks at the renditions of a ladder: `client` asks for their lists and a segment of each, and ffprobe runs as one of `children`. `redirects`
+    says whether a list may name segments of other hosts."""
 
     def __init__(self, children: Children, client: Asking, redirects: bool) -> None:
         self.children, self.client, self.redirects = children, client, redirects
@@ -133,7 +132,7 @@ class Prober:
         """So many bytes (`count`) of what the `uri` in the list at `place` names, from `begin` on, and how many bytes that has; raises Fault."""
         if place.startswith(("http://", "https://")):
             url = urllib.parse.urljoin(place, uri)
-            if why := strays(url, place, self.redirects, Reach(frozenset({(urllib.parse.urlsplit(place).hostname or "").lower()}))):
+            if why := Outside(place, self.redirects).strays(url):
                 raise Fault(f"a segment isn't read, {uri[:100]!r}: {why}")
             return download.front(self.client, url, begin, count)
         path = Path(place).parent / os.path.normpath(urllib.parse.unquote(uri.partition("?")[0]))

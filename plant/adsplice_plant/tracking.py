@@ -88,12 +88,14 @@ def calls_of(line: dict[str, Any], said: dict[str, Any]) -> list[tuple[int, list
 
 class Tracker:
     """Calls what ads of `channel` have called, by the as-run log `log` and the `answers` that were kept, for the channels of which `is_its` says that
-    they are its renditions. Of what was called it keeps a record in the file `sent`. `outside` says where calls may lead."""
+    they are its renditions. Of what was called it keeps a record in the file `sent`. `outside` says where calls may lead.
+    `tell` prints a line, and `count` counts a call by its event and whether it was done."""
 
     def __init__(self, channel: str, log: Path, answers: Path, sent: Path, outside: Outside, is_its: Callable[[str], bool],
                  tell: Callable[[str, str, str, str], None], count: Count) -> None:
         self.channel, self.log, self.answers, self.sent, self.outside, self.client = channel, log, answers, sent, outside, outside.client(CALL)
         self.is_its, self.tell, self.count = is_its, tell, count
+        self.is_new = False  # whether there is no record yet
         self.done, self.place, self.file = self.read_sent()
 
     def read_sent(self) -> tuple[dict[str, None], int, int]:
@@ -118,6 +120,7 @@ class Tracker:
             found = dict(list(found.items())[-MOST_SENT:])
             write_aside(self.sent, b"".join(json.dumps(it).encode() + b"\n" for it in [*({"key": key} for key in found), {"place": place, "file": file}]))
         if place < 0:
+            self.is_new = True
             try:
                 status = self.log.stat()
                 place, file = status.st_size, status.st_ino
@@ -161,6 +164,9 @@ class Tracker:
     def look(self) -> None:
         """Calls for the ads of which the log says since the last look that they were shown whole. Raises OSError if the record can't be written."""
         before = self.place, self.file
+        if self.is_new:
+            self.record({"place": self.place, "file": self.file})
+            self.is_new = False
         try:
             for line in self.lines():
                 if isinstance(line.get("id"), str) and self.is_its(str(line.get("channel"))) and (said := kept(self.answers, line["id"])) is not None:
@@ -173,7 +179,7 @@ class Tracker:
             raise
 
     def record(self, said: dict[str, Any]) -> None:
-        """Adds a line to the record. Raises OSError."""
+        """Adds a line with the members `said` to the record. Raises OSError."""
         self.sent.parent.mkdir(parents=True, exist_ok=True)
         append(self.sent, json.dumps(said).encode() + b"\n", True)
 

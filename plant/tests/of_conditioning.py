@@ -309,7 +309,7 @@ def test_a_limit_and_a_signal_leave_nothing(room):
     for number in (signal.SIGTERM, signal.SIGINT):
         it = subprocess.Popen([PYTHON, f"{PLANT}/adsplice-condition", *words], stdin=subprocess.DEVNULL, stdout=subprocess.DEVNULL, stderr=subprocess.PIPE, text=True)
         room.running.append(it)
-        until(lambda: any(os.listdir(f"{room.path}/out/{one}/v0") for one in os.listdir(f"{room.path}/out")), 30, "a piece")
+        until(lambda: list(Path(f"{room.path}/out").glob("*/v0/s*")), 30, "a piece")
         it.send_signal(number)
         assert it.wait(10) == 128 + number and os.listdir(f"{room.path}/out") == [], number
         it.stderr.close()

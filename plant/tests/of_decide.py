@@ -251,6 +251,7 @@ def test_what_was_made_is_there_after_a_new_start_and_no_half_of_it_after_a_kill
     made = files.count("GET", "/car.mp4")
     server.pages["/vast"] = vast(ad(files, "car", 2, 1))
     decide = Decide(room, text)
+    assert os.stat(f"{room.path}/keep").st_mode & 0o777 == 0o750
     assert not list(Path(f"{room.path}/ads").glob("*/.making*")) and decide.pod("b2") == [("car", 1)] and files.count("GET", "/car.mp4") == made
     status, _, err = room.run("adsplice-decide", "--config", f"{room.path}/decide.ini", "--listen", f"127.0.0.1:{free_port()}")
     assert status == 1 and "another adsplice-decide keeps its things there" in err and err.count("\n") == 1, err
@@ -392,7 +393,7 @@ def test_wrong_settings_are_one_line(room):
     for change, owed in ((("[sport]", "[Sport!]"), "channel Sport!: 'Sport!' isn't 1 to 32"), (("vast = http", "vast = ftp"), "isn't a URL that begins with http"), (("timeout = 0.7", "timeout = x"), "channel sport: timeout is a number from 0.05 to 10, and not x"),
                          (("store = ", "shop = "), "[DEFAULT]: there is no setting shop"), (("at = http://ads.example/pods", ""), "[DEFAULT]: at is missing"), (("timeout = 0.7", "tracking = yes"), "tracking needs as-run"),
                          (("timeout = 0.7", "timeot = 0.7"), "channel sport: there is no setting timeot"), (("timeout = 0.7", "store = /x"), "store is for all channels"), (("timeout = 0.7", "macros = x"), "macros has a line NAME=VALUE"),
-                         (("[DEFAULT]", "[DEFAULT]\nroom = 5X"), "room is a number of bytes"), (("[DEFAULT]", "[DEFAULT]\nprocesses = 0"), "processes is a whole number from 1 to 64"), (("[sport]", "sport"), "decide.ini"), (("timeout = 0.7", "loudness = 3"), "loudness is a number from -70"),
+                         (("[DEFAULT]", "[DEFAULT]\nroom = 5X"), "room is a number of bytes"), (("[DEFAULT]", "[DEFAULT]\nprocesses = 0"), "processes is a whole number from 1 to 64"), (("[sport]", "sport"), "decide.ini"), (("timeout = 0.7", "loudness = 3"), "loudness is a number from -70"), (("timeout = 0.7", "networks = 10.0.0.1/8"), "networks are such as 10.0.0.0/8"),
                          (("sport.json", "none.json"), "none.json: No such file")):
         status, out, err = room.run("adsplice-decide", "--config", room.write("decide.ini", good.replace(*change)), "--listen", f"127.0.0.1:{free_port()}")
         assert (status, out, err.count("\n")) == (1, "", 1) and owed in err, (change, status, err)

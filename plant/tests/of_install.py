@@ -191,7 +191,7 @@ test_files_that_the_feed_writes_are_read_by_the_group_alone.needs = ()
 
 
 def test_units_are_bounded_and_closed(room):
-    for path, exposure in ((f"{PLANT}/systemd/adsplice-feed.service", 13), (f"{PLANT}/systemd/adsplice-monitor.service", 13), (f"{ROOT}/examples/live/adsplice@.service", 9)):
+    for path, exposure in ((f"{PLANT}/systemd/adsplice-feed.service", 13), (f"{PLANT}/systemd/adsplice-monitor.service", 13), (f"{PLANT}/systemd/adsplice-decide.service", 15), (f"{ROOT}/examples/live/adsplice@.service", 9)):
         with open(path, encoding="utf-8") as it:
             text = it.read()
         assert "\nMemoryMax=" in text and "\nTasksMax=" in text, path

@@ -89,6 +89,17 @@ def test_what_was_shown_before_anybody_asked_is_not_called_for(room):
     assert log.called() == []
 
 
+def test_what_was_shown_while_nobody_looked_is_called_for_by_the_next_one(room):
+    log = Log(room)
+    log.line((True, True, True), name="b0")
+    log.begin()
+    log.it.look()
+    log.line((True, False, False))
+    log.begin()
+    log.it.look()
+    assert len(log.called()) == 6
+
+
 def test_a_log_that_is_rotated_is_read_on(room):
     log = Log(room)
     log.it.look()

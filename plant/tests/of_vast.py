@@ -257,6 +257,17 @@ def test_no_wrapper_leads_from_outside_to_this_machine(room):
     assert "another host" in searched(client, "http://a.example/v", redirects=False).lacks[0].text and len(client.asked) == 1
 
 
+def test_no_wrapper_leads_to_a_private_address_unless_it_is_named(room):
+    from adsplice_plant.outside import Outside
+    from adsplice_plant.reach import networks_of
+    for first, url, networks, is_asked in (("http://ads.example/v", "http://10.1.2.3/v", None, False), ("http://ads.example/v", "http://10.1.2.3/v", "10.0.0.0/8", True), ("http://ads.example/v", "http://192.168.7.3/v", "10.0.0.0/8", False),
+                                           ("http://10.1.2.3/v", "http://10.1.2.3:8080/w", None, True), ("http://10.1.2.3/v", "http://10.1.2.4/w", None, False), ("http://ads.example/v", "http://169.254.169.254/latest", None, False),
+                                           ("http://ads.example/v", "http://93.184.216.34/v", None, True), ("http://ads.example/v", "http://other.example/v", None, True)):
+        outside = Outside(first, True, networks_of(networks) if networks else None)
+        assert (outside.strays(url) == "") == is_asked, (first, url, networks, outside.strays(url))
+        assert outside.client(1.0).reach is outside.reach
+
+
 def test_an_ad_server_that_is_slow_wrong_or_away(room):
     _, _, web = modules()
     server = room.server(AdServer({"/busy": 503, "/empty": vast(), "/html": "<html/>", "/huge": vast() + " " * 5_000_000, "/slow": vast(inline("x"))}))
