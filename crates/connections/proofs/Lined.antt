@@ -3,7 +3,7 @@ use Rattle.std.proofs.Common.{◌≡◌, ◌≢◌, ℕ, suc, ◌+◌, ◌*◌, 
 use Rattle.std.specs.Prelude.{Option, Some, None, find, if◌then◌else◌}
 use Rattle.http_edge.specs.Waiting.{no_channel}
 use Rattle.connections.specs.declared.line.Standing.{Standing}
-use Rattle.connections.specs.Lines.{LineState, turn_count, new_line, is_at, is_of, is_other, is_in_line, stands, next_in, next, had_turn, LineEvent, joins, leaves, calls, after, after_join, after_call, line_after, is_at_if_any, is_of_if_any, concerns, StandsFor, Waits, ahead, is_turn_of, turns_had, TurnsAreShared, calls_in, CallEach, events_in, RoundsAreFew}
+use Rattle.connections.specs.Lines.{LineState, turn_count, new_line, is_at, is_of, is_other, is_in_line, stands, next_in, next, had_turn, LineEvent, joins, leaves, calls, after, after_call, line_after, is_at_if_any, is_of_if_any, concerns, StandsFor, Waits, ahead, is_turn_of, turns_had, TurnsAreShared, calls_in, CallEach, events_in, RoundsAreFew}
 use Rattle.connections.proofs.TurnOrder.{occurs, is_before, once_below, there_below, as_many_below, occurs_after_turn, as_many_after_turn, same_order, after_turn}
 
 abbrev one_if : Bool → ℕ

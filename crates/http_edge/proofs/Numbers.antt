@@ -1,6 +1,6 @@
 -- The place of a name in the map is that in the table.
 use Rattle.std.proofs.Common.{◌≡◌, ℕ, cond, ltb, List, [], ◌∷◌, length, map, refl, arith}
-use Rattle.std.specs.Prelude.{Option, Some, None, bytes_eq, position, String}
+use Rattle.std.specs.Prelude.{Some, None, bytes_eq, position, String}
 use Rattle.std.specs.List.{position_or_len}
 use Rattle.std.specs.Map.{keys_of}
 use Rattle.live_channel.specs.Channel as channel
