@@ -21,6 +21,7 @@ from .folders import MOST_ENTRIES, MOST_FILES, ROOM
 from .settings import Settings
 
 LONGEST_NAME = 100  # letters of a file's name without its ending
+LONG, MOST_LONG = 262_144, 4  # bytes of a file that takes the judge seconds, and how many of these are let in at a time
 WAIT = 2.0  # seconds for a channel that is busy
 LETTERS = frozenset(string.ascii_letters + string.digits + "._-")
 USAGE = f"a path is /decisions/CHANNEL/NAME.json, and a name has letters, digits, '.', '_' and '-', begins with none of '.' and '-', and has at most {LONGEST_NAME}"
@@ -108,7 +109,8 @@ class Admission:
 
     def __init__(self, feeds: Mapping[str, Channel]) -> None:
         self.feeds = feeds
-        self.judging, self.writing = threading.Lock(), threading.Lock()  # (one after the other: a channel's turn is not to wait for many)
+        self.judging, self.judging_long, self.writing = threading.Lock(), threading.Lock(), threading.Lock()  # (one after the other: a channel's turn is not to wait for many)
+        self.room = threading.BoundedSemaphore(MOST_LONG)
 
     def place(self, path: str) -> tuple[Channel, Path, str]:
         """The channel, its folder and the file's name that the `path` of a request means; raises Refused. Nothing is decoded in it."""
@@ -125,8 +127,7 @@ class Admission:
         channel, folder, name = self.place(path)
         if why := over_bound(body):
             raise Refused(413, f"the file {why}")
-        with self.judging:
-            wrong = judge.judge(body)
+        wrong = self.judged(body)
         if wrong is not None:
             channel.tell("door", 422, wrong.fault, f"{name} isn't taken: {words.plain(wrong.line())}")
             raise Refused(422, f"{words.plain(wrong.line())} ({wrong.fault})")
@@ -140,6 +141,19 @@ class Admission:
             raise Refused(503, f"it can't be kept: {fault.strerror}") from None
         channel.tell("door", 201, "", f"decisions come by the door; {name} is kept")
         return (200, "kept in place of the one before") if is_there else (201, "kept")
+
+    def judged(self, body: bytes) -> judge.Wrong | None:
+        """What is wrong with the decision `body`; raises Refused if too many long ones wait for that. Short ones don't wait for long ones."""
+        if len(body) <= LONG:
+            with self.judging:
+                return judge.judge(body)
+        if not self.room.acquire(blocking=False):
+            raise Refused(503, f"{MOST_LONG} files of more than {LONG} bytes are being judged; ask again")
+        try:
+            with self.judging_long:
+                return judge.judge(body)
+        finally:
+            self.room.release()
 
     def delete(self, path: str) -> tuple[int, str]:
         """Takes the decision away that waits under `path`; the status and the line to answer. Raises Refused."""

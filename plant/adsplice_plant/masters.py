@@ -13,13 +13,14 @@ from collections.abc import Callable
 from dataclasses import dataclass, field, replace
 from pathlib import Path
 
-from . import packaged, settings, spelling
+from . import bounded_files, packaged, settings, spelling
+from .bounded_files import Unread
 from .location import LocalFile, Location, Url
 from .origin import Origin, origin_of, read_whole
 from .pauses import Pauses
 from .settings import Settings
 from .siblings import absolute
-from .web import Client, strays
+from .web import MAX_BYTES, Client, strays
 from .whole_files import VIEWERS_MODE, write_aside
 from .words import Fault, now_text
 
@@ -27,6 +28,7 @@ VARIANT, MEDIA, I_FRAMES = "#EXT-X-STREAM-INF:", "#EXT-X-MEDIA:", "#EXT-X-I-FRAM
 MEDIA_TYPES = ("AUDIO", "VIDEO")  # whose playlists are channels
 WITH_URI = (MEDIA, "#EXT-X-SESSION-DATA:", "#EXT-X-SESSION-KEY:")
 MOST_RENDITIONS = settings.MOST_CHANNELS
+MOST_OTHERS = 1000  # lines of a master playlist with references that are no rendition's
 MOST_TOLD = 1000  # letters of a line: what is told has parts of the list
 AGAIN = 30.0  # seconds from one look at a master playlist to the next
 
@@ -40,6 +42,7 @@ class Master:
     uris: list[str] = field(default_factory=list)
     groups: dict[str, str] = field(default_factory=dict)
     left_out: set[str] = field(default_factory=set)
+    others: int = 0  # lines with references that are no rendition's, each of which is written with its base
 
     def add(self, line: str, uri: str = "", group: str = "") -> None:
         """Adds a `line`, with the `uri` of a rendition and the type of its `group`. Raises Fault if that is one too many."""
@@ -70,6 +73,9 @@ def read(body: bytes, base: str) -> Master:
             said = packaged.attributes_of(line.partition(":")[2])
             is_rendition = line.startswith(MEDIA) and said.get("TYPE") in MEDIA_TYPES and "URI" in said
             found.add(line if is_rendition else absolute(line, base), said["URI"] if is_rendition else "", said.get("TYPE", ""))
+            found.others += not is_rendition
+            if found.others > MOST_OTHERS:
+                raise Fault(f"it has more than {MOST_OTHERS} lines of subtitles, session data and session keys")
         else:
             found.add(line)
         is_variant = line.startswith(VARIANT) or (is_variant and line[0] == "#")
@@ -121,7 +127,7 @@ def channels_of(found: Master, programme: Settings) -> list[Settings]:
     for name, uri in zip(names_of(found, programme.names), found.uris):
         texts = {key: value.replace(settings.PLACE, name) if value else value for key, value in programme.texts.items()}
         base = urllib.parse.urljoin(programme.base, uri)
-        one = settings.settings_of(f"{programme.name}-{name}", {**texts, "base": base}, listed(uri, programme))
+        one = settings.settings_of(f"{programme.name}-{name}", texts, (listed(uri, programme), base))
         channels.append(replace(one, programme=programme.name, group=found.groups.get(uri, "")))
     return channels
 
@@ -131,8 +137,8 @@ def written_names(programme: Settings) -> list[str]:
     if programme.names:
         return [f"{programme.name}-{it}" for it in programme.names]
     try:
-        text = programme.master.read_text(encoding="utf-8") if programme.master else ""
-    except (OSError, UnicodeDecodeError):
+        text = bounded_files.read(programme.master, most=MAX_BYTES)[1].decode("utf-8") if programme.master else ""
+    except (OSError, Unread, UnicodeDecodeError):
         return []
     count = max((it for it in range(1, MOST_RENDITIONS + 1) if f"/channels/{programme.name}-{it}/live.m3u8" in text), default=0)
     return [f"{programme.name}-{it}" for it in range(1, count + 1)]
@@ -189,7 +195,12 @@ class Programme:
         """Looks at the master playlist until `ending` is set."""
         pauses = Pauses(0.5, longest_pause)
         while not ending.is_set():
-            is_well = self.look()
+            try:
+                is_well = self.look()
+            except Exception as fault:  # noqa: BLE001  (the feed would end with this thread, and its other channels)
+                self.origin.forget()
+                self.tell("Refused", f"{type(fault).__name__}: {str(fault)[:200]}; reads it again with growing pauses")
+                is_well = False
             if is_well:
                 pauses.reset()
             ending.wait(AGAIN if is_well else pauses.next())

@@ -76,7 +76,8 @@ def addresses_of(host: str) -> list[Address]:
 @dataclass(frozen=True)
 class Reach:
     """What requests reach beside public addresses: the `networks` that a person stated; if none are stated, the addresses of the hosts that
-    the person `named`. `kinds` has what kind of address each of these had first: a name that was public doesn't become this machine."""
+    the person `named`. `kinds` has what kind of address each of these had first: a name that was public doesn't become this machine. Without
+    names it is for a part of the plant itself: the host that is asked for is reached at any address."""
 
     named: frozenset[str] = frozenset()
     networks: tuple[Network, ...] | None = None
@@ -86,7 +87,7 @@ class Reach:
         """Why a request for `host` doesn't connect to its `address`; empty if it may. `named`: hosts that stand for those of this one, if it has
         none."""
         own, kind = self.named or frozenset(named), kind_of(address)
-        if host in own and address_in(host) is not None:
+        if host in own and (not self.named or address_in(host) is not None):
             return ""  # (the person wrote this address)
         first = self.kinds.setdefault(host, kind) if host in own and kind in (PUBLIC, *USUAL) else kind
         if kind == PUBLIC:

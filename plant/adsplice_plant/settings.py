@@ -137,15 +137,15 @@ def programme_of(name: str, said: Mapping[str, str | None], renditions: list[str
     return replace(settings_of(name, plain), master=master, viewers=viewers, names=renditions, texts=dict(said))
 
 
-def settings_of(name: str, said: Mapping[str, str | None], listed: Location | None = None) -> Settings:
-    """The settings of the channel `name` from texts by the names of NAMES; raises Fault if they don't go together. `listed`: where a master
-    playlist says that its list is read, in place of the origin in the texts."""
+def settings_of(name: str, said: Mapping[str, str | None], listed: tuple[Location, str] | None = None) -> Settings:
+    """The settings of the channel `name` from texts by the names of NAMES; raises Fault if they don't go together. `listed`: where its list is
+    read, and its base, if a master playlist says so: what a list says is no text of settings."""
     try:
         words.channel_name(name)
         first, second = origins_of(said.get("origin") or "")
-        origin, named = listed or first, frozenset(it.host() for it in (first, second) if isinstance(it, Url))
+        origin, named = listed[0] if listed else first, frozenset(it.host() for it in (first, second) if isinstance(it, Url))
         at = words.web_address(said.get("at") or "")
-        base = said.get("base") or (origin.text if isinstance(origin, Url) else "")
+        base = listed[1] if listed else said.get("base") or (origin.text if isinstance(origin, Url) else "")
         if not base:
             raise Fault("its origin is a file, so it needs base, the URL under which the packager publishes it")
         words.web_address(base)

@@ -18,8 +18,10 @@ from .events import Action, Answered, Ask, AskedInVain, Began, Event, FallbackRe
 from .events import Store as Keep
 from .fed import BETWEEN, Around, Fed, Limits
 from .inbox import Inbox
+from .location import Url
 from .origins import Choice
 from .pauses import Pauses
+from .reach import Reach
 from .reading import MOST, OFTEN
 from .settings import Settings
 from .state import FileState, State
@@ -78,7 +80,7 @@ class Feeding:
     def asker_of(self, first: Settings) -> Asker:
         """Who asks for decisions, by the settings of the `first` channel."""
         folders = {it.rendition(): it.decisions for it in self.settings if it.decisions is not None}
-        return Asker(self.name, first.ask, first.hold, Client(self.limits.timeout), folders, self.tell_asked, self.is_decided,
+        return Asker(self.name, first.ask, first.hold, Client(self.limits.timeout, reach=Reach(frozenset({Url(first.ask).host()}))), folders, self.tell_asked, self.is_decided,
                      lambda _: self.look_soon(), lambda name: self.inbox.post(AskedInVain(name)))
 
     def tell_asked(self, who: str, status: str, word: str, text: str) -> None:
@@ -173,12 +175,14 @@ class Feeding:
                 self.telling.forget(self.name, "feed")
 
     def look(self) -> None:
-        """Looks at the files: what has changed of them is next, as part of the begin if that is next."""
+        """Looks at the files: what has changed of them is next, as part of the begin if that is next. (On a busy machine there may be another look before
+        the begin is taken, by which nothing has changed any more.)"""
         self.looked_at = time.monotonic()
         found = [one for it in self.channels.values() for one in it.look()]
-        if isinstance(self.inbox.first(), Began):
+        if isinstance(begin := self.inbox.first(), Began):
             self.inbox.take()
-            found = [Began({it.channel: it.files for it in found if isinstance(it, FolderRead)}, {it.channel: it.body for it in found if isinstance(it, FallbackRead)})]
+            found = [Began({**begin.folders, **{it.channel: it.files for it in found if isinstance(it, FolderRead)}},
+                           {**begin.fallbacks, **{it.channel: it.body for it in found if isinstance(it, FallbackRead)}})]
         for one in reversed(found):
             self.inbox.post_first(one)
 

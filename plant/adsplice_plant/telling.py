@@ -10,10 +10,15 @@ from . import repairs
 from .events import Note, Repaired, Tell
 from .journal import Event, Journal
 from .settings import Settings
+from .whole_files import write_aside
 from .words import now_text
 
 QUIET = 60.0  # seconds for which a quiet word isn't told again
+MOST_LINES, MINUTE = 2000, 60.0  # lines of a programme within so many seconds: names and signs of others are in them
+MOST_STATES = 10_000  # of which it is known what was told last
 UNTOLD = ("list", "numbers", "journal")  # of which it isn't told that all is well at first
+
+MANY = "Many"
 
 Say = Callable[[str], None]
 
@@ -28,6 +33,7 @@ class Telling:
         self.words: dict[tuple[str, str], str] = {}  # the newest quiet word, told or not
         self.told_at: dict[tuple[str, str, str], float] = {}  # when a quiet word was told
         self.repaired: set[tuple[str, str]] = set()  # the repairs that were told of each channel
+        self.minute, self.lines, self.left_out = now(), 0, 0  # since when lines are counted, how many were printed, and how many weren't
 
     def tell(self, channel: str, who: str, status: int, fault: str, text: str) -> None:
         """Prints a line of `who`, unless it is in the same state as before; that is the status and the fault of a `channel`, and the text as
@@ -37,12 +43,24 @@ class Telling:
             is_first = (channel, who) not in self.states
             if self.states.get((channel, who)) == state:
                 return
-            self.states[channel, who] = state
+            self.states.pop((channel, who), None)
+            self.states[channel, who] = state  # (it is the newest one)
+            if len(self.states) > MOST_STATES:
+                del self.states[next(iter(self.states))]
         if text and not (is_first and who in UNTOLD and not fault):
             self.line(channel, who, status, fault, text)
 
     def line(self, channel: str, who: str, status: int, fault: str, text: str) -> None:
-        """Prints a line, whatever was told before."""
+        """Prints a line, whatever was told before; of very many within a minute the last ones are counted."""
+        with self.lock:
+            if (now := self.now()) - self.minute >= MINUTE:
+                left_out, self.minute, self.lines, self.left_out = self.left_out, now, 0, 0
+                if left_out:
+                    self.say(f"{now_text()} {self.name} lines - {MANY}: {left_out} lines weren't printed, since there were over {MOST_LINES} within a minute")
+            self.lines += 1
+            if self.lines > MOST_LINES:
+                self.left_out += 1
+                return
         self.say(f"{now_text()} {channel or self.name} {who} {status or '-'} {fault or '-'}: {text}")
 
     def forget(self, channel: str, who: str) -> None:
@@ -76,7 +94,8 @@ class Telling:
         with self.lock:
             if (it.channel, kind) in self.repaired:
                 return
-            self.repaired.add((it.channel, kind))
+            if len(self.repaired) < MOST_STATES:
+                self.repaired.add((it.channel, kind))
         self.line(it.channel, "list", 0, "Repaired", repairs.told(it.kind, it.detail))
 
 
@@ -114,7 +133,7 @@ class Noting:
         path, body, name = self.settings.keep / f"{self.settings.name}.made", self.settings.body(), self.settings.name
         try:
             if status == 201:
-                path.write_bytes(body)
+                write_aside(path, body)
             elif (made := made_before(path)) not in (None, body):
                 self.telling.tell(name, "settings", status, "Other", f"the channel was made with {said(made)}, and the settings say {body.decode()}; "
                                                                      "it stays as it was made until a person deletes it")

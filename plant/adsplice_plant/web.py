@@ -309,7 +309,8 @@ class Client:
                 its = self.idle.get(key)
                 it = its.pop() if its else None
             if it is None:
-                return Connection(url, key[3], bounds, self.reach.judge(url.host, (named,)))
+                host = next((name for name in (url.host, url.raw_host.decode()) if name in self.reach.named), url.host)  # (it may be named by its ASCII form)
+                return Connection(url, key[3], bounds, self.reach.judge(host, (named,)))
             if it.is_ready():
                 it.begin(bounds)
                 return it

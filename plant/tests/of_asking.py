@@ -271,6 +271,7 @@ def test_an_id_that_comes_again_is_asked_for_again(room):
 def test_many_breaks_are_asked_for_in_bounds(room):
     server = room.server(Decider(pause=0.05))
     it = Asking(room, server.url, hold=0.5)
+    assert it.feed.asker.client.reach.named == {"127.0.0.1"}, "where the ad server's name leads is judged"
     known = [modules()["breaks"].Break(f"b{n}", n * SECOND, n, "splice_insert") for n in range(1000)]
     it.ask(*known)
     until(lambda: len(server.questions) == 16, 5, "sixteen questions")
@@ -292,14 +293,13 @@ def test_ever_new_breaks_are_asked_for_in_bounds_of_a_minute(room):
 
 
 def test_old_questions_cost_next_to_nothing(room):
-    it, seen, real = Asking(room, "folder", hold=0.1), [], os.scandir
+    it, seen, real, mine = Asking(room, "folder", hold=0.1), [], os.scandir, threading.get_ident()
     os.makedirs(f"{room.path}/asked")
     for n in range(5000):
         Path(room.path, "asked", f"old{n}.json").touch()
     os.utime(f"{room.path}/asked/old7.json", (1, 1))
     try:
-        own = threading.get_ident()  # (others run beside)
-        os.scandir = lambda *place: (seen.append(place) if threading.get_ident() == own else None) or real(*place)
+        os.scandir = lambda *place: (threading.get_ident() == mine and seen.append(place)) or real(*place)  # (others are tried beside it)
         begun = time.thread_time()
         it.ask(*(modules()["breaks"].Break(f"b{n}", n * SECOND, n, "splice_insert") for n in range(16)))
         assert time.thread_time() - begun < 0.5

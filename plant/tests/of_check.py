@@ -94,7 +94,7 @@ def test_each_fault_is_a_line(room):
             ({"fallback": breaks}, f"news fallback wrong: {breaks}: it decides breaks"),
             ({"fallback": f"{room.path}/none.json"}, "news settings wrong: channel news: fallback: there is no file"),
             ({"decisions": wrong, "ask": ""}, f"news decisions wrong: {wrong} isn't a folder"),
-            ({"tolerance": "11"}, "news settings wrong: channel news: tolerance is a number of seconds of at most 10"),
+            ({"tolerance": "11"}, "news settings wrong: channel news: tolerance is a number of seconds of at most 10, and not 11"),
             ({"target": "x"}, "news settings wrong: channel news: target is a whole number")):
         status, lines = checked(room, **settings)
         found = [it for it in lines if " wrong: " in it]

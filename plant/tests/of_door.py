@@ -1,4 +1,5 @@
 """Tests of the door for decisions: what is kept, what is refused, and what hostile clients can't do."""
+import contextlib
 import http.client
 import json
 import os
@@ -157,14 +158,24 @@ def test_a_head_has_less_time_than_a_body(room):
         assert least < time.monotonic() - begun < most, (sent, time.monotonic() - begun)
 
 
-def test_the_oldest_that_is_not_whole_makes_room(room):
+@contextlib.contextmanager
+def few_seats():
+    """The module of the door with three seats and 100 bytes, its seats, and the sockets of six connections."""
     from adsplice_plant import door
     bounds = door.MOST, door.MOST_HELD, door.GIVES_WAY
     pairs = [socket.socketpair() for _ in range(6)]
-    mine = [here for here, _ in pairs]
     try:
         door.MOST, door.MOST_HELD, door.GIVES_WAY = 3, 100, 0.2
-        seats = door.Seats()
+        yield door, door.Seats(), [here for here, _ in pairs]
+    finally:
+        door.MOST, door.MOST_HELD, door.GIVES_WAY = bounds
+        for one in pairs:
+            for end in one:
+                end.close()
+
+
+def test_the_oldest_that_is_not_whole_makes_room(room):
+    with few_seats() as (door, seats, mine):
         assert all(seats.take(one) for one in mine[:3])
         seats.go_on(mine[0], door.Stage.ANSWERED)
         leaver = threading.Thread(target=lambda: (mine[1].recv(1), seats.leave(mine[1])))
@@ -177,29 +188,48 @@ def test_the_oldest_that_is_not_whole_makes_room(room):
         seats.go_on(mine[0], door.Stage.ENDED)
         threading.Thread(target=lambda: (mine[0].recv(1), seats.leave(mine[0]))).start()
         assert seats.take(mine[4]) and mine[0] not in seats.seats, "one that has its answer makes room"
-        seats.hold(mine[4], 60)
-        seats.hold(mine[2], 30)
+
+
+def test_the_oldest_whose_body_is_not_whole_makes_room_for_bytes(room):
+    with few_seats() as (door, seats, mine):
+        assert seats.take(mine[0]) and seats.take(mine[1])
+        seats.hold(mine[0], 30)
+        seats.go_on(mine[0], door.Stage.ANSWERED)
+        seats.hold(mine[1], 60)
         try:
-            seats.hold(mine[4], 20)
+            seats.hold(mine[1], 20)
             raise AssertionError("more than 100 bytes")
         except door.Refused as refusal:
             assert refusal.status == 503
-        seats.leave(mine[4])
-        seats.leave(mine[3])
-        assert seats.take(mine[5]) and seats.take(mine[4])
-        seats.hold(mine[5], 50)
-        seats.hold(mine[4], 40)
-        assert seats.seats[mine[5]].is_given_up and not seats.seats[mine[4]].is_given_up, "the oldest whose body isn't whole makes room"
+        seats.leave(mine[1])
+        assert seats.take(mine[2]) and seats.take(mine[3])
+        seats.hold(mine[2], 50)
+        seats.hold(mine[3], 40)
+        assert seats.seats[mine[2]].is_given_up and not seats.seats[mine[3]].is_given_up and not seats.seats[mine[0]].is_given_up
         try:
-            seats.go_on(mine[5], door.Stage.ANSWERED)
+            seats.go_on(mine[2], door.Stage.ANSWERED)
             raise AssertionError("it made room")
         except ConnectionAbortedError:
             pass
-    finally:
-        door.MOST, door.MOST_HELD, door.GIVES_WAY = bounds
-        for one in pairs:
-            for end in one:
-                end.close()
+
+
+def test_long_files_do_not_hold_up_short_ones(room):
+    from adsplice_plant import admission
+    it, long, found = admission.Admission({}), ONE + b" " * 262_144, []
+    with it.judging_long:
+        threads = [threading.Thread(target=lambda: found.append(it.judged(long))) for _ in range(4)]
+        for one in threads:
+            one.start()
+        until(lambda: it.room._value == 0, 10, "four long files")
+        assert it.judged(ONE) is None and not found
+        try:
+            it.judged(long)
+            raise AssertionError("a fifth long file")
+        except admission.Refused as refusal:
+            assert refusal.status == 503 and "4 files of more than 262144 bytes" in refusal.text
+    for one in threads:
+        one.join()
+    assert found == [None] * 4 and it.judged(long) is None
 
 
 def test_files_of_a_folder_are_bounded_in_number_and_bytes(room):

@@ -109,11 +109,11 @@ def test_files_are_bounded_in_their_number_and_their_bytes(room):
 
 def test_a_file_that_would_cost_the_judge_much_is_looked_at_once(room):
     from adsplice_plant import folders
-    it, seen, real = Looked(room), [], folders.read
+    it, seen, real, mine = Looked(room), [], folders.read, threading.get_ident()
     it.write("long.json", "[0" + ",0" * 250_001 + "]")
     it.write("one.json")
     try:
-        folders.read = lambda name, *more, **named: seen.append(name) or real(name, *more, **named)
+        folders.read = lambda name, *more, **named: (threading.get_ident() == mine and seen.append(name)) or real(name, *more, **named)  # (others are tried beside it)
         assert (it.look(), it.look(), it.look()) == (["one.json"], None, None) and sorted(seen) == ["long.json", "one.json"], seen
         assert it.told == ["decisions/long.json 0 Passed: it has more than 250,000 commas; passes over it"] * 3
         it.write("long.json")
@@ -190,6 +190,8 @@ def test_a_fallback_is_read_when_it_changes(room):
     assert (it.look().body, it.look()) == (FALLBACK.encode(), None) and not told
     room.write("f.json", ONE)
     assert it.look().body is None and "it has `breaks` and no `fallback`; goes on without it" in told.pop()[3]
+    room.write("f.json", '{"fallback":[0' + ",0" * 250_001 + "]}")
+    assert it.look().body is None and "it has more than 250,000 commas; goes on without it" in told.pop()[3]
     os.remove(path)
     os.mkfifo(path)
     assert it.look().body is None and "it is no regular file" in told.pop()[3]

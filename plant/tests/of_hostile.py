@@ -219,6 +219,20 @@ def test_a_journal_that_cannot_be_written_is_told_each_time_that_it_begins_and_e
     assert told == [full, well, full], told
 
 
+def test_lines_of_ever_new_names_are_bounded(room):
+    from adsplice_plant import telling
+    lines, clock = [], [0.0]
+    it = telling.Telling("news", lines.append, lambda: clock[0])
+    for n in range(20_000):
+        it.tell("news", f"decisions/{n}.json", 0, "Passed", "it is a link")
+    assert len(lines) == 2000 and len(it.states) == 10_000 and ("news", "decisions/19999.json") in it.states, (len(lines), len(it.states))
+    clock[0] = 60.0
+    it.tell("news", "origin", 0, "", "no answer")
+    assert len(lines) == 2002 and lines[2000].endswith("news lines - Many: 18000 lines weren't printed, since there were over 2000 within a minute"), lines[2000:]
+    it.tell("news", "decisions/19999.json", 0, "Passed", "it is a link")
+    assert len(lines) == 2002, "it was told"
+
+
 def refuse(*_):
     """A full disk."""
     raise OSError(28, "No space left on device")
@@ -261,6 +275,7 @@ def test_answers_of_a_hostile_ad_server_are_judged(room):
         begun = time.process_time()
         found, why = decision_of(body, "b1")
         assert found is None and why and time.process_time() - begun < 1.5, (body[:40], found, why)
+    assert decision_of(b'{"breaks":[0' + b",0" * 250_001 + b"]}", "b1") == (None, "it has more than 250,000 commas")
 
 
 def test_what_would_be_written_of_a_list_is_bounded(room):

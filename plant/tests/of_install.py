@@ -174,8 +174,14 @@ os.chdir(sys.argv[2])
 os.umask(0o002)
 journal.append("news.events", b"a")
 locks.Lock(Path("news.lock")).take()
-os.mkfifo(".news.log.new")  # (nobody waits for it)
 whole_files.write_aside(Path("news.log"), b"a")
+for make in (lambda path: os.symlink("news.lock", path), os.mkfifo, os.mkdir):
+    make(".film.m3u8.new")
+    try:
+        whole_files.write_aside(Path("film.m3u8"), b"a", whole_files.VIEWERS_MODE)  # (nobody waits for a pipe, or follows a link)
+        sys.exit("it was written")
+    except OSError:
+        (os.rmdir if os.path.isdir(".film.m3u8.new") else os.unlink)(".film.m3u8.new")
 os.umask(0o077)
 whole_files.write_aside(Path("film.m3u8"), b"a", whole_files.VIEWERS_MODE)
 """

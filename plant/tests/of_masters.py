@@ -1,5 +1,6 @@
 """Tests of a master playlist as the origin: what is read of it, what viewers get, and a feed of its renditions."""
 import json
+import os
 import sys
 import threading
 import time
@@ -182,7 +183,7 @@ test_names_of_a_master_playlist_s_renditions.needs = ("httpx",)
 def test_a_long_master_playlist_takes_time_by_its_bytes(room):
     from adsplice_plant import masters
     one, many = b"#EXT-X-STREAM-INF:BANDWIDTH=1\n%s.m3u8\n", b"#EXT-X-MEDIA:TYPE=SUBTITLES,GROUP-ID=\"s\",NAME=\"a\",URI=\"s%d\"\n"
-    for make, is_taken in ((lambda n: b"".join(one % b"%d" % it for it in range(n)), False), (lambda n: one % b"a" + b"".join(many % it for it in range(n)), True),
+    for make, is_taken in ((lambda n: b"".join(one % b"%d" % it for it in range(n)), False), (lambda n: one % b"a" + b"".join(many % it for it in range(n)), None), (lambda n: one % b"a" + b"".join(many % it for it in range(n // 12)), True),
                            (lambda n: one % b"a" * n, True), (lambda n: one % (b"a" * 100) * (n // 3), True)):
         took = []
         for count in (3000, 12_000):
@@ -191,6 +192,36 @@ def test_a_long_master_playlist_takes_time_by_its_bytes(room):
                 masters.read(b"#EXTM3U\n" + make(count), BASE)
                 assert is_taken, count
             except Fault as fault:
-                assert not is_taken and "more than 64 renditions" in str(fault), fault
+                assert not is_taken and ("more than 64 renditions" if is_taken is False else "more than 1000 lines") in str(fault), fault
             took.append(time.process_time() - begun)
         assert took[1] < 7 * took[0] + 0.05 and took[1] < 1, took
+
+
+def test_whoever_waits_at_the_written_master_playlist_holds_nobody_up(room):
+    from adsplice_plant import masters
+    from adsplice_plant.settings import ladder_of
+    path = f"{room.path}/viewers.m3u8"
+    one = ladder_of("film", {"origin": BASE, "at": "http://127.0.0.1:1", "master": path})[0]
+    os.mkfifo(path)
+    assert masters.written_names(one) == []  # (and returns)
+    os.remove(path)
+    room.write("viewers.m3u8", "#EXTM3U\n#EXT-X-STREAM-INF:BANDWIDTH=1\n/channels/film-1/live.m3u8\n#EXT-X-STREAM-INF:BANDWIDTH=2\n/channels/film-2/live.m3u8\n")
+    assert masters.written_names(one) == ["film-1", "film-2"]
+
+
+def test_a_fault_that_nobody_foresaw_ends_no_thread(room):
+    from adsplice_plant import masters
+    from adsplice_plant.settings import ladder_of
+    from adsplice_plant.web import Client
+    lines, ending, looks = [], threading.Event(), []
+    one = masters.Programme(ladder_of("film", {"origin": BASE, "at": "http://127.0.0.1:1", "master": f"{room.path}/viewers.m3u8"})[0], Client(1), lines.append, None)
+
+    def look():
+        looks.append(1)
+        if len(looks) == 3:
+            ending.set()
+        raise KeyError("nobody foresaw it")
+
+    one.look = look
+    one.run(ending, 0.1)
+    assert len(looks) == 3 and len(lines) == 1 and "film master - Refused: KeyError: 'nobody foresaw it'; reads it again" in lines[0], lines

@@ -325,7 +325,7 @@ def test_as_run_line_says_why_a_break_has_no_pod_of_its_own(room):
 
 def test_a_fallback_where_nobody_decides_is_usual(room):
     from adsplice_plant import monitor
-    text = (f"[DEFAULT]\nat = http://127.0.0.1:1\nkeep = {room.path}\n[plain]\norigin = /i.m3u8\nbase = http://h/\n[decided]\norigin = /i.m3u8\nbase = http://h/\ndecisions = {room.path}/d\n"
+    text = (f"[DEFAULT]\nat = http://127.0.0.1:1\nkeep = {room.path}/kept\n[plain]\norigin = /i.m3u8\nbase = http://h/\n[decided]\norigin = /i.m3u8\nbase = http://h/\ndecisions = {room.path}/d\n"
             f"[ladder]\nrenditions = 1 2\norigin = /{{}}.m3u8\nbase = http://h/\ndecisions = {room.path}/{{}}\n")
     watches = monitor.watches_of(monitor.read_words(["--config", room.write("feed.ini", text), "--as-run", f"{room.path}/as-run.jsonl"]))
     assert {it.name: it.as_run.is_decided for it in watches} == {"plain": False, "decided": True, "ladder-1": True, "ladder-2": True}

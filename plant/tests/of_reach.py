@@ -43,7 +43,7 @@ def test_what_a_person_named_is_reached_and_what_it_leads_to_is_judged(room):
         said = Reach(frozenset({"93.184.216.34"})).strays(spelling.strip("[]"))
         assert "an address of this machine: `networks` has it read" in said, (spelling, said)
     assert refused(Reach(frozenset({"10.0.0.5"})), "other.example", "10.0.0.6") and not refused(Reach(frozenset({"10.0.0.5"})), "other.example", "10.0.0.5")
-    assert not refused(Reach(), "origin.example", "10.0.0.5", "origin.example") and refused(Reach(), "other.example", "10.0.0.5", "1.1.1.1")
+    assert not refused(Reach(), "adsplice.example", "169.254.1.1", "adsplice.example") and refused(Reach(), "other.example", "10.0.0.5", "1.1.1.1")
 
 
 def test_a_name_that_was_public_does_not_become_this_machine(room):
@@ -96,7 +96,7 @@ class Names:
     def found(self, host, port, *more, **named):
         """As the system's."""
         name, _, domain = host.partition(".")
-        return self.real(self.addresses[name] if domain == "example" else host, port, *more, **named)
+        return self.real(self.addresses.get(name, host) if domain == "example" else host, port, *more, **named)
 
 
 def test_a_redirect_leads_to_the_same_scheme_host_and_port(room):
@@ -125,6 +125,10 @@ def test_the_address_is_judged_to_which_the_socket_connects(room):
     with Names(origin="93.184.216.34"):
         reach = Reach(frozenset({"origin.example"}))
         assert Client(0.2, False, reach).ask("GET", url).status == 0
+    first.leads = "/i.m3u8"
+    with Names(**{"xn--bcher-kva": "127.0.0.1"}):  # (its ASCII form, which a person may write)
+        url_of_it = f"http://xn--bcher-kva.example:{first.port}/i.m3u8"
+        assert Client(2, False, Reach(frozenset({"xn--bcher-kva.example"}))).ask("GET", url_of_it).status == 200
     asked = len(first.asked)
     with Names(origin="127.0.0.1"):
         found = Client(2, False, reach).ask("GET", url)

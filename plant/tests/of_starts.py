@@ -6,7 +6,7 @@ import sys
 import time
 from pathlib import Path
 
-from tools import FALLBACK, PLANT, FakeController, listed, until
+from tools import FALLBACK, PLANT, FakeController, decided, listed, until
 
 sys.path.insert(0, PLANT)
 
@@ -196,3 +196,21 @@ def read_faults(path):
     except Fault as fault:
         return [str(fault)]
     return [text for _, text in found]
+
+
+def test_files_are_known_at_the_begin_however_often_they_were_looked_at_before(room):
+    from adsplice_plant.events import Began
+    from adsplice_plant.fed import Limits
+    from adsplice_plant.settings import settings_of
+    from adsplice_plant.shell import Feeding
+    room.write("d/b1.json", decided(("b1", 1)))
+    said = {"origin": f"{room.path}/i.m3u8", "base": "http://h/i.m3u8", "at": "http://127.0.0.1:9", "decisions": f"{room.path}/d", "fallback": room.write("f.json", FALLBACK)}
+    feeding = Feeding([settings_of("news", said)], Limits(), lambda line: None)
+    feeding.inbox.post_first(Began())
+    feeding.look()
+    feeding.look()  # (as on a machine that was busy for a quarter of a second)
+    begin = feeding.inbox.first()
+    assert list(begin.folders["news"]) == ["b1.json"] and begin.fallbacks["news"] == FALLBACK.encode(), begin
+    room.write("d/b2.json", decided(("b2", 1)))
+    feeding.look()
+    assert sorted(feeding.inbox.first().folders["news"]) == ["b1.json", "b2.json"] and feeding.inbox.first().fallbacks["news"] == FALLBACK.encode()

@@ -87,7 +87,7 @@ def test_words_of_lines_are_those_of_the_pages(room):
     for path in sources - {f"{PLANT}/adsplice_plant/{it}.py" for it in ("words", "explain", "monitor", "causes", "excerpt", "judge", "as_run", "watch")}:
         with open(path, encoding="utf-8") as it:
             text = it.read()
-        for call in re.findall(r"(?:\b(?:tell|tell_decision|say|line|refuse|Tell|Telling|WORDS|lack|Lack)\b|\bword)(?:\(| = )(?:[^()\n]|\([^()\n]*\))*", text):
+        for call in re.findall(r"(?:\b(?:tell|tell_decision|say|line|refuse|Tell|Telling|WORDS|lack|Lack)\b|\bword|\bMANY)(?:\(| = )(?:[^()\n]|\([^()\n]*\))*", text):
             told |= set(re.findall(r'"([A-Z][a-z]+(?:[A-Z][a-z]+)*)"', call))
     told = (told - {"Shape"}) | {"First", "Second"}
     rows = []
