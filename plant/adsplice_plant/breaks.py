@@ -156,8 +156,9 @@ class Timeline:
         other segments."""
         if one.clock is None or one.said is None:
             return one.clock is None or self.last > one.clock
-        by = one.start - one.said
-        return self.low_number > one.clock + 1 or any(abs(jump.by - by) <= self.segments[-1].duration // 2 for jump in self.jumps(1))
+        by, newest = one.start - one.said, self.begins[-1]
+        is_past = self.low_number > one.clock + 1 or self.low_number > one.clock and abs(newest - one.start) <= abs(newest - one.said)
+        return is_past or any(abs(jump.by - by) <= self.segments[-1].duration // 2 for jump in self.jumps(1))
 
     def half(self, instant: int) -> int:
         """Half the duration of the segment in which the `instant` is, or of the one nearest to it."""

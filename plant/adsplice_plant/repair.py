@@ -284,6 +284,9 @@ class Repairer:
         if first is not None and first < last.begins and (taken := siblings.after_clock(last, first)):
             return taken
         end = last.begins + last.duration
+        newest = found.segments[-1]
+        if newest.begins is not None and newest.begins + lasting(found.segments) < end - newest.duration:
+            return []  # (by a clock that went back farther than the list lasts)
         found.segments = list(dropwhile(lambda it: it.begins is not None and middle_of(it) < end, found.segments)) or found.segments[-1:]
         first = found.segments[0].begins
         taken = siblings.between(end, first) if first is not None else []

@@ -96,8 +96,8 @@ def as_it_runs(stands: Standing, line: str, one: Break | None) -> str:
     reckoned, found = stands.viewed.reckoned, read_range(line)
     if reckoned is None or reckoned.run is None or reckoned.run.id != found.id:
         return line
-    if one is not None and one.said is not None and one.end() is None:
-        return f'{without(line, ENDS)},END-DATE="{instant_text(one.start + reckoned.run.shape.total())}"'
+    if one is not None and one.said is not None:
+        return line if one.end() is not None else f'{without(line, ENDS)},END-DATE="{instant_text(one.start + reckoned.run.shape.total())}"'
     known = next((it for it in reckoned.breaks if it.id == found.id), None)
     length, total = length_of(found), reckoned.run.shape.total()
     if known is None or [name for name, _ in rules.ends_of(known, total)] != [BY_POD] or length is None or length <= total + TOLERANCE:
