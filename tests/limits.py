@@ -31,6 +31,7 @@ POD_SEGMENTS = Limit("the segments of a pod", ("crates/pod_store/specs/Limits.an
     ("crates/worked_examples/specs/Pods.antt", "most_of_a_pod = {n}\n"),
     ("plant/adsplice_rules/decisions.py", "MOST_POD_SEGMENTS = {n:_}\n"),
     ("bench/rivals/decisions/src/main.rs", "count <= {n:_})"),
+    ("plant/adsplice_plant/filling.py", "MOST_SEGMENTS = {n} "),
     ("docs/decisions.schema.json", "a pod has at most {n:,} segments"),
     ("docs/decisions.schema.json", '"maxItems": {n}, "items": {{ "$ref": "#/definitions/segment" }}'),
     ("docs/DECISION_FILES.md", "a pod has at most {n:,} segments"),
