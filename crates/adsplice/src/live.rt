@@ -5,8 +5,10 @@
 ghost use Rattle.std.specs.Prelude.{◌<◌, length, vec_len, IfOk};
 ghost use Rattle.connections.specs.Runs.{HasRun};
 
+use crate::clients::Clients;
+use crate::door::Opened;
 use crate::faults::{Faults, OUT_OF_MEMORY, fails_on_standard_error};
-use crate::server::{Clients, Opened, Server};
+use crate::server::Server;
 use connections::{Connections, NewTable};
 use mio::Events;
 use std::alloc::AllocError;

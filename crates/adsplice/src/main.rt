@@ -1,8 +1,9 @@
 //! `adsplice`: puts advertisements into live HLS channels.
 #![tactic(auto)]
 
-mod client;
+mod clients;
 mod decisions;
+mod door;
 mod faults;
 mod live;
 mod server;

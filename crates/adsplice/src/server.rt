@@ -1,26 +1,21 @@
-//! The sockets of all clients: who is let in, whose turn it is, and whose time is up.
+//! Whose turn it is of all clients, who is let in, and whose time is up.
 #![tactic(auto, using(connections::proofs::Leading::stays, connections::proofs::Leading::by_one, connections::proofs::Leading::and_then))]
 
 ghost use Rattle.std.specs.Prelude.{◌<◌, length};
 ghost use Rattle.connections.specs.Runs.{HasRun};
 
-use crate::client::{fault_at_socket, was_socket_granted};
+use crate::clients::{Clients, fault_at_socket, was_socket_granted};
+use crate::door::{Door, Opened};
 use crate::faults::Faults;
 use connections::{
-    Admission, Arrivals, Call, Client, Connections, Line, NonBlocking, PLACES, Part, Phase, Seat,
-    Socket, Turn, When, ending_deadline, has_come, quiet_deadline, serving_deadline,
+    Admission, Call, Client, Connections, NonBlocking, PLACES, Part, Phase, Seat, Socket, Turn,
+    When, ending_deadline, has_come, serving_deadline,
 };
 use http_edge::{EdgeFault, MAX_CHANNELS};
-use mio::net::{TcpListener, TcpStream};
-use mio::{Events, Interest, Poll, Token};
-use std::alloc::{AllocError, Global};
+use mio::net::TcpStream;
+use mio::{Events, Token};
 use std::io;
-use std::io::ErrorKind;
-use std::net::{Ipv4Addr, SocketAddr, SocketAddrV4};
 use std::time::{Duration, Instant};
-
-/// The listener's token: those of the clients are their places.
-pub const LISTENER: Token = Token(PLACES);
 
 // How many clients are let in before the others have their turn again.
 const LET_IN: u32 = 64;
@@ -30,80 +25,6 @@ const PARTS: u32 = 4;
 
 // Milliseconds from one tick to the next.
 const TICK_MILLIS: u64 = 50;
-
-// The system's numbers for a process, and a machine, that has as many files open as it may.
-const NO_FILE_IN_PROCESS: i32 = 24;
-
-const NO_FILE_IN_SYSTEM: i32 = 23;
-
-// What is known of clients that come.
-#[derive(Clone, Copy, PartialEq, Eq)]
-enum Door {
-    // They may wait.
-    Open,
-    // None waits, and the system tells when one does.
-    Quiet,
-    // There is no file left for one, and the system tells whether one waits.
-    NoFile,
-    // They can't be let in. It is tried again at the next tick.
-    Shut,
-}
-
-/// The clients by place, with the order in which they came. Its memory is taken once.
-#[derive(Drop)]
-pub struct Clients {
-    at: Vec<Option<Client<Socket>>>,
-    vacant: Vec<Seat<Socket>>,
-    // Those that ask or are answered, and those whose reply is gone.
-    served: Arrivals,
-    ending: Arrivals,
-    // Those of which something came last, with the instants from which on they are quiet.
-    heard: Arrivals,
-    // Those whose next bytes have no room.
-    short: Arrivals,
-    // Those whose requests are whole, and may take long.
-    line: Line,
-}
-
-impl Clients {
-    /// No clients yet, with `seats` for those that come: all of their table. Fails only if an allocation fails.
-    pub fn new(alloc: Global, seats: Vec<Seat<Socket>>) -> Result<Clients, AllocError> {
-        Ok(Clients {
-            at: no_socket_clients(alloc)?,
-            vacant: seats,
-            served: Arrivals::new(alloc, PLACES)?,
-            ending: Arrivals::new(alloc, PLACES)?,
-            heard: Arrivals::new(alloc, PLACES)?,
-            short: Arrivals::new(alloc, PLACES)?,
-            line: Line::new(alloc, PLACES)?,
-        })
-    }
-}
-
-/// What the system opened: the listener, and the poll that names ready clients, with the instant of its last answer.
-#[derive(Drop)]
-pub struct Opened {
-    poll: Poll,
-    listener: TcpListener,
-    now: Instant,
-}
-
-impl Opened {
-    /// Opens the port `port` of the loopback address. Fails if the system doesn't.
-    pub fn on(rt: &HostRuntime, port: u16) -> io::Result<Opened> {
-        let address = SocketAddr::V4(SocketAddrV4::new(Ipv4Addr::LOCALHOST, port));
-        let mut listener = TcpListener::bind(rt, address)?;
-        let poll = Poll::new(rt)?;
-        poll.registry()
-            .register(&mut listener, LISTENER, Interest::READABLE)?;
-        let now = Instant::now(rt)?;
-        Ok(Opened {
-            poll,
-            listener,
-            now,
-        })
-    }
-}
 
 /// The clients, what the system opened, and how many more are let in.
 #[derive(Drop)]
@@ -116,25 +37,10 @@ pub struct Server {
     next_tick: Instant,
 }
 
-fn no_socket_clients(alloc: Global) -> Result<Vec<Option<Client<Socket>>>, AllocError> {
-    let mut clients = Vec::with_capacity(alloc, PLACES)?;
-    for _ in 0..PLACES {
-        clients.push(None)?;
-    }
-    Ok(clients)
-}
-
 fn server_tick_after(now: Instant) -> Instant {
     match now.checked_add(Duration::from_millis(TICK_MILLIS)) {
         Some(then) => then,
         None => now,
-    }
-}
-
-fn is_no_socket_file(error: &io::Error) -> bool {
-    match error.raw_os_error() {
-        Some(number) => number == NO_FILE_IN_PROCESS || number == NO_FILE_IN_SYSTEM,
-        None => false,
     }
 }
 
@@ -153,14 +59,9 @@ impl Server {
         }
     }
 
-    /// How many clients there are.
-    fn present(&self) -> usize {
-        PLACES.saturating_sub(self.clients.vacant.len())
-    }
-
     /// Whether all came that are let in, and none of them is there any more.
     pub fn is_over(&self) -> bool {
-        self.admission.is_over(self.present())
+        self.admission.is_over(self.clients.present())
     }
 
     /// Writes the line of the fault `text` to standard error, unless that would wait.
@@ -175,7 +76,7 @@ impl Server {
         }
         match self.door {
             Door::Open => Some(Duration::from_millis(0)),
-            Door::Quiet if self.present() == 0 => None,
+            Door::Quiet if self.clients.present() == 0 => None,
             _ => Some(Duration::from_millis(TICK_MILLIS)),
         }
     }
@@ -183,11 +84,7 @@ impl Server {
     /// Waits until a client is ready, or a tick has passed. `events` has the clients that are ready.
     pub fn wait(&mut self, rt: &HostRuntime, events: &mut Events) -> io::Result<()> {
         let patience = self.patience();
-        self.opened.poll.poll(events, patience)?;
-        if let Ok(now) = Instant::now(rt) {
-            self.opened.now = now;
-        }
-        Ok(())
+        self.opened.wait(rt, events, patience)
     }
 
     // The client at a place leaves the table, if there is one.
@@ -204,25 +101,9 @@ impl Server {
         ensures { HasRun connections.old connections.new }
     {
         self.leave(connections, place);
-        self.stop_serving(place);
+        self.clients.stop_serving(place);
         self.clients.ending.remove(place);
-        self.give_back(place);
-    }
-
-    // The client at a place is neither heard nor answered any more.
-    fn stop_serving(&mut self, place: usize) {
-        self.clients.served.remove(place);
-        self.clients.heard.remove(place);
-        self.clients.short.remove(place);
-        self.clients.line.leave(place);
-    }
-
-    fn give_back(&mut self, place: usize) {
-        if let Some(client) = self.clients.at.get_mut(place) {
-            if let Some(client) = client.take() {
-                let _ = self.clients.vacant.push(client.close());
-            }
-        }
+        self.clients.give_back(place);
     }
 
     // Waits for a client, or closes its connection if the system can't tell of it.
@@ -249,7 +130,7 @@ impl Server {
         ensures { HasRun connections.old connections.new }
     {
         self.leave(connections, place);
-        self.stop_serving(place);
+        self.clients.stop_serving(place);
         let Some(Some(client)) = self.clients.at.get_mut(place) else {
             return;
         };
@@ -345,16 +226,6 @@ impl Server {
         if was_asking && matches!(connections.phase(place), Phase::Answering(_)) {
             self.give_time(rt, connections, place);
         }
-    }
-
-    // Something came of the client at a place: for a while it isn't quiet.
-    fn note_heard(&mut self, place: usize) {
-        self.clients.heard.remove(place);
-        // (its memory was taken before: what isn't noted isn't given up for others)
-        let _ = self
-            .clients
-            .heard
-            .push(place, quiet_deadline(self.opened.now));
     }
 
     // The client at a place isn't heard on before there is room for its bytes. If there is no memory to note that, it is
@@ -465,7 +336,7 @@ impl Server {
         }
         let turn = client.hear_part(part, connections, block);
         if turn == Turn::Goes {
-            self.note_heard(place);
+            self.clients.note_heard(place, self.opened.now);
             return true;
         }
         self.settle(rt, connections, place, turn, false);
@@ -675,32 +546,12 @@ impl Server {
 
     // The next client that waits, if one does.
     fn next_client(&mut self) -> Option<TcpStream> {
-        match self.opened.listener.accept() {
-            Ok((stream, _)) => Some(stream),
-            Err(e) => {
-                self.door = self.door_after(&e);
+        match self.opened.next_client() {
+            Ok(stream) => Some(stream),
+            Err(door) => {
+                self.door = door;
                 None
             }
-        }
-    }
-
-    // What is known of clients that come, after one could not be let in. No error ends the server.
-    fn door_after(&mut self, error: &io::Error) -> Door {
-        if error.kind() == ErrorKind::WouldBlock {
-            return Door::Quiet;
-        }
-        if !is_no_socket_file(error) {
-            return Door::Shut;
-        }
-        // (a new interest has the system tell whether somebody waits at all)
-        let asked = self
-            .opened
-            .poll
-            .registry()
-            .reregister(&mut self.opened.listener, LISTENER, Interest::READABLE);
-        match asked {
-            Ok(()) => Door::NoFile,
-            Err(_) => Door::Shut,
         }
     }
 

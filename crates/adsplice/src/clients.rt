@@ -1,0 +1,94 @@
+//! The clients by place: who is there, in which order they came, and what is told of one that goes.
+use connections::{
+    Arrivals, Client, Connections, Line, PLACES, Phase, Seat, Socket, quiet_deadline,
+};
+use http_edge::EdgeFault;
+use std::alloc::{AllocError, Global};
+use std::time::Instant;
+
+/// The clients by place, with the order in which they came. Its memory is taken once.
+#[derive(Drop)]
+pub struct Clients {
+    pub(crate) at: Vec<Option<Client<Socket>>>,
+    pub(crate) vacant: Vec<Seat<Socket>>,
+    // Those that ask or are answered, and those whose reply is gone.
+    pub(crate) served: Arrivals,
+    pub(crate) ending: Arrivals,
+    // Those of which something came last, with the instants from which on they are quiet.
+    pub(crate) heard: Arrivals,
+    // Those whose next bytes have no room.
+    pub(crate) short: Arrivals,
+    // Those whose requests are whole, and may take long.
+    pub(crate) line: Line,
+}
+
+impl Clients {
+    /// No clients yet, with `seats` for those that come: all of their table. Fails only if an allocation fails.
+    pub fn new(alloc: Global, seats: Vec<Seat<Socket>>) -> Result<Clients, AllocError> {
+        Ok(Clients {
+            at: no_socket_clients(alloc)?,
+            vacant: seats,
+            served: Arrivals::new(alloc, PLACES)?,
+            ending: Arrivals::new(alloc, PLACES)?,
+            heard: Arrivals::new(alloc, PLACES)?,
+            short: Arrivals::new(alloc, PLACES)?,
+            line: Line::new(alloc, PLACES)?,
+        })
+    }
+
+    /// How many clients there are.
+    pub(crate) fn present(&self) -> usize {
+        PLACES.saturating_sub(self.vacant.len())
+    }
+
+    /// The client at `place`, from 0, is neither heard nor answered any more.
+    pub(crate) fn stop_serving(&mut self, place: usize) {
+        self.served.remove(place);
+        self.heard.remove(place);
+        self.short.remove(place);
+        self.line.leave(place);
+    }
+
+    /// The seat of the client at `place`, from 0, is vacant from now on, if one is there. Its connection is closed.
+    pub(crate) fn give_back(&mut self, place: usize) {
+        if let Some(client) = self.at.get_mut(place) {
+            if let Some(client) = client.take() {
+                let _ = self.vacant.push(client.close());
+            }
+        }
+    }
+
+    /// Something came of the client at `place`, from 0, at the instant `now`: for a while it isn't quiet.
+    pub(crate) fn note_heard(&mut self, place: usize, now: Instant) {
+        self.heard.remove(place);
+        // (its memory was taken before: what isn't noted isn't given up for others)
+        let _ = self.heard.push(place, quiet_deadline(now));
+    }
+}
+
+fn no_socket_clients(alloc: Global) -> Result<Vec<Option<Client<Socket>>>, AllocError> {
+    let mut clients = Vec::with_capacity(alloc, PLACES)?;
+    for _ in 0..PLACES {
+        clients.push(None)?;
+    }
+    Ok(clients)
+}
+
+/// Whether the client at `place` of `connections`, from 0, was granted what it asked: the status of its reply is
+/// below 300.
+pub fn was_socket_granted(connections: &Connections, place: usize) -> bool {
+    match connections.phase(place) {
+        Phase::Answering(status) => status < 300,
+        _ => false,
+    }
+}
+
+/// The fault of the client at `place` of `connections`, from 0, that is given up: `Read` if it asks, `Write` if it is
+/// answered; `None` if nobody is there.
+pub fn fault_at_socket(connections: &Connections, place: usize) -> Option<EdgeFault> {
+    match connections.phase(place) {
+        Phase::Asking => Some(EdgeFault::Read),
+        Phase::Answering(_) => Some(EdgeFault::Write),
+        Phase::Vacant => None,
+    }
+}
