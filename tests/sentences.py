@@ -13,7 +13,7 @@ from collections.abc import Iterator
 LIMIT = 30
 PAGES = ("README.md", "CHANGELOG.md", "CONTRIBUTING.md", "bench/HISTORY.md", "bench/README.md", "crates/README.md", "docs/ADS.md", "docs/ARCHITECTURE.md",
          "docs/CONFORMANCE.md", "docs/DECISIONS.md", "docs/DECISION_FILES.md", "docs/LIBRARY.md", "docs/OPERATING.md", "docs/PACKAGERS.md",
-         "docs/PERFORMANCE.md", "docs/PROOF.md", "docs/SIGNALS.md", "docs/TESTING.md", "plant/README.md")
+         "docs/PERFORMANCE.md", "docs/PROOF.md", "docs/REPLICAS.md", "docs/SIGNALS.md", "docs/TESTING.md", "plant/README.md")
 ITEM = re.compile(r"^\s*(?:- |\d+\. )")
 END = re.compile(r"(?<=[\w)`*\"%'\]][.!?])(?:\*\*|\))?\s+")
 

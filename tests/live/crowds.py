@@ -16,9 +16,12 @@ import sys
 import threading
 import time
 
+import costs
+
 MAX_SECONDS = 1.0  # that a good client waits, on a busy machine
 MAX_BEHIND_PUSHES = 0.1  # and a viewer beside clients that push, at the best of three tries
 MAX_BEHIND_OTHERS = 16  # so many times as long as one request of another channel takes: a push beside 128 clients that ask such
+MAX_FOR_PODS = 1.6  # so many times the processor time that `why` takes with pods of one segment it takes with pods of 500
 LEAST_LARGE = 20  # bodies of 4 MiB that are answered in five seconds, if 64 clients send such without a pause
 # Seconds until a request was sent. A client that the machine holds up for longer is silent meanwhile: if no place is left, the
 # server gives it up for those that came after it, without a reply.
@@ -285,6 +288,32 @@ def large_bodies_end(run_live, program):
         server.stop()
 
 
+def why_under(server, breaks, fallback):
+    """The processor seconds of 20 reads of `why` of a new channel, all of whose breaks this fallback fills."""
+    said = [server.put(b"/channels/why", b'{"base":"http://origin.example/ch/index.m3u8"}'),
+            server.put(b"/channels/why/decisions", fallback), server.put(b"/channels/why/origin", breaks)]
+    if not all(it.startswith((b"HTTP/1.1 201", b"HTTP/1.1 204")) for it in said):
+        raise OSError(f"the server didn't take its breaks: {said}"[:200])
+    before = server.processor_seconds()
+    for _ in range(20):
+        server.ask(b"GET /channels/why/why HTTP/1.1\r\n\r\n")
+    taken = server.processor_seconds() - before
+    server.ask(b"DELETE /channels/why HTTP/1.1\r\n\r\n")
+    return taken
+
+
+def why_of_long_pods(run_live, program):
+    """`why` looks at the pod of each break, and not at the pod's segments."""
+    server = begun(run_live, program, stderr=subprocess.DEVNULL)
+    try:
+        breaks = costs.ended_breaks(15_000)
+        short, long = (min(why_under(server, breaks, costs.fallback(count)) for _ in range(3)) for count in (1, 500))
+        print(f"20 times why of 15,000 breaks: {short:.2f} s of a processor with pods of one segment, {long:.2f} s with pods of 500")
+        return [] if long <= MAX_FOR_PODS * short + 0.05 else [f"why takes {long:.2f} s under pods of 500, and {short:.2f} s under pods of one"]
+    finally:
+        server.stop()
+
+
 def beside(run_live, program, name):
     server = begun(run_live, program, stderr=subprocess.DEVNULL)
     try:
@@ -334,6 +363,7 @@ def cases(run_live, program):
     found = {f"beside {name}": lambda name=name: beside(run_live, program, name) for name in CROWDS}
     found |= {f"a viewer beside {name}": lambda name=name: behind_pushes(run_live, program, name) for name in PUSHES}
     found["a push beside a crowd on another channel"] = lambda: push_beside_another_channel(run_live, program)
+    found["why under pods of many segments"] = lambda: why_of_long_pods(run_live, program)
     found["large bodies without a pause"] = lambda: large_bodies_end(run_live, program)
     found["no files left"] = lambda: no_files(run_live, program)
     found["faults that nobody reads"] = lambda: unread_faults(run_live, program)

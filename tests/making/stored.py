@@ -58,7 +58,7 @@ def reads(section: dict[str, Any]) -> bool:
     fields, given = section["fields"], bytes.fromhex(section["hex"])
     found = section_of(given).insert
     out = None if fields["cancel"] else fields["out"] == 1
-    owed = Insert(out, fields.get("ticks"), fields["event"], fields.get("immediate") == 1)
+    owed = Insert(out, fields.get("ticks"), fields["event"], fields.get("immediate") == 1, fields.get("avail", 0), fields.get("avails", 0))
     return crc_of(given) == 0 and found == owed
 
 

@@ -1,2 +1,3 @@
 pub mod Store
 pub mod Kept
+pub mod Fitting

@@ -1,8 +1,7 @@
 //! The store of decided breaks.
 ghost use Rattle.std.specs.Prelude.{◌≡◌, ◌+◌, ◌==◌, ◌≤◌, ◌<◌, map, filter, fold, length, is_some, true, false, OnOk, OnErr, IfOk, IfErr};
-ghost use Rattle.std.specs.List.{list_all, list_any};
+ghost use Rattle.std.specs.List.{list_any};
 ghost use Rattle.std.specs.Option.{option_copied};
-ghost use Rattle.pod_store.specs.Pods.{ad_init_section_fits, pod_segment_fits, pod_ad_fits, pod_fits};
 ghost use Rattle.pod_store.specs.Store.{nothing_decided, with_entries, names_used, put, entry_for, has_own, own_pod, pod_for, has_fitting_pod, has_no_pod, is_used, is_named_if_any, with_all, withdrawn, decided, with_copy, with_copies, adopted, kept_in_use, is_new_decision, Changes, ChangesExactly};
 ghost use Rattle.pod_store.specs.Inner.Store.{GrowsBy};
 ghost use Rattle.pod_store.specs.Outcome.{no_memory};
@@ -15,9 +14,9 @@ use crate::kept::{
     stored_pod_for,
 };
 use crate::limits::MAX_BREAKS;
-use crate::{Ad, Decision, Decisions, IdSet, Pod, PodSegment};
+use crate::{Decision, Decisions, IdSet, Pod};
 use indexmap::IndexMap;
-use playlist_model::{InitSection, Shared, Text};
+use playlist_model::{Shared, Text};
 use std::alloc::{AllocError, Global};
 use std::hash::RandomState;
 use std::marker::Model;
@@ -39,52 +38,6 @@ impl Model for PodStore {
     ghost Value = { Store };
 
     ghost view = { λ a. record { entries = map entry_of a.kept.entries; fallback = a.fallback } };
-}
-
-// Whether the duration of `segment`, rounded to whole seconds, is at most the target duration (RFC 8216, section
-// 4.3.3.1).
-fn pod_segment_fits(segment: &PodSegment, target: u64) -> bool
-    ensures { result ≡ pod_segment_fits target segment.now }
-{
-    segment.duration.rounded_seconds() <= target
-}
-
-fn pod_segments_fit(segments: &[PodSegment], target: u64) -> bool
-    ensures { result ≡ list_all (pod_segment_fits target) segments.now }
-{
-    segments
-        .iter()
-        .all(|s: &PodSegment| pod_segment_fits(s, target))
-}
-
-fn ad_init_section_fits(init_section: &Option<InitSection>, with_init_sections: bool) -> bool
-    ensures { result ≡ ad_init_section_fits with_init_sections init_section.now }
-{
-    if with_init_sections {
-        init_section.is_some()
-    } else {
-        init_section.is_none()
-    }
-}
-
-fn pod_ad_fits(ad: &Ad, target: u64, with_init_sections: bool) -> bool
-    ensures { result ≡ pod_ad_fits target with_init_sections ad.now }
-{
-    ad_init_section_fits(&ad.init_section, with_init_sections)
-        && pod_segments_fit(ad.segments.as_slice(), target)
-}
-
-impl Pod {
-    /// Whether this pod fits a playlist: each segment, rounded to whole seconds, is at most the target duration
-    /// `target` (RFC 8216, section 4.3.3.1), and each ad has an initialisation section exactly if the origin's
-    /// segments have one, which is `with_init_sections` (section 4.3.2.5).
-    pub fn fits(&self, target: u64, with_init_sections: bool) -> bool
-        ensures { result ≡ pod_fits target with_init_sections self.now }
-    {
-        self.ads()
-            .iter()
-            .all(|ad: &Ad| pod_ad_fits(ad, target, with_init_sections))
-    }
 }
 
 // The decisions, whose pods can be shared.
