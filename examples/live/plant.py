@@ -1,9 +1,9 @@
 """The first channel's plant: a packager, two processes of adsplice behind nginx, relays, an ad server, a site for page and media."""
 from __future__ import annotations
 
-import json
 import os
 import shutil
+import socket
 import subprocess
 import threading
 import time
@@ -16,7 +16,7 @@ from tools import HERE, ROOT, Processes, configure_nginx, free_ports, request, w
 # What the page may do (Content Security Policy): run its own script alone, and read from its own host alone, whatever its address says.
 POLICY = "; ".join(("default-src 'none'", "script-src 'self'", "style-src 'self'", "connect-src http://$host:*", "media-src http://$host:* blob:",
                     "base-uri 'none'", "form-action 'none'", "frame-ancestors 'none'"))
-# The page, the media, the master playlists, `why` and what was asked: what a real plant has on its own servers.
+# The page, the media, the master playlists and `why`: what a real plant has on its own servers.
 SITE = """
     types { text/html html; text/css css; text/javascript js; video/mp2t ts; application/vnd.apple.mpegurl m3u8; }
     server {
@@ -26,7 +26,6 @@ SITE = """
         add_header Content-Security-Policy "POLICY";
         add_header X-Content-Type-Options nosniff;
         location ~ "^/channels/[a-z0-9-]+/why$" { proxy_pass http://$adsplice_read; }
-        location = /asked { proxy_pass http://127.0.0.1:ASKED; }
     }
 """
 
@@ -39,6 +38,7 @@ class Plant:
         """`port`, `viewers`, `operator`: of the page, of viewers' playlists, and for PUTs; `tell` prints what is done next."""
         self.processes, self.room, self.renditions = processes, room, renditions
         self.site, self.viewers = f"http://{host}:{port}", f"http://{host}:{viewers}"
+        self.address = socket.gethostbyname(host)  # at which the feed looks for the ads
         *self.ports, self.decider, self.ad_server = free_ports(4)
         self.operator = f"http://127.0.0.1:{operator}"
         self.relays: list[Relay] = []
@@ -51,7 +51,7 @@ class Plant:
         tell("starts adsplice, nginx, the packager and the feed")
         self.running = {it: processes.adsplice(program, it) for it in self.ports}
         server = SITE.replace("HOST", host).replace("PORT", str(port)).replace("ROOM", room)
-        server = server.replace("POLICY", POLICY).replace("ASKED", str(self.decider))
+        server = server.replace("POLICY", POLICY)
         self.configuration = configure_nginx(room, self.ports, f"{host}:{viewers}", operator, server)
         self.nginx = processes.nginx(self.configuration)
         wait_for(operator)
@@ -71,18 +71,9 @@ class Plant:
         """The channels of a programme, one for each rendition."""
         return [f"{name}-{n}" for n in range(1, self.renditions + 1)]
 
-    def decide(self, plan: Plan) -> str:
-        """Starts an ad decision server with a rotation of pods for a plan's breaks: ads a and b, b and a, and none; answers the address
-        at which it is asked."""
-        pods = [media.pod(media.pod_kinds(kinds, plan.length), f"{self.site}/media/ads/{{}}", plan.cut) for kinds in (("ad a", "ad b"), ("ad b", "ad a"))]
-        write_aside(f"{self.room}/pods.json", json.dumps([*pods, None]))
-        self.processes.start([f"{HERE}/decision_server", f"{self.room}/pods.json", "--port", str(self.decider)])
-        wait_for(self.decider)
-        return f"http://127.0.0.1:{self.decider}/decide"
-
-    def decide_by_vast(self, name: str) -> str:
+    def decide(self, name: str) -> str:
         """Starts a VAST ad server with two films, and adsplice-decide between it and the feed of the programme `name`; answers the address at which it
-        is asked. The ads are made for the programme's renditions while the first breaks go by."""
+        is asked. The ads are made for the programme's renditions while the first break goes by."""
         self.processes.start([f"{HERE}/ad_server", f"{self.room}/films", "--make", "--port", str(self.ad_server)])
         wait_for(self.ad_server)
         write_aside(f"{self.room}/decide.ini", f"[DEFAULT]\nstore = {self.room}/site/media/pods\nkeep = {self.room}/decide\nat = {self.site}/media/pods\n"
@@ -100,7 +91,7 @@ class Plant:
         numbers = " ".join(str(n) for n in range(1, self.renditions + 1))
         write_aside(f"{self.room}/feed/{name}.ini", f"[{name}]\nrenditions = {numbers}\nat = {self.operator}\norigin = {folder}/index.m3u8\n"
                     f"base = {self.site}/media/programme/{{}}/index.m3u8\ndecisions = {folder}/decisions\nfallback = {folder}/fallback.json\n"
-                    f"keep = {self.room}/feed/kept\n" + (f"ask = {ask}\n" if ask else ""))
+                    f"keep = {self.room}/feed/kept\n" + (f"ask = {ask}\nverify = yes\nnetworks = {self.address}\n" if ask else ""))
         write_aside(f"{self.room}/site/{name}.m3u8", media.master([self.playlist(it) for it in self.names(name)]))
         self.start_feed(name, relays, words)
         for it in relays:

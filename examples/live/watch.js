@@ -225,32 +225,12 @@ function tellWhy(now = Date.now()) {
   for (const it of renditions) for (const id of it.breaks.keys()) if (!known.has(id) && !breaks.has(id)) it.breaks.delete(id);
   at("why").replaceChildren(...[...breaks].reverse().map(([id, { look, text }]) => {
     const row = document.createElement("tr");
-    row.append(made("td", id), made("td", `${text}${known.has(id) ? "" : " (gone)"}`, faults.length || ![...WORDS, "mixed"].includes(look) ? "" : look),
-      made("td", questionOf(id), "asked"));
+    row.append(made("td", id), made("td", `${text}${known.has(id) ? "" : " (gone)"}`, faults.length || ![...WORDS, "mixed"].includes(look) ? "" : look));
     return row;
   }));
 }
 
-// What the ad decision server tells of its questions, if there is one (decision_server): by the break's ID the newest one.
-let questions = new Map();
-async function askWhatWasAsked() {
-  try {
-    const found = JSON.parse(await read("/asked"));
-    questions = new Map(found.map((it) => [String(it.id), { asked: Number(it.asked), answered: Number(it.answered), pod: it.pod }]));
-  } catch {
-    questions = new Map();
-  }
-}
-
-// When a break was asked for, and what was answered after how long.
-function questionOf(id) {
-  const it = questions.get(id);
-  if (!it || !(Math.abs(it.asked) < 1e11)) return ""; // (seconds from 1970)
-  const answer = Number.isFinite(it.answered) ? `answered after ${(it.answered - it.asked).toFixed(2)} s: ${Number.isInteger(it.pod) ? `pod ${it.pod + 1}` : "no ads"}` : "not answered yet";
-  return `asked for at ${clock(it.asked * 1000)}, ${answer}`;
-}
-
-// Which frame this is: the blocks at its foot say so (media.py).
+// Which frame this is: the blocks at its foot say so (media.py). A film of an ad server has none, and reads as the very first frame.
 const canvas = new OffscreenCanvas(320, 180);
 const pen = canvas.getContext("2d", { willReadFrequently: true });
 function readFrame() {
@@ -301,11 +281,12 @@ function onFrame(now, { presentedFrames, height }) {
   last = now;
   state.on = renditions.find((it) => it.height === height) ?? (renditions.length === 1 ? renditions[0] : null);
   at("rendition").textContent = `${state.on?.name ?? "–"}, ${video.videoWidth} × ${height}`;
-  at("frame").textContent = `${kind}, frame ${number}`;
+  const isNumbered = kind !== "programme" || number > 0;
+  at("frame").textContent = isNumbered ? `${kind}, frame ${number}` : "a film";
   mark(kind, number);
   // (a pod is as long as its break, so the picture's distance is that of its place in the playlist)
   const rest = (state.on?.items ?? []).filter((it) => it.number >= (state.shownKey?.number ?? Infinity)).reduce((sum, it) => sum + it.duration, 0);
-  if (rest && state.on.endsAt) state.behind = lag(state.on) + rest - (number % (2 * RATE)) / RATE;
+  if (rest && isNumbered && state.on.endsAt) state.behind = lag(state.on) + rest - (number % (2 * RATE)) / RATE;
   video.requestVideoFrameCallback(onFrame);
 }
 
@@ -350,10 +331,7 @@ async function main() {
       await new Promise((done) => setTimeout(done, 1000));
     }
   }
-  const all = () => {
-    renditions.forEach(refresh);
-    askWhatWasAsked();
-  };
+  const all = () => renditions.forEach(refresh);
   all();
   setInterval(all, 1000);
   setInterval(tell, 200);

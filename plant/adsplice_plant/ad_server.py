@@ -15,13 +15,12 @@ from .bounded_xml import NoXml
 from .outside import Outside
 from .vast import Ad, Document, Wrapper
 from .web import Answer
-from .words import without_user
+from .words import shown
 
 DEEPEST = 5  # wrappers, one in the other (IAB VAST 4.2, 3.4.1)
 MOST_REQUESTS = 32  # for a break
 AT_ONCE = 8  # wrappers of a channel that are followed at a time
 FIELDS = {"Accept": "application/xml, text/xml"}
-LONGEST_SHOWN = 120  # characters of a URL in a line
 
 
 class Asking(Protocol):
@@ -58,11 +57,6 @@ class Found:
     def ads(self) -> list[Ad]:
         """All ads, those of the pod first."""
         return [it for slot in self.slots for it in slot.ads] + self.buffet
-
-
-def shown(url: str) -> str:
-    """The `url` as a line has it: without a user, and without what comes behind its path."""
-    return without_user(url).partition("?")[0][:LONGEST_SHOWN]
 
 
 class Search:

@@ -15,13 +15,13 @@ import threading
 import time
 from collections import deque
 from collections.abc import Callable
-from dataclasses import dataclass, field
+from dataclasses import dataclass, field, replace
 from pathlib import Path
 
 from . import download, making
-from .ad_server import Asking, shown
+from .ad_server import Asking
 from .children import Children
-from .conditioning import SECTION
+from .conditioning import SECTION, over_of
 from .download import Download
 from .filling import Ready
 from .ladders import ALONE, Ladder
@@ -29,7 +29,7 @@ from .locks import Lock, Taken
 from .making import Choices, Made
 from .pauses import Pauses
 from .whole_files import write_aside
-from .words import Fault
+from .words import Fault, shown
 
 MOST_WAITING = 256  # ads that wait to be made
 MOST_KNOWN = 20_000  # URLs that are known
@@ -46,7 +46,7 @@ PRIVATE = 0o750  # of what is kept: URLs of ads may have tokens
 @dataclass(frozen=True)
 class Wanted:
     """An ad that is to be made for `ladder`: its `id`, the URL or the path of its file (`url`), how long it is said to last in nanoseconds, the
-    `loudness` of its sound in LUFS, and who fetches a file at a URL (`client`)."""
+    `loudness` of its sound in LUFS, who fetches a file at a URL (`client`), and whether it `is_other` (conditioning.frames_of)."""
 
     ladder: Ladder
     id: str
@@ -54,11 +54,12 @@ class Wanted:
     length: int | None
     loudness: float | None = None
     client: Asking | None = None
+    is_other: bool = False
 
     def key(self) -> tuple[str, str]:
         """By what it is known: the ladder's key, and the file with all else that the ad depends on. The query of a URL isn't among that: many a server
         signs its URLs anew for each answer."""
-        return self.ladder.key(), f"{self.length or 0} {self.loudness if self.loudness is not None else '-'} {self.id} {self.url.partition('?')[0]}"
+        return self.ladder.key(), f"{self.length or 0} {self.loudness if self.loudness is not None else '-'} {self.id} {self.url.partition('?')[0]}{' other' if self.is_other else ''}"
 
 
 @dataclass
@@ -161,7 +162,10 @@ class Store:
         except OSError:
             return "it isn't there any more"
         at = f"{self.at}/{key[0]}/{known.ad}/{ALONE if is_alone else '{}'}"
-        return Ready(it.id, made.pieces, f"{at}/s{{n}}.{made.ending}", f"{at}/{SECTION}" if made.has_map else "")
+        over = over_of(sum(made.pieces), it.ladder, it.is_other)
+        twin = self.ready(replace(it, is_other=True), is_alone) if over and not it.is_other else ""
+        is_its = isinstance(twin, Ready) and f"/{known.ad}{making.OTHER}/" in twin.uri  # (and not that of the file before)
+        return Ready(it.id, made.pieces, f"{at}/s{{n}}.{made.ending}", f"{at}/{SECTION}" if made.has_map else "", over, twin if isinstance(twin, Ready) and is_its else None)
 
     def at_hand(self, ladder: str, ad: str) -> Made | None:
         """The ad in the folder `ad` of the `ladder`; none if there is none. (The lock is held.)"""
@@ -215,7 +219,8 @@ class Store:
                     self.clean_held()
             if self.is_over:
                 return None
-            it = self.waiting.popleft()
+            it = next((one for one in self.waiting if not one.is_other), self.waiting[0])
+            self.waiting.remove(it)
             self.making.add(it.key())
             return it
 
@@ -244,10 +249,10 @@ class Store:
         begun = time.monotonic()
         with tempfile.NamedTemporaryFile(prefix="ad-", dir=self.keep / "files") as file:
             fetched = self.fetch(client, it.url, Path(file.name)) if client is not None else copied(Path(it.url), Path(file.name), self.bounds.largest)
-            name = f"{fetched.sum[:24]}-{(it.length or 0) // 10**6}{'' if it.loudness is None else f'{it.loudness:+g}'}"
+            name = f"{fetched.sum[:24]}-{(it.length or 0) // 10**6}{'' if it.loudness is None else f'{it.loudness:+g}'}{making.OTHER if it.is_other else ''}"
             made = making.read(self.store / key[0] / name)
             if made is None:
-                choices = Choices(it.loudness, self.bounds.patience, self.bounds.threads)
+                choices = Choices(it.loudness, self.bounds.patience, self.bounds.threads, it.is_other)
                 made = making.make(self.children, Path(file.name), it.ladder, self.store / key[0] / name, it.id, choices, it.length)
                 self.made_count += 1
                 self.say("", f"ad {it.id}: MediaFile {shown(it.url)} is {len(made.pieces)} pieces for {len(it.ladder.renditions)} renditions, after {time.monotonic() - begun:.1f} s")

@@ -1,10 +1,21 @@
-"""The numbers of a programme's renditions beside one another: equal at equal segments, or it is told (RFC 8216, 6.2.4)."""
+"""The numbers of a programme's renditions beside one another: equal at equal segments, or it is told (RFC 8216, 6.2.4).
+
+Renditions whose segments are as long have equal media numbers, too. Others have equal discontinuity numbers at equal instants.
+"""
 from __future__ import annotations
 
+from bisect import bisect_left
+from collections.abc import Mapping
+
+from .packaged import PackagedSegment
 from .ranges import starts_in
+from .reckoning import Numbers
+from .siblings import is_alike, pace_of
 from .state import Standing
 from .turn import Turn
 from .values import changed
+
+Found = Mapping[str, tuple[int | None, int]]  # by channels: the media number, if it is one that others have, and the discontinuity number
 
 
 def compare(turn: Turn) -> None:
@@ -13,13 +24,12 @@ def compare(turn: Turn) -> None:
     lists = {channel: it.stands for channel, it in turn.renditions()}
     if len(lists) < 2 or any(not it.repairer.last or it.viewed.is_replaced for it in lists.values()):
         return
-    common = set.intersection(*({one.number for one in it.repairer.last} & it.viewed.begins.keys() for it in lists.values()))
-    known = [number for number in common if number > turn.state.equal_after]
-    if not known:
+    first = max(lists, key=lambda channel: (pace_of(lists[channel].repairer.last), channel == next(iter(lists))))
+    alike = [it for it in lists if is_alike(pace_of(lists[first].repairer.last), pace_of(lists[it].repairer.last))]
+    if (found := newest_of(turn.state.equal_after, lists, first, alike)) is None:
         return
-    found = {channel: it.viewed.begins[max(known)] for channel, it in lists.items()}
-    usual = max(found.values(), key=list(found.values()).count)
-    odd = {channel: it for channel, it in found.items() if it != usual}
+    usual = usual_of(found)
+    odd = {channel: it for channel, it in found.items() if it[1] != usual[1] or it[0] not in (None, usual[0])}
     for channel in odd.keys() ^ turn.state.is_apart:
         turn.note([channel], "apart", int(channel in odd), "")
     if not odd:
@@ -33,17 +43,59 @@ def compare(turn: Turn) -> None:
     if any(it[1] < most for it in found.values()) and not any(may_enter(it, turn.state.translator.tolerance) for it in lists.values()):
         for channel, it in lists.items():
             turn.put_standing(channel, repairer=changed(it.repairer, owed=most - found[channel][1]))
-        turn.set(equal_after=max(it.repairer.last[-1].number for it in lists.values()) + 1)
+        turn.set(equal_after=max(lists[channel].repairer.last[-1].number for channel in alike) + 1)
 
 
-def tell_apart(turn: Turn, odd: dict[str, tuple[int, int]], usual: tuple[int, int]) -> None:
+def newest_of(after: int, lists: Mapping[str, Standing], first: str, alike: list[str]) -> Found | None:
+    """The numbers that viewers have of the newest segment of the channel `first` past the media number `after` which all `lists` have: by media
+    numbers in those that are cut `alike`, in the others by the instant at which it begins. None if there is none."""
+    numbers = set.intersection(*({one.number for one in lists[it].repairer.last} & lists[it].viewed.begins.keys() for it in alike))
+    for one in sorted((it for it in lists[first].repairer.last if it.number in numbers and it.number > after), key=lambda it: -it.number):
+        found: dict[str, tuple[int | None, int]] = {}
+        for channel, it in lists.items():
+            if channel in alike:
+                found[channel] = it.viewed.begins[one.number]
+            elif (there := beginning_at(it, one)) is not None:
+                found[channel] = None, there[1]
+        if len(found) == len(lists):
+            return found
+    return None
+
+
+def beginning_at(stands: Standing, other: PackagedSegment) -> Numbers | None:
+    """The numbers that viewers have of the segment that begins when the `other` rendition's does, or within half of itself; none if there is none."""
+    listed = stands.repairer.last
+    if other.begins is None or any(it.begins is None for it in listed):
+        return None
+    place = bisect_left(listed, other.begins, key=lambda it: it.begins or 0)
+    near = [it for it in listed[max(0, place - 1):place + 1] if abs((it.begins or 0) - other.begins) <= it.duration // 2]
+    found = min(near, key=lambda it: abs((it.begins or 0) - (other.begins or 0)), default=None)
+    return None if found is None else stands.viewed.begins.get(found.number)
+
+
+def usual_of(found: Found) -> tuple[int | None, int]:
+    """The numbers that most channels have, of those that were `found`."""
+    steps = [it[1] for it in found.values()]
+    most = max(steps, key=steps.count)
+    numbers = [it[0] for it in found.values() if it[0] is not None and it[1] == most]
+    return max(numbers, key=numbers.count) if numbers else None, most
+
+
+def tell_apart(turn: Turn, odd: Found, usual: tuple[int | None, int]) -> None:
     """Tells which renditions are `odd`, with their numbers, beside the `usual` ones: once until all are equal again. Media numbers stay apart: a
     channel that is made anew goes on with those that its viewers have."""
     if turn.state.is_apart:
         return
-    text = "; ".join(f"{name} ends with media number {it[0]} and discontinuity number {it[1]}" for name, it in odd.items())
-    does = "the discontinuities are added as soon as no break may begin" if all(it[0] == usual[0] for it in odd.values()) else "media numbers stay so"
-    turn.tell("", "ladder", 0, "Apart", f"the renditions' numbers come apart: {text}, and the others with {usual[0]} and {usual[1]}; {does}", is_again=True)
+    text = "; ".join(f"{name} ends with {said_of(it)}" for name, it in odd.items())
+    does = "media numbers stay so" if any(it[0] not in (None, usual[0]) for it in odd.values()) else "the discontinuities are added as soon as no break may begin"
+    turn.tell("", "ladder", 0, "Apart", f"the renditions' numbers come apart: {text}, and the others with {said_of(usual, False)}; {does}", is_again=True)
+
+
+def said_of(it: tuple[int | None, int], is_long: bool = True) -> str:
+    """The numbers `it` in words; if not `is_long`, by themselves."""
+    if it[0] is None:
+        return f"discontinuity number {it[1]}"
+    return f"media number {it[0]} and discontinuity number {it[1]}" if is_long else f"{it[0]} and {it[1]}"
 
 
 def may_enter(stands: Standing, tolerance: int) -> bool:

@@ -28,8 +28,8 @@ class Break:
     """A signalled break: its `id`; its `start`, the instant of a segment once that is listed (`is_settled`); how long it was
     `planned` to last; the instant `until` which it lasts if a signal said so, which is a segment's once that is listed
     (`is_ended`). What began it: its `name` by the standard, the segmentation `type` (none for a splice_insert and for a tag), the
-    `event` and the `upid`. `number`: of its first segment. `latest`: the instant of the newest signal that spoke of it.
-    `is_in_step`: its SCTE35-IN came before any segment after it. `others`: further attributes of its tag. `is_told`: its end was
+    `event` and the `upid`, and which of how many breaks it is (`part`, `parts`; 0 if that isn't said). `number`: of its first segment. `latest`: the
+    instant of the newest signal that spoke of it. `is_in_step`: its SCTE35-IN came before any segment after it. `others`: further attributes of its tag. `is_told`: its end was
     told. `clock`: the media number of the last segment before the packager's clock changed, if it was put on the new clock.
     `said`: its start by the old one, if it had begun by that."""
 
@@ -50,6 +50,8 @@ class Break:
     is_told: bool = False
     clock: int | None = None
     said: int | None = None
+    part: int = 0
+    parts: int = 0
 
     def end(self) -> int | None:
         """Where it ends as far as that is known, by a signal or else by its planned duration."""
@@ -130,13 +132,27 @@ class Jump(NamedTuple):
     is_within: bool
 
 
-class Timeline:
-    """The `instants` of a list's `segments`. With `aligns` what lies within half a segment of a segment's begin is put there. `moved`: by how
-    much its media numbers are greater than those of a programme's other renditions."""
+class Numbering(NamedTuple):
+    """The media numbers of a rendition beside those of its programme: its own number `own` is the programme's `theirs`, and `many` of the programme's
+    segments are as long as `few` of its own."""
 
-    def __init__(self, segments: list[PackagedSegment], instants: Instants, aligns: bool = True, moved: int = 0) -> None:
-        self.segments, self.aligns = segments, aligns
-        self.low_number, self.last = segments[0].number - moved, segments[-1].number - moved
+    own: int = 0
+    theirs: int = 0
+    many: int = 1
+    few: int = 1
+
+    def of(self, number: int) -> int:
+        """The programme's media number of the rendition's `number`."""
+        return self.theirs + (number - self.own) * self.many // self.few
+
+
+class Timeline:
+    """The `instants` of a list's `segments`. With `aligns` what lies within half a segment of a segment's begin is put there. `numbering`: which media
+    numbers its segments have in a programme's other renditions."""
+
+    def __init__(self, segments: list[PackagedSegment], instants: Instants, aligns: bool = True, numbering: Numbering | None = None) -> None:
+        self.segments, self.aligns, self.numbering = segments, aligns, numbering or Numbering()
+        self.low_number, self.last = self.numbering.of(segments[0].number), self.numbering.of(segments[-1].number)
         self.begins, self.low = instants
         self.end = self.begins[-1] + segments[-1].duration
         self.first = min(self.begins[self.low], *self.begins[:self.low]) if self.low else self.begins[0]
@@ -148,7 +164,7 @@ class Timeline:
             before, it = self.segments[n - 1], self.segments[n]
             at = self.begins[n - 1] + before.duration
             if abs(self.begins[n] - at) > max(SECOND, before.duration):
-                found.append(Jump(self.begins[n - 1], at, self.begins[n] - at, self.last - len(self.segments) + n, it.own == before.own + 1 and not it.discontinuities))
+                found.append(Jump(self.begins[n - 1], at, self.begins[n] - at, self.numbering.of(before.number), it.own == before.own + 1 and not it.discontinuities))
         return found
 
     def has_turned(self, one: Break) -> bool:
@@ -327,7 +343,7 @@ class Breaks:
         name = message.name() if is_section or not it.signal.is_cue else "a tag without a section"
         number = found.number if found else it.number
         new = Break(it.id or f"{message.event or 'cue'}-{number}", start, number, name, message.type, message.event, message.upid, planned,
-                    is_settled=found is not None or start < line.first or not line.aligns, latest=start, others=it.others, clock=self.clock)
+                    is_settled=found is not None or start < line.first or not line.aligns, latest=start, others=it.others, clock=self.clock, part=message.part, parts=message.parts)
         insort(self.known, new, key=lambda one: one.start)
         length = "without a duration" if planned is None else f"planned for {seconds_text(planned)} s"
         self.tell(f"breaks/{shown(new.id)}", "Begins", f"at {instant_text(start)}, {length} ({name})")

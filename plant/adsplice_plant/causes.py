@@ -12,7 +12,7 @@ from adsplice_rules.times import duration_text, instant_text, rounded_seconds
 
 from . import faults, judge, splice
 from .decisions import said_by
-from .history import Life, Run, Step
+from .history import NOTES, Life, Run, Step
 from .kept import ids_in
 from .playlist import seconds_text
 from .seen import strange_in
@@ -38,7 +38,7 @@ class Explainer:
         found = []
         for step in self.run.steps:
             name, said, owed = step.given.name, answer_text(step.given.status, step.given.fault), answer_text(step.status, step.fault)
-            if step.given.what == "note":
+            if step.given.what in NOTES:
                 continue
             if step.given.what == "hole":
                 found.append(f"{name}: nothing is kept from there on ({step.given.fault})")
@@ -113,8 +113,8 @@ class Explainer:
 
     def noted(self, name: str) -> str:
         """Why the feed gave no rendition the decision of the break `name`; empty if it kept nothing of that."""
-        found = [it.given.fault for it in self.run.steps if it.given.what == "note" and name in ids_in(it.given.text())]
-        return found[-1] if found else ""
+        found = [it.given for it in self.run.steps if it.given.what in NOTES and name in ids_in(it.given.text())]
+        return "" if not found else "it came too late" if found[-1].what == "late" else found[-1].fault
 
     def why_fallback(self, name: str, life: Life, place: int) -> str:
         """If the fallback fills the break `name`, whose first segment is at `place` of the history: why no pod of its own does."""

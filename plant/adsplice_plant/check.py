@@ -17,13 +17,13 @@ from pathlib import Path
 from adsplice_rules.edge import Edge, Reply, Request
 from adsplice_rules.values import NotModelled
 
-from . import judge, masters, playlist, words
+from . import judge, masters, playlist, status, words
 from .decisions import MAX_BYTES, said_by
 from .handover import absolute
 from .location import Location
 from .origin import origin_of, read_whole
 from .repair import Choices, Repairer
-from .settings import FOLDER, Settings
+from .settings import FOLDER, Settings, hash_of
 from .web import Client
 from .words import FAULT, Fault
 
@@ -57,7 +57,9 @@ class Check:
         yield from self.channel()
         yield from self.folders()
         if self.settings.fallback is not None:
-            yield self.fallback(self.settings.fallback)
+            yield self.ads("fallback", self.settings.fallback)
+        if self.settings.slate is not None:
+            yield self.ads("slate", self.settings.slate)
         for place, base in ((self.settings.origin, ""), (self.settings.second, self.settings.second_base)):
             if place is not None:
                 yield self.origin(place, base)
@@ -102,21 +104,22 @@ class Check:
             yield folder("keep", self.settings.keep)
             yield journal(self.settings.keep / f"{self.settings.name}.events")
 
-    def fallback(self, path: Path) -> Fact:
-        """Whether the fallback's file `path` is there, can be read, and is right."""
+    def ads(self, what: str, path: Path) -> Fact:
+        """Whether the file `path` of the fallback or of the slate (`what`) is there, can be read, and is right."""
         if not path.is_file():
-            return Fact("settings", False, f"channel {self.settings.name}: fallback: there is no file {path}")
+            return Fact("settings", False, f"channel {self.settings.name}: {what}: there is no file {path}")
         try:
             with open(path, "rb") as it:
                 body = it.read(MAX_BYTES + 1)
         except OSError as fault:
-            return Fact("fallback", False, f"{path}: {fault.strerror}")
+            return Fact(what, False, f"{path}: {fault.strerror}")
         if (wrong := judge.judge(body)) is not None:
-            return Fact("fallback", False, f"{path}: {wrong.line()} ({wrong.fault})")
+            return Fact(what, False, f"{path}: {wrong.line()} ({wrong.fault})")
         if said_by(body)[0] != "fallback":
-            return Fact("fallback", False, f"{path}: it decides breaks, and is to have the member `fallback`")
-        self.give("decisions", body)
-        return Fact("fallback", True, f"{path} is right")
+            return Fact(what, False, f"{path}: it decides breaks, and is to have the member `fallback`")
+        if what == "fallback":
+            self.give("decisions", body)
+        return Fact(what, True, f"{path} is right")
 
     # ---- the origin
 
@@ -160,8 +163,8 @@ class Check:
                 if is_secret:
                     ssl.create_default_context().wrap_socket(it, server_hostname=host).close()
         except (OSError, UnicodeError) as fault:
-            return Fact("ask", False, f"{url}: {getattr(fault, 'strerror', None) or fault}")
-        return Fact("ask", True, f"{url} takes a connection")
+            return Fact("ask", False, f"{words.shown(url)}: {getattr(fault, 'strerror', None) or fault}")
+        return Fact("ask", True, f"{words.shown(url)} takes a connection")
 
 
 def folder(what: str, path: Path) -> Fact:
@@ -185,12 +188,25 @@ def journal(path: Path) -> Fact:
     return Fact("journal", True, f"{path} can be written")
 
 
+def hashes_of(channels: list[Settings]) -> dict[str, str]:
+    """The hashes of the settings of the programmes that the `channels` are of, by their names."""
+    found: dict[str, list[Settings]] = {}
+    for it in channels:
+        found.setdefault(it.programme or it.name, []).append(it)
+    return {name: hash_of(its) for name, its in found.items()}
+
+
 def run(channels: list[Settings], faults: list[tuple[str, str]], timeout: float) -> int:
     """Prints the facts of all `channels`, a line each, and the `faults` of sections that don't read, each as its name and a text. A request may
     take `timeout` seconds. Answers the exit status."""
     is_well = not faults
     for name, text in faults:
         words.write_out(f"{Fact('settings', False, text).line(name)}\n")
+    for at in dict.fromkeys(it.store for it in channels if it.store is not None):
+        hashes = hashes_of([it for it in channels if it.store == at])
+        for what, is_right, text in status.facts(status.read(at), hashes):
+            is_well = is_well and is_right
+            words.write_out(f"{Fact(what, is_right, text).line('feed')}\n")
     with ThreadPoolExecutor(AT_ONCE) as pool:
         for it, facts in zip(channels, pool.map(lambda one: list(Check(one, timeout).facts()), channels)):
             is_well = is_well and all(fact.is_right for fact in facts)

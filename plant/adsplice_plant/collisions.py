@@ -71,7 +71,7 @@ class Claims:
 
     def add_files(self, it: Settings) -> None:
         """Adds the files of `it`; raises Fault."""
-        reads = [one.path for one in (it.origin, it.second) if isinstance(one, LocalFile)] + ([it.fallback] if it.fallback is not None else [])
+        reads = [one.path for one in (it.origin, it.second) if isinstance(one, LocalFile)] + [one for one in (it.fallback, it.slate) if one is not None]
         for path in map(resolved, reads):
             if path in self.written:
                 raise Fault(f"{it.name} reads the file {path}, which {self.written[path]} writes as its master playlist")

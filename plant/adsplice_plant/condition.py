@@ -57,6 +57,7 @@ def read_words(arguments: list[str]) -> argparse.Namespace:
     it.add_argument("--id", default="", metavar="ID", help="of the ad (the name of its file)")
     it.add_argument("--seconds", type=words.seconds, metavar="SECONDS", help="how long the ad is said to last")
     it.add_argument("--loudness", type=loudness, metavar="LUFS", help="makes the sound so loud (EBU R 128: -23)")
+    it.add_argument("--other", action="store_true", help="makes the ad's other making, whose sound is shorter than its pictures if that of the first one is longer, for DIR-other")
     it.add_argument("--threads", type=int, default=1, choices=range(1, 65), metavar="COUNT", help="of each coder (1)")
     it.add_argument("--limit", type=words.seconds, default=600.0, metavar="SECONDS", help="for the whole work (600)")
     said = it.parse_args(arguments)
@@ -110,7 +111,7 @@ def condition(children: Children, said: argparse.Namespace) -> int:
         raise Fault(f"{said.file}: there is no such file")
     stated = None if said.seconds is None else int(said.seconds * SECOND)
     try:
-        made = making.make(children, said.file, ladder_in(said.ladder), said.to, said.id or said.file.stem, Choices(said.loudness, said.limit, said.threads), stated)
+        made = making.make(children, said.file, ladder_in(said.ladder), said.to, said.id or said.file.stem, Choices(said.loudness, said.limit, said.threads, said.other), stated)
     except Fault as fault:
         raise Fault(f"{said.file}: {fault}") from None
     words.write_out(words.plain(f"{made.id}: {seconds_text(sum(made.pieces))} s in {len(made.pieces)} pieces, in {said.to}") + "\n")

@@ -55,11 +55,24 @@ def cut_of(length: int, piece: int, rate: Fraction) -> Cut:
     return Cut(tuple(ends))
 
 
-def samples_of(length: int, sound: Sound) -> int:
-    """How many samples of `sound` an ad of `length` nanoseconds gets, so that the encoder makes whole frames: as many as come nearest to it."""
-    frame = SOUND[sound.codec]
-    frames = max(2, round(Fraction(length * sound.rate, SECOND * frame)))
-    return (frames - DELAYED.get(sound.codec, 0)) * frame
+def frames_of(length: int, sound: Sound, is_other: bool) -> int:
+    """How many frames of `sound` an ad of `length` nanoseconds gets: as many as come nearest to it; if `is_other`, as many as come nearest on the other
+    side, so that two makings of the ad last longer and shorter than its pictures by turns."""
+    exact = Fraction(length * sound.rate, SECOND * SOUND[sound.codec])
+    nearest = round(exact)
+    return max(2, nearest if not is_other or nearest == exact else nearest - 1 if nearest > exact else nearest + 1)
+
+
+def samples_of(length: int, sound: Sound, is_other: bool = False) -> int:
+    """How many samples of `sound` an ad of `length` nanoseconds gets, so that the encoder makes whole frames of them; `is_other`: as in frames_of."""
+    return (frames_of(length, sound, is_other) - DELAYED.get(sound.codec, 0)) * SOUND[sound.codec]
+
+
+def over_of(length: int, ladder: Ladder, is_other: bool) -> int:
+    """By how many nanoseconds the sound of an ad of `length` nanoseconds for `ladder` lasts longer than its pictures; that of the first rendition with
+    sound. `is_other`: as in frames_of."""
+    sound = next((it.sound for it in ladder.renditions.values() if it.sound), None)
+    return 0 if sound is None else round(Fraction(frames_of(length, sound, is_other) * SOUND[sound.codec] * SECOND, sound.rate)) - length
 
 
 def ending_of(ladder: Ladder) -> str:
@@ -67,27 +80,27 @@ def ending_of(ladder: Ladder) -> str:
     return "m4s" if ladder.has_map() else "ts"
 
 
-def arguments(source: Path, has_sound: bool, ladder: Ladder, cut: Cut, to: Path, loudness: float | None, threads: int) -> list[str]:
+def arguments(source: Path, has_sound: bool, ladder: Ladder, cut: Cut, to: Path, loudness: float | None, threads: int, is_other: bool = False) -> list[str]:
     """The words for ffmpeg that make the file `source` into the pieces of `cut` for each rendition of `ladder`, in folders of `to`. Silence is its
-    sound unless it `has_sound`; that gets the `loudness` in LUFS, if there is one. Each coder has so many `threads`."""
+    sound unless it `has_sound`; that gets the `loudness` in LUFS, if there is one. Each coder has so many `threads`. `is_other`: as in frames_of."""
     found = ["-nostdin", "-v", "error", "-xerror", "-y", "-filter_threads", str(threads), "-threads", str(threads), *READS, "-i", str(source)]
     if not has_sound and any(it.sound for it in ladder.renditions.values()):
         rate = next(it.sound.rate for it in ladder.renditions.values() if it.sound)
         found += ["-f", "lavfi", "-t", seconds_text(cut.length() + SECOND), "-i", f"anullsrc=r={rate}:cl=stereo"]
     for name, it in ladder.renditions.items():
         if it.container != TEXT:
-            found += output_of(it, has_sound, cut, to / name, ending_of(ladder), loudness, threads)
+            found += output_of(it, has_sound, cut, to / name, ending_of(ladder), loudness, threads, is_other)
     return found
 
 
-def output_of(it: Rendition, has_sound: bool, cut: Cut, to: Path, ending: str, loudness: float | None, threads: int) -> list[str]:
+def output_of(it: Rendition, has_sound: bool, cut: Cut, to: Path, ending: str, loudness: float | None, threads: int, is_other: bool) -> list[str]:
     """The words for the rendition `it`, whose pieces by the `cut` go to the folder `to` under names of this `ending`; the rest as in arguments():
-    whether the ad `has_sound`, the `loudness` of that, and the `threads` of each coder."""
+    whether the ad `has_sound`, the `loudness` of that, the `threads` of each coder, and whether it `is_other`."""
     found = []
     if it.picture:
         found += ["-map", "0:v:0", *picture_words(it.picture, cut, threads)]
     if it.sound:
-        found += ["-map", "0:a:0" if has_sound else "1:a:0", *sound_words(it.sound, cut, loudness if has_sound else None)]
+        found += ["-map", "0:a:0" if has_sound else "1:a:0", *sound_words(it.sound, cut, loudness if has_sound else None, is_other)]
     rate = it.picture.rate if it.picture else Fraction(it.sound.rate, SOUND[it.sound.codec]) if it.sound else Fraction(1)
     # (each cut is a key frame; the muxer cuts at the first one after this time, which is before it by less than half a picture in all)
     longest = max(cut.pieces())
@@ -117,11 +130,11 @@ def picture_words(it: Picture, cut: Cut, threads: int) -> list[str]:
     return [*found, "-sc_threshold", "0", "-forced-idr", "1"]
 
 
-def sound_words(it: Sound, cut: Cut, loudness: float | None) -> list[str]:
-    """The words for sound like `it` of the length of `cut`, of the `loudness` in LUFS if there is one (EBU R 128)."""
+def sound_words(it: Sound, cut: Cut, loudness: float | None, is_other: bool) -> list[str]:
+    """The words for sound like `it` of the length of `cut`, of the `loudness` in LUFS if there is one (EBU R 128). `is_other`: as in frames_of."""
     louder = f"loudnorm=I={loudness:g}:TP=-1:LRA=11," if loudness is not None else ""
     layout = {1: "mono", 2: "stereo", 6: "5.1", 8: "7.1"}.get(it.channels, f"{it.channels}c")
-    chain = f"{louder}aresample={it.rate}:async=1:first_pts=0,aformat=channel_layouts={layout},apad,atrim=end_sample={samples_of(cut.length(), it)}"
+    chain = f"{louder}aresample={it.rate}:async=1:first_pts=0,aformat=channel_layouts={layout},apad,atrim=end_sample={samples_of(cut.length(), it, is_other)}"
     return ["-af", chain, "-ar", str(it.rate), "-ac", str(it.channels), "-c:a", it.codec, "-b:a", str(it.bits)]
 
 

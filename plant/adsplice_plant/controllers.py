@@ -25,6 +25,7 @@ NO_PUT = (403, 404, 405)  # statuses by which no adsplice answers the making of 
 FIRST_PAUSE = 0.5  # seconds
 UNFIT = 2  # refusals in a row of lists that don't go on after the last one, after which its numbers are to be found
 LOOK = 60.0  # seconds between two looks at the written playlist while no break begins or ends
+BETWEEN_DROPS = 120.0  # seconds between two times that a machine's channel is made anew since it isn't as the others'
 STAYS = "if that stays, only a new channel takes it, which a person makes by a DELETE of this one"
 SEQUENCES = tuple(re.compile(rb"^#EXT-X-%s-SEQUENCE:(\d+)$" % name, re.M) for name in (b"MEDIA", b"DISCONTINUITY"))
 EXTINF, END = b"\n#EXTINF:", b"#EXT-X-ENDLIST"
@@ -49,21 +50,35 @@ def send(turn: Turn) -> None:
 def next_request(turn: Turn, channel: str) -> Request | None:
     """What the controller of the `channel` is to be sent next; none if it has all."""
     it = turn.state.renditions[channel]
+    if turn.state.life and has_missed(it):
+        drop(turn, channel, "the channel has missed lists", True)
+        it = turn.state.renditions[channel]
     if it.controller.way is Way.UNKNOWN:
         return Request(What.MAKE, it.settings.body())
     if it.controller.way is Way.MADE:
         return Request(What.LOOK)
+    if it.controller.way is Way.OTHER:
+        return Request(What.DROP)
+    if turn.state.is_behind and it.controller.took < 0:
+        return None
     if it.controller.is_unseen:
         return Request(What.CHECK)
     has_list = it.stands.entry > it.controller.listed
     decision = next_decision(turn, channel)
-    if decision is not None and (not has_list or decision.entry <= it.stands.entry):
-        return Request(What.DECIDE, decision.bodies[channel], decision.entry, is_own=decision.is_own, why=OVER if decision.is_own and not decision.file else "")
+    last = max(it.stands.entry, it.controller.anew if it.controller.took < 0 else 0)
+    if decision is not None and (not has_list or decision.entry <= last):
+        return Request(What.DECIDE, decided.body_of(decision, channel), decision.entry, is_own=decision.is_own, why=OVER if decision.is_own and not decision.file else "")
     if not has_list:
         return None
     if (it.controller.took < 0 or it.controller.listed < it.stands.after) and (body := next(iter(first_of(it)), None)) is not None:
         return Request(What.DECIDE, body, is_own=True)
     return push(turn, channel)
+
+
+def has_missed(it: Rendition) -> bool:
+    """Whether a channel with a list lacks the one before the newest one. It can't be as those of other machines by the newest one alone: what a list says
+    of breaks counts with those before it."""
+    return it.controller.way is Way.THERE and it.controller.took >= 0 and it.stands.entry > it.controller.listed and it.controller.listed < it.stands.after
 
 
 def first_of(it: Rendition) -> list[bytes]:
@@ -84,7 +99,7 @@ def is_idle(turn: Turn, channel: str, one: Decided) -> bool:
     """Whether the decision `one` says nothing to a channel without a list: a later one takes its place, or takes it back."""
     later = [it for it in turn.state.decisions if it.entry > one.entry]
     if one.kind == decided.FALLBACK:
-        return any(it.kind == decided.FALLBACK for it in later) or one.bodies[channel] == NO_FALLBACK
+        return any(it.kind == decided.FALLBACK for it in later) or decided.body_of(one, channel) == NO_FALLBACK
     held = turn.state.renditions[channel].stands.pods.held
     return one.kind == decided.WITHDRAW or bool(one.ids) and not any(name in held for name in one.ids)
 
@@ -160,16 +175,23 @@ def reckoned_anew(turn: Turn, stands: Standing) -> Viewed:
 def listed_from(stands: Standing, place: int, ahead: Numbers, until: int | None = None, since: int = 0) -> bytes:
     """The list of the segments from the `place` in the history on, with numbers that are `ahead`; up to before the place `until`, if one is named. It says
     of breaks what was listed since the media number `since`: nothing of those that were missed and would have a pod now, and of others where they ended
-    for viewers by then."""
+    for viewers by then. What is no longer listed and hasn't begun, adsplice has forgotten."""
     segments, head = history_of(stands)[place:until], stands.repairer.head
     assert head is not None
-    missed = {name for name in stands.pods.missed if stands.pods.at_hand(name) is not None}
-    said = [line for name, (line, number) in stands.viewed.ranges.items() if number >= max(since, segments[0].number) and name not in missed]
+    missed, newest = {name for name in stands.pods.missed if stands.pods.at_hand(name) is not None}, stands.repairer.last[-1]
+    said = [line for name, (line, number) in stands.viewed.ranges.items() if number >= max(since, segments[0].number) and name not in missed
+            and not (number < newest.number and is_to_come(line, newest))]
     lines = [replay.as_it_ran(stands, line) if until is None else replay.as_it_began(line) for line in said]
     found = PackagedList(head.version, head.target, kind=head.kind, segments=moved(segments, ahead))
     front = stands.text[:max(0, stands.text.find(EXTINF))]
     found.is_independent, found.is_ended = b"#EXT-X-INDEPENDENT-SEGMENTS" in front, stands.text.rstrip().endswith(END)
     return packaged.write(found, lines)
+
+
+def is_to_come(line: str, newest: PackagedSegment) -> bool:
+    """Whether the break of the EXT-X-DATERANGE `line` begins after the `newest` segment."""
+    found = ranges.start_in(line)
+    return found is not None and newest.begins is not None and found[1] >= newest.begins + newest.duration // 2
 
 
 def moved(segments: list[PackagedSegment], ahead: Numbers) -> list[PackagedSegment]:
@@ -214,6 +236,8 @@ def answered(turn: Turn, event: Answered) -> None:
         looked(turn, event)
     elif what is What.CHECK:
         checked(turn, event)
+    elif what is What.DROP:
+        dropped(turn, event)
     elif event.status == 204:
         turn.put_controller(event.channel, trials=0)
         acknowledged(turn, event)
@@ -274,12 +298,37 @@ def looked(turn: Turn, event: Answered) -> None:
         wait(turn, event.channel)
         failed(turn, event, "looks again whether the channel has a list as soon as it can")
         return
-    turn.put_controller(event.channel, trials=0)
+    it = turn.put_controller(event.channel, trials=0)
+    if event.status != 404 and turn.state.life and it.took < 0 and not it.led:
+        drop(turn, event.channel, "the channel is there, with a list of which this machine doesn't know what it is", True)
+        return
     turn.tell(event.channel, "adsplice", 409, "", "the channel is there already; goes on with it")
     if event.status == 404:
         begin_anew(turn, event.channel)
     else:
         go_on(turn, event.channel)
+
+
+def drop(turn: Turn, channel: str, why: str, is_missed: bool = False) -> None:
+    """The channel of this machine isn't as those of the others, since `why`, or has missed something (`is_missed`): it is made anew, and filled. (Viewers
+    read that of another machine meanwhile.)"""
+    word = "Missed" if is_missed else "Differs"
+    turn.put_controller(channel, way=Way.OTHER, unfit=0, is_unseen=False, dropped_at=turn.at)
+    turn.tell(channel, "replica", 0, word, f"{why}; deletes it here, makes it anew and fills it as the log says", is_again=True)
+
+
+def dropped(turn: Turn, event: Answered) -> None:
+    """The channel was deleted, or couldn't be."""
+    if event.status in (200, 204, 404):
+        turn.put_controller(event.channel, way=Way.UNKNOWN, trials=0)
+    else:
+        wait(turn, event.channel)
+        failed(turn, event, "tries again with growing pauses to delete the channel")
+
+
+def may_drop(turn: Turn, it: Controller) -> bool:
+    """Whether a channel that isn't as it is to be may be made anew: it wasn't a short while ago."""
+    return bool(turn.state.life) and turn.at - it.dropped_at >= BETWEEN_DROPS
 
 
 def go_on(turn: Turn, channel: str) -> None:
@@ -296,7 +345,9 @@ def go_on(turn: Turn, channel: str) -> None:
 def begin_anew(turn: Turn, channel: str) -> None:
     """The channel has no list: it is given all that is open, and begins where viewers' list stood."""
     it = turn.state.renditions[channel]
-    turn.put(channel, controller=Controller(Way.THERE, reached=max(it.controller.took, it.controller.reached), anew=turn.state.entry), before=None)
+    has_gone_on = bool(turn.state.life) and it.controller.listed < it.stands.after  # (other machines have shown what it lacks, and the log forgets that)
+    reached = -1 if has_gone_on else max(it.controller.took, it.controller.reached)
+    turn.put(channel, controller=Controller(Way.THERE, reached=reached, anew=turn.state.entry, dropped_at=it.controller.dropped_at), before=None)
     stands = it.stands
     if it.is_blocked:
         last = stands.repairer.last[-1]
@@ -351,6 +402,13 @@ def acknowledged(turn: Turn, event: Answered) -> None:
 
 
 def listed(turn: Turn, channel: str, entry: int) -> None:
+    """The controller of the `channel` has the list of the `entry`, as the programme's log needs to know."""
+    has_list(turn, channel, entry)
+    if turn.state.is_apart:
+        apart.compare(turn)
+
+
+def has_list(turn: Turn, channel: str, entry: int) -> None:
     """The controller of the `channel` has the list of the `entry`."""
     it = turn.state.renditions[channel]
     last = it.stands.repairer.last
@@ -360,8 +418,6 @@ def listed(turn: Turn, channel: str, entry: int) -> None:
     reckoned = it.stands.viewed.reckoned
     is_unseen = it.settings.repair and bool(last) and (reckoned is None or reckoned.is_marked or turn.at - it.seen_at >= LOOK)
     turn.put_controller(channel, listed=max(entry, it.controller.listed), took=took, first=(), unfit=0, is_unseen=is_unseen)
-    if turn.state.is_apart:
-        apart.compare(turn)
 
 
 def decision_of(turn: Turn, entry: int) -> Decided | None:
@@ -393,10 +449,14 @@ def list_refused(turn: Turn, event: Answered) -> None:
         entry = turn.next_entry()
         pods = it.stands.pods.copy()
         pods.entered, pods.missed = dict(it.before.pods.entered), set(it.before.pods.missed)
-        turn.put(channel, stands=replace(it.before, entry=entry, after=entry, pods=pods, repairs=it.stands.repairs), before=None)
+        after = it.before.after if turn.state.life else entry  # (other machines' controllers have the list before, too)
+        turn.put(channel, stands=replace(it.before, entry=entry, after=after, pods=pods, repairs=it.stands.repairs), before=None)
     is_unfit = faults.follows_badly(line)
     controller = turn.put_controller(channel, listed=turn.state.renditions[channel].stands.entry, unfit=it.controller.unfit + 1 if is_unfit else 0)
-    if controller.unfit >= UNFIT and it.settings.repair and it.came is not None and faults.code_of(line) not in ("N4", "N9"):
+    if controller.unfit >= UNFIT and may_drop(turn, controller):
+        drop(turn, channel, f"adsplice refuses two lists in a row ({line})")
+        return
+    if controller.unfit >= UNFIT and not turn.state.life and it.settings.repair and it.came is not None and faults.code_of(line) not in ("N4", "N9"):
         afresh = Repairer(it.stands.repairer.choices).take(it.came, turn.at, turn.clock).found
         if afresh is not None:
             turn.put_controller(channel, sent=Request(What.FIND), unfit=0)
@@ -446,6 +506,9 @@ def checked(turn: Turn, event: Answered) -> None:
         return
     if viewed.reckoned is not None and (viewed.reckoned.end() == end or it.stands.text.rstrip().endswith(END)):
         turn.tell(channel, "written", 0, "", "")
+        return
+    if viewed.reckoned is not None and may_drop(turn, it.controller):
+        drop(turn, channel, f"adsplice's list ends with media number {end[0]} and discontinuity number {end[1]}, and not as the log says")
         return
     if viewed.reckoned is not None:
         turn.tell(channel, "written", 0, "Others", f"adsplice's list ends with media number {end[0]} and discontinuity number {end[1]}, and not with "

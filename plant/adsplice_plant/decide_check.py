@@ -95,7 +95,7 @@ def of_feed(section: Section, feed: Path) -> Fact:
         return Fact("feed", False, f"{feed}: channel {section.name} has no `ask`: the feed asks nobody")
     if its[0].hold <= section.timeout:
         return Fact("feed", False, f"{feed}: channel {section.name}: hold = {its[0].hold:g} isn't above timeout = {section.timeout:g}: answers would be late")
-    return Fact("feed", True, f"{feed}: the feed asks {words.without_user(ask)}, and waits for {its[0].hold:g} s")
+    return Fact("feed", True, f"{feed}: the feed asks {words.shown(ask)}, and waits for {its[0].hold:g} s")
 
 
 def run(found: Settings) -> int:

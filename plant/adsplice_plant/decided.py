@@ -11,12 +11,17 @@ from dataclasses import replace
 from adsplice_rules.decisions import decisions_of
 from adsplice_rules.values import Fault
 
-from . import faults
+from . import faults, presence
 from .decisions import LASTING, MOST_OVER, NO_FALLBACK, OVER, ROOM, said_by, withdrawal
+from .edges import measured
 from .events import Finish, Stamp
 from .packaged import attributes_of, instant_of
+from .playlist import SECOND
 from .pods import decision_of
+from .shapes import fit, shape_of
+from .siblings import is_alike
 from .state import Decided, File, FileState, Removed, Rendition, Telling, Way
+from .subtitles import without_words
 from .turn import Turn, window_of
 
 LATE = 2.0  # seconds after which a file that isn't there in all renditions is told
@@ -160,9 +165,14 @@ def decide(turn: Turn, bodies: Mapping[str, bytes], kind: str, ids: tuple[str, .
     turn.set(decisions=(*kept[-MOST_DECISIONS:], Decided(entry, bodies, kind, ids, file, is_own, tells)))
     for channel, it in turn.renditions():
         pods = it.stands.pods.copy()
-        pods.given(bodies[channel])
+        pods.given(bodies.get(channel, NOTHING))
         turn.put_standing(channel, pods=pods)
     return entry
+
+
+def body_of(it: Decided, channel: str) -> bytes:
+    """What the decision `it` gives the `channel`: nothing, if that became a rendition after it."""
+    return it.bodies.get(channel, NO_FALLBACK if it.kind == FALLBACK else NOTHING)
 
 
 def is_superseded(turn: Turn, it: Decided, kind: str, ids: Collection[str]) -> bool:
@@ -208,11 +218,14 @@ def give_files(turn: Turn, listed: Collection[str], is_all: bool) -> None:
 def give_file(turn: Turn, name: str, it: File) -> None:
     """Gives the file `it` of the `name` to all renditions, without the breaks that have begun; to none if one hasn't got it."""
     late = [id_ for id_ in begun_of(turn, it.ids) if id_ not in it.late] if it.kind == BREAKS else []
+    it = replace(it, bodies=with_subtitles(turn, {channel: body for channel, body in it.bodies.items() if channel in it.stamps}))
     if absent := [channel for channel in turn.state.renditions if channel not in it.bodies]:
         wait_for_rest(turn, name, it, absent, late)
         return
-    if turn.is_ladder() and len({shape_of(body) for body in it.bodies.values()} - {""}) > 1:
-        refuse(turn, name, it, "Unequal", "the renditions' files don't have the same breaks, with ads and segments of the same lengths")
+    if it.looked_at is not None and not it.is_there:
+        return
+    if unfit := unfit_of(turn, it.bodies):
+        refuse(turn, name, it, "Unequal", f"the renditions' files don't have the same breaks, with ads and segments of the same lengths: {unfit}")
         return
     if it.kind == WITHDRAW and (begun := begun_of(turn, it.ids)):
         turn.tell_decision(f"decisions/{name}", 409, "J9 Used", f"{', '.join(begun)} has begun, and keeps its pod")
@@ -220,6 +233,8 @@ def give_file(turn: Turn, name: str, it: File) -> None:
         return
     if wrong := note_wrong(turn, it.bodies):
         refused_file(turn, wrong[0], Decided(0, it.bodies, it.kind, it.ids, name), 422, wrong[1])
+        return
+    if presence.waits(turn, name, it):
         return
     if late:
         it = replace(it, late=it.late | set(late))
@@ -240,6 +255,18 @@ def give_file(turn: Turn, name: str, it: File) -> None:
     turn.set(over=tuple(id_ for id_ in turn.state.over if id_ not in it.ids))
     if it.kind == WITHDRAW:
         finish(turn, name, turn.state.files[name])
+
+
+def with_subtitles(turn: Turn, bodies: Mapping[str, bytes]) -> dict[str, bytes]:
+    """The decision files `bodies` of today's renditions, with those of subtitles that have none: they are made of a rendition's that isn't one of subtitles. Subtitles with
+    initialisation sections need their own."""
+    found = {channel: bodies[channel] for channel in turn.state.renditions if channel in bodies}
+    first = next((body for channel, body in found.items() if not turn.state.renditions[channel].settings.empty_subtitles), None)
+    for channel, it in turn.renditions() if first is not None else []:
+        head, last = it.stands.repairer.head, it.stands.repairer.last
+        if channel not in found and it.settings.empty_subtitles and not (last and last[-1].section is not None):
+            found[channel] = without_words(first or b"", it.settings.empty_subtitles, head.target if head is not None else max(1, measured(it) // SECOND))
+    return found
 
 
 def wait_for_rest(turn: Turn, name: str, it: File, absent: list[str], late: list[str]) -> None:
@@ -273,7 +300,7 @@ def refuse(turn: Turn, name: str, it: File, fault: str, text: str) -> None:
 def finish(turn: Turn, name: str, it: File) -> None:
     """The file `it` is over: it is moved away."""
     put_file(turn, name, replace(it, state=FileState.DONE))
-    turn.actions += [Finish(channel, name) for channel in it.stamps]
+    turn.actions += [Finish(channel, name) for channel in it.stamps if channel in turn.state.renditions]
 
 
 def retire(turn: Turn, listed: Collection[str]) -> None:
@@ -435,7 +462,7 @@ def put_use(turn: Turn, channel: str, ids: Collection[str]) -> None:
 
 def give_fallback(turn: Turn) -> None:
     """Gives the fallback files if they have changed; in a ladder none is given until all renditions have one."""
-    found = {channel: it.fallback for channel, it in turn.renditions() if it.fallback is not None}
+    found = with_subtitles(turn, {channel: it.fallback for channel, it in turn.renditions() if it.fallback is not None})
     lacking = [channel for channel, it in turn.renditions() if it.settings.fallback is not None and channel not in found]
     wanted: dict[str, bytes] = {}
     if not lacking:
@@ -445,8 +472,8 @@ def give_fallback(turn: Turn) -> None:
         wanted = dict.fromkeys(turn.state.renditions, NO_FALLBACK)
     if not wanted or wanted == turn.state.fallback:
         return
-    if len({shape_of(body) for body in wanted.values()} - {""}) > 1:  # (files are written one by one: the last ones stay meanwhile)
-        turn.tell("", "fallback", 0, "Unequal", "the renditions' fallback files don't have ads and segments of the same lengths; goes on with those before")
+    if unfit := unfit_of(turn, wanted):  # (files are written one by one: the last ones stay meanwhile)
+        turn.tell("", "fallback", 0, "Unequal", f"the renditions' fallback files don't have ads and segments of the same lengths: {unfit}; goes on with those before")
         return
     is_changed = bool(turn.state.fallback) or any(it.stands.entry for _, it in turn.renditions())
     turn.set(fallback=wanted)
@@ -509,13 +536,14 @@ def without(body: bytes, ids: Collection[str]) -> bytes:
     return json.dumps({"breaks": [it for it in json.loads(body)["breaks"] if it["id"] not in ids]}).encode()
 
 
-def shape_of(body: bytes) -> str:
-    """What the decision file `body` says but for its URIs: its breaks, and the lengths of the segments of each ad to a hundredth of
-    a second. Equal for files that adsplice won't take, which it says itself."""
-    try:
-        said = json.loads(body)
-        pods = said.get("breaks") or ([{"id": "", **said["fallback"]}] if said.get("fallback") else [])
-        lengths = [(it["id"], [[round(float(one["duration"]), 2) for one in ad["segments"]] for ad in it["ads"]]) for it in pods]
-        return repr((said.get("withdraw"), sorted(lengths)))
-    except (ValueError, TypeError, KeyError, AttributeError, RecursionError):
-        return ""
+def unfit_of(turn: Turn, bodies: Mapping[str, bytes]) -> str:
+    """Which of the decision files `bodies` of a programme's channels doesn't fit the first one (shapes), in words; empty if all fit."""
+    found = [(channel, shape_of(body), measured(turn.state.renditions[channel])) for channel, body in bodies.items()] if turn.is_ladder() else []
+    known = [it for it in found if it[1] is not None]
+    for channel, shape, pace in known:
+        first, other, its = next(it for it in known if is_alike(pace, it[2]))
+        if not fit(other, shape, True):
+            return f"{channel}'s aren't those of {first}"
+        if not fit(known[0][1], shape, is_alike(known[0][2], pace)):
+            return f"{channel}'s aren't as long as those of {known[0][0]}"
+    return ""

@@ -19,7 +19,7 @@ from .filling import Pod, Ready
 from .ladders import ALONE, Ladder
 from .playlist import SECOND, seconds_text
 from .vast import Ad
-from .words import Fault
+from .words import Fault, shown
 
 NEAR = 10 * SECOND  # how far the start of a question may be from that of the schedule
 AHEAD = 60.0  # seconds before a break of the schedule that its ads are asked for, if nothing else is said
@@ -100,6 +100,7 @@ class Channel:
         self.breaks: list[tuple[int, int | None]] = []  # of the schedule
         self.read: tuple[int, int] | None = None  # the time and the size of the file that has them
         self.cleaned = -1e9  # when old answers were taken away
+        self.over = 0  # nanoseconds by which the sound of all its answers lasts longer than the pictures
 
     # ---- answers
 
@@ -137,6 +138,8 @@ class Channel:
         found = held.found if held else self.search(self.client, planned, time.monotonic() + self.section.timeout)
         is_alone = not question.renditions
         pod = filling.fill(found, planned, functools.partial(self.ready, ladder=ladder, is_alone=is_alone), self.slate(ladder, is_alone))
+        with self.lock:
+            pod, self.over = filling.balanced(pod, self.over)
         return Pod(pod.ready, pod.ads, found.lacks + pod.lacks)
 
     def search(self, client: Asking, planned: int | None, until: float) -> Found:
@@ -149,12 +152,12 @@ class Channel:
         why = ""
         for file in ad.files:
             if stray := self.outside.strays(file.url):
-                why = why or f"MediaFile {ad_server.shown(file.url)} isn't read: {stray}"
+                why = why or f"MediaFile {shown(file.url)} isn't read: {stray}"
                 continue
             found = self.store.ready(Wanted(ladder, ad.id, file.url, ad.length, self.section.loudness, self.films), is_alone)
             if not isinstance(found, str):
                 return found
-            why = why or f"MediaFile {ad_server.shown(file.url)}: {found}"
+            why = why or f"MediaFile {shown(file.url)}: {found}"
             if "can't be made" not in found:
                 break
         return why

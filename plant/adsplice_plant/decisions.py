@@ -4,6 +4,7 @@ import json
 
 DAY = 86400
 DONE = "done"  # the folder in the folder, for files that are over
+ANSWERS = ("Answered", "NoAds", "Late", "Unanswered", "Wrong", "Unkept", "TooMany")  # what may become of a question
 LASTING = ("breaks", "fallback")  # the kinds that adsplice holds on to
 MAX_BYTES = 4_194_304  # adsplice takes no longer file
 MOST_COMMAS = 250_000  # of a decision file: one of 4 MiB has 175,000 if each has its URI and its duration, and each costs the judge time

@@ -2,7 +2,7 @@
 from __future__ import annotations
 
 from .packaged import duration_of
-from .siblings import Reach, reach_of
+from .siblings import Reach, is_alike, pace_of, reach_of
 from .state import Rendition
 from .turn import Turn
 
@@ -12,12 +12,25 @@ EXTINF = b"#EXTINF:"
 
 
 def edge_of(turn: Turn, channel: str) -> Reach | None:
-    """How far the list of the `channel` is given: up to where each other rendition has come that is waited for; none if none is."""
-    reaches = [reach for name, it in turn.renditions() if name != channel and (reach := awaited(turn, it)) is not None]
-    timed = [it for it in reaches if it.instant is not None]
+    """How far the list of the `channel` is given: up to where each other rendition has come that is waited for; none if none is. One whose segments
+    are longer says nothing of the time until its next one is whole; one whose segments are shorter has come within half of one of its own."""
+    mine, reaches, others = measured(turn.state.renditions[channel]), list[Reach](), list[Reach]()
+    for name, it in turn.renditions():
+        if name == channel or (reach := awaited(turn, it)) is None:
+            continue
+        if is_alike(mine, pace := measured(it)):
+            reaches.append(reach)
+        elif reach.instant is not None:
+            others.append(reach._replace(instant=reach.instant + (pace - mine * 5 // 8 if pace > mine else (pace - mine) // 2)))
+    timed = [it for it in (*reaches, *others) if it.instant is not None]
     if timed and all(it.is_near(timed[0]) for it in timed):
         return min(timed, key=lambda it: it.instant or 0)
     return min(reaches, key=lambda it: it.number) if reaches else None
+
+
+def measured(it: Rendition) -> int:
+    """How long the segments of the rendition are, in nanoseconds; 0 if that isn't known."""
+    return pace_of(it.stands.repairer.last) or (it.reach.last if it.reach is not None else 0)
 
 
 def awaited(turn: Turn, it: Rendition) -> Reach | None:

@@ -17,7 +17,7 @@ from .translator import Translator
 
 NOTHING = Standing(Repairer(Choices()))  # where a rendition stands of which nothing is known
 OF_RENDITIONS = ("done", "firsts", "lows", "seen", "stated", "cuts")  # members of what a Translator keeps, by the renditions' names
-NUMBERS = ("decided", "listed", "took", "reached", "anew", "led", "unfit")  # members of a Controller
+NUMBERS = ("decided", "listed", "took", "reached", "anew", "led", "unfit", "refused")  # members of a Controller
 WAITS = float("-inf")  # until when lists wait for the decision of a break that an earlier feed asked for: no more
 
 
@@ -68,6 +68,8 @@ def difference(old: Known, now: Known) -> Said:
         said["equal_after"] = it.equal_after
     if it.is_apart != was.is_apart:
         said["apart"] = sorted(it.is_apart)
+    if it.life != was.life:
+        said["life"] = it.life
     return said
 
 
@@ -152,7 +154,7 @@ def after(old: Known, said: Said) -> Known:
     fallback = {str(name): bytes_of(text) for name, text in said["fallback"].items()} if "fallback" in said else was.fallback
     apart = frozenset(str(name) for name in said["apart"]) if "apart" in said else was.is_apart
     now = replace(was, renditions=renditions, entry=int(said["n"]), decisions=decisions, files=files, asked=asked, over=over, removed=removed, fallback=fallback,
-                  equal_after=int(said.get("equal_after", was.equal_after)), is_apart=apart)
+                  equal_after=int(said.get("equal_after", was.equal_after)), is_apart=apart, life=str(said.get("life", was.life)))
     return Known(now, {**old.signals, **said.get("signals", {})})
 
 

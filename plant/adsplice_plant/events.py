@@ -13,6 +13,7 @@ from .breaks import Break
 from .packaged import PackagedList
 
 if TYPE_CHECKING:
+    from .presence import Named
     from .state import State
 
 Stamp = tuple[int, int, int]  # of a file: when it was written (in nanoseconds), its size, and its inode
@@ -28,6 +29,7 @@ class What(Enum):
     CHECK = "check", "GET", "live.m3u8"  # whether the written playlist has the numbers that were reckoned
 
     FIND = "find", "PUT", "origin"  # the numbers by which a list goes on
+    DROP = "drop", "DELETE", ""  # the channel is to be made anew
 
     def __init__(self, _: str, method: str, path: str) -> None:
         self.method, self.path = method, path
@@ -74,6 +76,13 @@ class FallbackRead(NamedTuple):
     body: bytes | None
 
 
+class SlateRead(NamedTuple):
+    """The slate's file of a `channel` has the bytes `body`; none if there is no such file, or it isn't one."""
+
+    channel: str
+    body: bytes | None
+
+
 class Answered(NamedTuple):
     """The controller of a `channel` answered a `request` by a `status` and a first `line`; 0 if it didn't, since `why`. `body`: of the answer to
     CHECK."""
@@ -100,6 +109,15 @@ class AskedInVain(NamedTuple):
     id: str
 
 
+class Looked(NamedTuple):
+    """The ads of the decision file `name`, which had these `stamps`, were looked at: those URIs that are `absent` aren't there, each as its ad, the URI
+    and why."""
+
+    name: str
+    stamps: Mapping[str, Stamp]
+    absent: tuple[tuple[str, str, str], ...] = ()
+
+
 class Ticked(NamedTuple):
     """Time has passed."""
 
@@ -112,7 +130,14 @@ class Began(NamedTuple):
     fallbacks: Mapping[str, bytes | None] = {}
 
 
-Event = ListRead | OriginChanged | FolderRead | FallbackRead | Answered | Found | AskedInVain | Ticked | Began
+class Given(NamedTuple):
+    """The feed that leads the programme has given what is new in the `state`, by the log that several machines have. `is_behind`: it has given more since."""
+
+    state: State
+    is_behind: bool = False
+
+
+Event = ListRead | OriginChanged | FolderRead | FallbackRead | SlateRead | Answered | Found | AskedInVain | Looked | Ticked | Began | Given
 
 
 # ---- actions
@@ -132,11 +157,22 @@ class Send(NamedTuple):
 
 class Ask(NamedTuple):
     """The decisions of the breaks `known` are to be asked for, once each. `target`: the target duration in seconds; `end`: the instant at
-    which the newest list ends."""
+    which the newest list ends; `pieces`: how long the segments of each channel are as a rule, in nanoseconds, by the channels' names; `bare`: the
+    channels whose segments have no initialisation section."""
 
     known: tuple[Break, ...]
     target: int
     end: int
+    pieces: Mapping[str, int] = {}
+    bare: frozenset[str] = frozenset()
+
+
+class Look(NamedTuple):
+    """It is to be looked whether what the decision file `name` of these `stamps` has `named` is there: each a URI and its ad. The answer is an event."""
+
+    name: str
+    stamps: Mapping[str, Stamp]
+    named: tuple[Named, ...]
 
 
 class Find(NamedTuple):
@@ -185,4 +221,4 @@ class Note(NamedTuple):
     body: bytes = b""
 
 
-Action = Store | Send | Ask | Find | Finish | Tell | Repaired | Note
+Action = Store | Send | Ask | Look | Find | Finish | Tell | Repaired | Note

@@ -21,7 +21,7 @@ from adsplice_rules.values import Fault as RulesFault
 
 from . import journal
 from .edits import edited, lines_of, places_after
-from .history import TAKEN, Given, Run, Step
+from .history import NOTES, TAKEN, Given, Run, Step
 from .words import Fault
 
 LINES = 18_000  # that the rules are given for a break, in all its lists together
@@ -29,7 +29,7 @@ LEAST, BEFORE, AFTER = 4, 20, 1  # lists: at least; before what matters, and aft
 OVERLAP = 8  # lines of a list, for each of which a list may be left out: what follows still lists what came before
 FAR = 2000  # lists before the date range came, in which its first segment is looked for
 UNREACHED = (0, 404, 502, 503, 504)  # statuses of what never came to the channel
-NAMES = {"origin": "the list of", "decisions": "the decision of", "channel": "the channel of", "delete": "its end at", "hole": "the time from", "note": "the note of"}
+NAMES = {"origin": "the list of", "decisions": "the decision of", "channel": "the channel of", "delete": "its end at", "hole": "the time from", "note": "the note of", "late": "the late decision of"}
 RANGE = "#EXT-X-DATERANGE:"
 
 
@@ -225,11 +225,11 @@ class Excerpt:
         lists = dict(put_together(self.events, first, min(len(self.events), past + AFTER)))
         for place in range(first, min(len(self.events), past + AFTER)):
             said = self.events[place].said
-            is_reached = said["status"] not in UNREACHED or said["what"] in ("hole", "note")
+            is_reached = said["status"] not in UNREACHED or said["what"] in ("hole", *NOTES)
             is_at = place in chosen if self.events[place].is_list() else is_at
             if said["what"] == "origin" and place in lists and is_at and is_reached:
                 yield given_of(said, "".join(lists[place])), False
-            elif said["what"] in NAMES and said["what"] != "origin" and is_reached and (place <= chosen[-1] or said["what"] == "decisions") and place < past:
+            elif said["what"] in NAMES and said["what"] != "origin" and is_reached and (place <= chosen[-1] or said["what"] in ("decisions", *NOTES)) and place < past:
                 yield given_of(said, said.get("body", "")), bool(said.get("again"))
 
     def told_before(self, first: int) -> Iterator[dict[str, Any]]:
@@ -238,7 +238,7 @@ class Excerpt:
         for it in self.events[:first]:
             said, body = it.said, it.said.get("body", "")
             is_refused = said["what"] == "decisions" and said["status"] not in (*TAKEN, *UNREACHED)
-            if needle in body and (said["what"] == "note" or is_refused or (said["what"] == "decisions" and '"withdraw"' in body)):
+            if needle in body and (said["what"] in NOTES or is_refused or (said["what"] == "decisions" and '"withdraw"' in body)):
                 yield said
 
     def run(self) -> Run:

@@ -20,6 +20,7 @@ HELP = """Says why a channel's breaks are filled or empty, each with its numbers
   adsplice-explain playlist.m3u8 decisions.json               (the decision came after the playlist)
   adsplice-explain decisions.json one.m3u8 two.m3u8           (the decision came first, then two playlists)
   adsplice-explain --kept /var/lib/adsplice/kept/news.events  (what adsplice-feed --keep has kept of a channel: its newest hour)
+  adsplice-explain --kept /var/lib/adsplice/kept/film-*.events --break b17   (in each rendition of a programme)
   adsplice-explain --kept news.events --break b17 --at 2026-11-27T20:15:00Z   (as b17 was listed then, or last before)
 
 Each break is explained by the rules in adsplice_rules, from what the channel was given. What adsplice answered is compared
@@ -39,7 +40,7 @@ def read_words(arguments: list[str]) -> argparse.Namespace:
     """What the words `arguments` say."""
     it = words.parser("adsplice-explain", HELP)
     it.add_argument("files", nargs="*", type=Path, metavar="FILE", help="playlists and decision files, in the order in which they were sent")
-    it.add_argument("--kept", type=Path, metavar="FILE", help="a channel's NAME.events that adsplice-feed has kept")
+    it.add_argument("--kept", type=Path, nargs="+", metavar="FILE", help="a channel's NAME.events that adsplice-feed has kept; or those of a programme's renditions")
     it.add_argument("--at", type=time_of_day, metavar="TIME", help="with --kept: as it was at this time (UTC, 2026-11-27T20:15:00Z), and in the hour before")
     it.add_argument("--base", default=BASE, metavar="URL", help="the channel's base")
     it.add_argument("--tolerance", metavar="SECONDS", help="the channel's tolerance (0.1)")
@@ -125,14 +126,25 @@ def segments_of(explainer: Explainer) -> list[str]:
     return [line for life in explainer.run.lives for place in range(len(life.channel.history)) for line in segment_reason(life.channel, place)]
 
 
-def report_kept(said: argparse.Namespace) -> tuple[list[str], bool]:
-    """The lines to print of what is kept in a file, by the words `said`, and whether all is well; raises Fault."""
-    if not journal.files(said.kept):
-        raise Fault(f"{said.kept}: there is no such file; adsplice-feed --keep DIR writes DIR/NAME.events")
-    book = Book(said.kept)
+def report_programme(said: argparse.Namespace) -> tuple[list[str], bool]:
+    """The lines to print of what is kept in the files that the words `said` name, and whether all is well; raises Fault. Of several channels each
+    line says of which it is, and what is said of one break stands together."""
+    found = [report_kept(it, said) for it in said.kept]
+    if len(found) == 1:
+        return found[0]
+    lines = [(line.partition(":")[0], place, f"{path.name.removesuffix('.events')}: {line}") for place, (path, (its, _)) in enumerate(zip(said.kept, found)) for line in its]
+    order = {front: place for place, (front, _, _) in reversed(list(enumerate(lines)))}
+    return [text for _, _, text in sorted(lines, key=lambda it: order[it[0]])], all(is_well for _, is_well in found)
+
+
+def report_kept(path: Path, said: argparse.Namespace) -> tuple[list[str], bool]:
+    """The lines to print of what is kept in the file `path`, by the words `said`, and whether all is well; raises Fault."""
+    if not journal.files(path):
+        raise Fault(f"{path}: there is no such file; adsplice-feed --keep DIR writes DIR/NAME.events")
+    book = Book(path)
     until = min(said.at or book.newest(), book.newest())
     if not until:
-        raise Fault(f"{said.kept}: it has no event")
+        raise Fault(f"{path}: it has no event")
     since = words.time_text(datetime.fromisoformat(until) - HOUR)
     names = [said.only] if said.only else book.breaks(since, until)
     lines = [] if said.only else refusals(book.refused(since, until))
@@ -151,7 +163,7 @@ def main(arguments: list[str]) -> int:
     words.ends_cleanly()
     try:
         if said.kept is not None:
-            lines, is_well = report_kept(said)
+            lines, is_well = report_programme(said)
         else:
             explainer = Explainer(run_beside(find_program(said.program), given_by_files(said.files, said.base, said.tolerance)))
             lines, is_well = report(explainer, said.only)

@@ -8,13 +8,15 @@ from threading import RLock
 
 from .decided import BREAKS, FALLBACK
 from .events import Answered, Event, Found, Note
-from .folders import DecisionFolder, Fallback
+from .folders import DecisionFolder, Fallback, Slate
 from .journal import BEAT
 from .journal import Event as Kept
 from .origins import Choice
 from .reading import Reading
 from .sending import Sending
 from .settings import Settings
+from .shared_files import SharedFolder
+from .shared_files import Store as FilesStore
 from .state import FileState, State
 from .telling import Noting, Telling
 from .web import Client
@@ -64,6 +66,8 @@ class Fed:
         self.sending = Sending(settings, Client(limits.timeout), self.noting, around.answered, around.beat)
         self.folder = DecisionFolder(self.name, settings.decisions, limits.keep_days, self.tell) if settings.decisions else None
         self.fallback = Fallback(self.name, settings.fallback, self.tell) if settings.fallback else None
+        self.slate = Slate(self.name, settings.slate, self.tell) if settings.slate else None
+        self.shared: SharedFolder | None = None  # its decision folder as one of several machines
 
     def client(self) -> Client:
         """A client for its origin, with connections of its own."""
@@ -94,19 +98,26 @@ class Fed:
 
     def look(self) -> list[Event]:
         """What has changed of its fallback and its decision files."""
-        found = (self.fallback.look() if self.fallback else None, self.folder.look() if self.folder else None)
+        found = (self.fallback.look() if self.fallback else None, self.slate.look() if self.slate else None, self.folder.look() if self.folder else None)
         return [it for it in found if it is not None]
+
+    def share(self, store: FilesStore) -> None:
+        """Its decision files are those of all machines, which the `store` has."""
+        if self.folder is not None:
+            self.shared = SharedFolder(self.folder, store)
 
     def finish(self, name: str) -> None:
         """The decision file `name` is over."""
-        if self.folder is not None:
+        if self.shared is not None:
+            self.shared.finish(name)
+        elif self.folder is not None:
             self.folder.finish(name)
 
     def forget(self) -> None:
         """All that is known of it is an event again; nobody waits for the answers to what was sent."""
         self.sending.forget()
         self.reading.again()
-        for it in (self.folder, self.fallback):
+        for it in (self.folder if self.shared is None else None, self.fallback, self.slate):
             if it is not None:
                 it.forget()
 

@@ -5,13 +5,15 @@ import time
 from contextlib import suppress
 from pathlib import Path
 
-from . import check, config_file, words
+from . import check, config_file, status, words
 from . import settings as told
 from .collisions import Claims
 from .door import Door, address_of
 from .fed import Fed, Limits
+from .machines import Machines
 from .sections import Section, difference
 from .settings import Settings
+from .store_settings import StoreAt
 from .words import Fault
 
 print_line = words.Teller().say
@@ -53,6 +55,9 @@ numbers come apart.
 
 A master playlist as the origin (--master FILE): its variants and groups are channels NAME-1, NAME-2 .. of one programme, or have
 the names of --renditions in its order. FILE is the master playlist that viewers load.
+
+--store 'etcd://A B C' has several machines feed the channels, each its own adsplice: what is given is written there first, by the one that leads.
+The loss of a machine stops no channel (docs/REPLICAS.md). --status says which one leads what, and which is behind.
 
 --check says in a line each whether adsplice, the origins, the ad server, the folders and the fallbacks are there and right, and
 ends: 0 if all are, 1 if not. It makes, pushes and asks nothing. Run it as the feed's user.
@@ -100,10 +105,12 @@ def read_words(arguments: list[str]) -> argparse.Namespace:
     it.add_argument("--tolerance", metavar="SECONDS", help="the channel's tolerance (adsplice's own is 0.1)")
     it.add_argument("--decisions", metavar="DIR")
     it.add_argument("--fallback", metavar="FILE", help="a decision file with a fallback, given whenever the channel is made")
+    it.add_argument("--slate", metavar="FILE", help="a decision file with a fallback, whose segments fill up each pod that is shorter than its break")
     it.add_argument("--keep", metavar="DIR", help="keeps NAME.events and NAME.beat there, for adsplice-monitor and adsplice-explain, PROGRAMME.log for itself (the section's name), and NAME.lock against a second feed")
     it.add_argument("--renditions", metavar="NAMES", help="a ladder: a channel NAME-R for each rendition R of NAMES, such as '1080 720 360'")
     it.add_argument("--master", metavar="FILE", help="the origin is a master playlist: its renditions are channels, and FILE is the one that viewers load")
     it.add_argument("--viewers", metavar="URL", help="with --master: where viewers read channels, such as http://viewers.example (the host of FILE's URL)")
+    it.add_argument("--empty-subtitles", metavar="URL", help="with --master: of a WebVTT file without words, which subtitles have for each piece of an ad (/empty.vtt at --viewers)")
     it.add_argument("--unended", action="store_const", const="yes", help="the packager never ends its last line: take it so")
     yes_or_no = ("yes", "no")
     it.add_argument("--repair", choices=yes_or_no, help="puts the packager's lists right (yes)")
@@ -114,10 +121,15 @@ def read_words(arguments: list[str]) -> argparse.Namespace:
     it.add_argument("--nearest", choices=("yes", "no"), help="puts a break's start on the begin of a segment that is near (yes)")
     it.add_argument("--ask", metavar="URL", help="where each break's decision is asked for: an ad server, or the word folder")
     it.add_argument("--hold", metavar="SECONDS", help="that a list may wait for an answer (1, and below half a target duration)")
+    it.add_argument("--verify", choices=yes_or_no, help="looks whether a decision's ads are there before it is given (no)")
     it.add_argument("--redirects", choices=yes_or_no, help="follows the origin's redirects to other hosts, ports and schemes, too (no)")
     it.add_argument("--networks", metavar="NETWORKS", help="to which these may lead beside public addresses, such as '10.0.0.0/8' (the origin's own addresses)")
     it.add_argument("--line", metavar="BYTES", help="that a list's line may have (16384); a list with a longer one isn't pushed")
+    it.add_argument("--store", metavar="ADDRESSES", help="several machines have the channels, and what was given in this etcd: 'etcd://10.0.0.1 10.0.0.2 10.0.0.3'")
+    it.add_argument("--machine", metavar="NAME", help="of this machine, with --store (the host's name)")
+    it.add_argument("--lease", metavar="SECONDS", help="after which another machine leads in place of one that is gone, with --store (2)")
     it.add_argument("--check", action="store_true", help="says whether all that the channels need is there, and ends")
+    it.add_argument("--status", action="store_true", help="says which machine leads what, and which is behind, and ends: 0 if all is well, 1 if not")
     it.add_argument("--door", type=address_of, metavar="ADDRESS", help="takes decisions over HTTP at 127.0.0.1:PORT or on the Unix socket of a path")
     it.add_argument("--timeout", type=words.seconds, default=5.0, metavar="SECONDS", help="for a request with its answer (5)")
     it.add_argument("--longest-pause", type=words.seconds, default=5.0, metavar="SECONDS", help="between two trials (5, and no more than a target duration)")
@@ -155,12 +167,23 @@ class Feeds:
         self.sections: dict[str, Section] = {}
         self.known: dict[str, Fed] = {}  # the channels by their names
         self.ending: list[Section] = []  # those that are about to end
+        self.stores: dict[tuple[StoreAt, str], Machines] = {}
+
+    def machines_of(self, it: Settings) -> Machines | None:
+        """The machines of the store that the settings name; none if they name none."""
+        if it.store is None:
+            return None
+        key = it.store, it.machine
+        if key not in self.stores:
+            self.stores[key] = Machines(it.store, it.machine, print_line, it.keep)
+            self.stores[key].start()
+        return self.stores[key]
 
     def start(self, units: list[list[Settings]], faults: list[tuple[str, str]]) -> None:
         """Begins to feed the `units`. What keeps it from one is added to `faults`, by its name; then the others are fed."""
         spread = min(1.0, 0.05 * (sum(map(len, units)) - 1))
         for unit in units:
-            section = Section(unit, self.limits, print_line, self.known)
+            section = Section(unit, self.limits, print_line, self.known, self.machines_of)
             try:
                 section.start(spread)
                 self.sections[section.name] = section
@@ -214,10 +237,14 @@ class Feeds:
 
     def end(self, until: float) -> None:
         """Ends all sections, by the moment `until`."""
+        for one in self.stores.values():
+            one.ending.set()  # (with its lease all leads end at once)
         for it in self.sections.values():
             it.end()
         self.ending += self.sections.values()
         self.settle(until)
+        for one in self.stores.values():
+            one.end()
 
 
 def name_of(unit: list[Settings]) -> str:
@@ -230,12 +257,31 @@ def tell_wrong(name: str, text: str) -> None:
     print_line(f"{words.now_text()} {name} settings - Wrong: {text}; goes on without it")
 
 
+def tell_status(channels: list[Settings]) -> int:
+    """Prints how the machines of the stores are that the `channels` name; answers the exit status. Raises Fault if they name none."""
+    stores: dict[StoreAt, list[str]] = {}
+    for it in channels:
+        if it.store is not None and (name := it.programme or it.name) not in stores.setdefault(it.store, []):
+            stores[it.store].append(name)
+    if not stores:
+        raise Fault("no section names a store of several machines")
+    is_well = True
+    for at, names in stores.items():
+        lines, is_right = status.status(status.read(at), names)
+        is_well = is_well and is_right
+        words.write_out("".join(f"{words.plain(line)}\n" for line in lines))
+    return 0 if is_well else words.FAULT
+
+
 def main(arguments: list[str]) -> int:
     """Runs the feed until a signal ends it; answers the exit status."""
     said = read_words(arguments)
     faults: list[tuple[str, str]] = []
     try:
         channels = channels_of(said, faults)
+        if said.status:
+            words.ends_cleanly()
+            return tell_status(channels)
         if said.check:
             words.ends_cleanly()
             return check.run(channels, faults, said.timeout)

@@ -15,12 +15,15 @@ MOST_SEGMENTS = 500  # of a pod: adsplice takes no more
 @dataclass(frozen=True)
 class Ready:
     """An ad that is made for the ladder: its `id`, the durations of its pieces in nanoseconds, the `uri` of a piece with {} for the rendition and
-    {n} for its number, and the URI of its initialisation section, if it has one (`map`)."""
+    {n} for its number, and the URI of its initialisation section, if it has one (`map`). Its sound lasts longer than its pictures by `over` nanoseconds.
+    The other making of it (`twin`), if there is one, lasts as long, and its sound is shorter than the pictures, or the other way round."""
 
     id: str
     pieces: tuple[int, ...]
     uri: str
     map: str = ""
+    over: int = 0
+    twin: Ready | None = None
 
     def length(self) -> int:
         """How long it lasts, in nanoseconds."""
@@ -32,7 +35,7 @@ class Ready:
         while count < len(self.pieces) and self.pieces[count] <= left:
             left -= self.pieces[count]
             count += 1
-        return Ready(self.id, self.pieces[:count], self.uri, self.map)
+        return self if count == len(self.pieces) else Ready(self.id, self.pieces[:count], self.uri, self.map)
 
     def said(self) -> dict[str, Any]:
         """It as a decision file has it."""
@@ -108,11 +111,23 @@ def fill(found: Found, planned: int | None, ready_of: Callable[[Ad], Ready | str
     return it.pod
 
 
+def balanced(pod: Pod, by: int) -> tuple[Pod, int]:
+    """The `pod` with that making of each ad by which sound stays nearest to pictures, and by how many nanoseconds it is longer after it. Before it sound
+    was longer by `by` in all breaks together: players that join streams end to end would be off by so much."""
+    found = []
+    for it in pod.ready:
+        one = it if it.twin is None else min((it, it.twin), key=lambda that: abs(by + that.over))
+        found.append(one)
+        by += one.over
+    return Pod(found, pod.ads, pod.lacks), by
+
+
 def fill_up(pod: Pod, left: int, slate: Ready) -> None:
     """Adds the `slate` to the `pod` as often as it goes into `left` nanoseconds, and its first pieces at last."""
     while pod.count() < MOST_SEGMENTS:
         front = slate.front(left)
-        front = Ready(front.id, front.pieces[:MOST_SEGMENTS - pod.count()], front.uri, front.map)
+        if len(front.pieces) > MOST_SEGMENTS - pod.count():
+            front = Ready(front.id, front.pieces[:MOST_SEGMENTS - pod.count()], front.uri, front.map)
         if not front.pieces:
             return
         pod.ready.append(front)

@@ -14,7 +14,8 @@ from pathlib import Path
 
 from .bounded_files import Unread, clean, made, opened, read, stamp_of
 from .decisions import DAY, DONE, MAX_BYTES, over_bound, said_by
-from .events import FallbackRead, FolderRead, Stamp
+from .events import FallbackRead, FolderRead, SlateRead, Stamp
+from .judge import judge
 
 MOST_FILES = 4096  # decision files of a channel
 MOST_ENTRIES = 16_384  # of a folder that are looked at
@@ -140,8 +141,11 @@ class DecisionFolder:
             self.say(f"decisions/{DONE}", 0, "Unkept", f"{self.path / DONE}: {fault.strerror}; files that are over stay in the folder")
 
 
-class Fallback:
-    """The fallback file `path` of a `channel`; `say` tells why there is none. A link that a person named is followed."""
+class AdsFile:
+    """The file `path` of a `channel` with ads for breaks that need some, written as a fallback is; `say` tells why there is none, of `who` it is. A
+    link that a person named is followed."""
+
+    who = ""
 
     def __init__(self, channel: str, path: Path, say: Say) -> None:
         self.channel, self.path, self.say = channel, path, say
@@ -152,32 +156,60 @@ class Fallback:
         """It is told again, as if it had changed."""
         self.is_told = False
 
-    def look(self) -> FallbackRead | None:
-        """What the file has, if that changed since it was told."""
+    def has_changed(self) -> bool:
+        """Whether it changed since it was told."""
         try:
             stamp = stamp_of(os.stat(self.path))
         except OSError as fault:
             stamp = None
             if not self.is_told:
-                self.say("fallback", 0, "", f"{self.path}: {fault.strerror}; goes on without it")
+                self.say(self.who, 0, "", f"{self.path}: {fault.strerror}; goes on without it")
         if self.is_told and stamp == self.stamp:
-            return None
+            return False
         self.stamp, self.is_told = stamp, True
-        return FallbackRead(self.channel, None if stamp is None else self.body())
+        return True
 
     def body(self) -> bytes | None:
-        """The file's bytes; none if it can't be read, or is no fallback, which is told."""
+        """The file's bytes; none if it isn't there, can't be read, or is no fallback, which is told."""
+        if self.stamp is None:
+            return None
         try:
             self.stamp, body = read(self.path, most=MAX_BYTES)
             if lack := over_bound(body):
                 raise Unread(lack)
         except OSError as fault:
-            self.say("fallback", 0, "", f"{self.path}: {fault.strerror}; goes on without it")
+            self.say(self.who, 0, "", f"{self.path}: {fault.strerror}; goes on without it")
             return None
         except Unread as why:
-            self.say("fallback", 0, "Other", f"{self.path}: it {why}; goes on without it")
+            self.say(self.who, 0, "Other", f"{self.path}: it {why}; goes on without it")
             return None
         if (kind := said_by(body)[0]) and kind != "fallback":
-            self.say("fallback", 0, "Other", f"{self.path}: it has `{kind}` and no `fallback`; goes on without it")
+            self.say(self.who, 0, "Other", f"{self.path}: it has `{kind}` and no `fallback`; goes on without it")
             return None
         return body
+
+
+class Fallback(AdsFile):
+    """The fallback file, whose ads fill breaks that nobody decided."""
+
+    who = "fallback"
+
+    def look(self) -> FallbackRead | None:
+        """What the file has, if that changed since it was told."""
+        return FallbackRead(self.channel, self.body()) if self.has_changed() else None
+
+
+class Slate(AdsFile):
+    """The slate's file, whose segments fill pods up that are shorter than their breaks."""
+
+    who = "slate"
+
+    def look(self) -> SlateRead | None:
+        """What the file has, if that changed since it was told. One that adsplice wouldn't take is told, and isn't taken."""
+        if not self.has_changed():
+            return None
+        body = self.body()
+        if body is not None and (wrong := judge(body)) is not None:
+            self.say(self.who, 0, wrong.fault, f"{self.path}: {wrong.line()}; goes on without it")
+            body = None
+        return SlateRead(self.channel, body)

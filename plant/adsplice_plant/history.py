@@ -12,6 +12,7 @@ from adsplice_rules.values import DateRange, Fault
 
 NAME = "explained"
 TAKEN = (201, 204)
+NOTES = ("note", "late")  # events of the feed by which a break has no pod of its own
 PATHS = {"channel": "", "delete": "", "origin": "/origin", "decisions": "/decisions"}
 
 

@@ -4,9 +4,9 @@ from __future__ import annotations
 import threading
 from collections import deque
 
-from .events import Event, FallbackRead, FolderRead, ListRead
+from .events import Event, FallbackRead, FolderRead, ListRead, SlateRead
 
-NEWEST = (ListRead, FolderRead, FallbackRead)  # of these the newest one of a channel counts
+NEWEST = (ListRead, FolderRead, FallbackRead, SlateRead)  # of these the newest one of a channel counts
 
 
 class Inbox:
@@ -46,6 +46,11 @@ class Inbox:
         """Takes that event."""
         with self.changed:
             return self.events.popleft() if self.events else None
+
+    def clear(self) -> None:
+        """No event waits any more."""
+        with self.changed:
+            self.events.clear()
 
     def wake(self) -> None:
         """Ends a wait."""

@@ -2,7 +2,8 @@
 
 An event has `at` (the time of day, UTC), `what` (`channel`, `delete`, `decisions`, `origin` for the four requests, `read`
 for a playlist that couldn't be read from its origin, `hole` for a time of which no list could be kept, `late` for a decision whose
-break had begun, `note` for why no rendition has the decision of the breaks in `body`, `apart` for renditions whose numbers come apart
+break had begun, `note` for why no rendition has the decision of the breaks in `body`, `ask` for a question about a break and what became of it, `absent` for a
+decision that isn't given since an ad of it isn't there, `apart` for renditions whose numbers come apart
 (1) or are equal again (0), `place` for the origin that is read, `restart` for a feed that began anew), `status`, `fault` (the
 answer's first line, or why there is none), and `body`, what was sent. In place of a list's `body` there may be its `edit`: what
 it takes over from the list before it in the file, and what is new (edits.py). A file begins with the channel's body, its open

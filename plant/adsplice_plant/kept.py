@@ -90,6 +90,8 @@ class Kept:
     hole: str = ""  # since when events can't be kept; empty if they can
     gaps: list[tuple[str, str]] = field(default_factory=list)  # the times of which nothing was kept, until somebody takes them
     late: int = 0  # decisions that came after their break had begun
+    absent: int = 0  # decisions that weren't given, since an ad of theirs wasn't there
+    asked: Counter[str] = field(default_factory=Counter)  # questions by what became of them
     is_apart: bool = False  # whether the rendition's numbers aren't those of the programme's others
     restarts: int = 0  # times that the channel's feed began anew after a fault that nobody foresaw
     pods: dict[str, Pod] = field(default_factory=dict)
@@ -154,12 +156,15 @@ class Kept:
         elif event.what == "late":
             self.late, self.refused[LATE] = self.late + 1, seconds_of(event.at)
             self.give_reason(ids_in(event.body), "its decision came too late")
+        elif event.what == "ask":
+            self.asked[event.fault] += not event.again
         elif event.what == "note":
             self.give_reason(ids_in(event.body), event.fault)
         elif event.what == "apart":
             self.is_apart = event.status == 1
         elif event.what == "place":
             self.origin = event.status
+        self.absent += event.what == "absent" and not event.again
         self.unread += event.what == "read"
         self.restarts += event.what == "restart"
 

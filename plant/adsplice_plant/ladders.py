@@ -132,9 +132,9 @@ def checked(it: Ladder) -> Ladder:
     for name, one in it.renditions.items():
         if why := wrong_with(one):
             raise Fault(f"rendition {name}: {why}")
-    kinds = {one.container == FMP4 for one in it.renditions.values()}
+    kinds = {one.container == FMP4 for one in it.renditions.values() if one.container != TEXT}  # (of WebVTT the feed leaves the section out)
     if len(kinds) > 1:
-        names = ", ".join(name for name, one in it.renditions.items() if one.container != FMP4)
+        names = ", ".join(name for name, one in it.renditions.items() if one.container == TS)
         raise Fault(f"some renditions are fragmented MP4, and {names} not: one answer can't say the ads of both")
     return it
 

@@ -19,31 +19,35 @@ from .words import Fault
 
 ASIDE = ".making-"  # what the name of a folder begins with in which an ad is made
 FACTS = "ad.json"
+OTHER = "-other"  # the end of the name of an ad's other making (conditioning.frames_of)
 EMPTY_TEXT = "WEBVTT\n"
 
 
 @dataclass(frozen=True)
 class Choices:
-    """How ads are made: their `loudness` in LUFS, if it is to be made equal, within how many `seconds`, and with how many `threads` for each coder."""
+    """How ads are made: their `loudness` in LUFS, if it is to be made equal, within how many `seconds`, with how many `threads` for each coder, and
+    whether their sound lasts for the other number of frames (`is_other`; conditioning.frames_of)."""
 
     loudness: float | None = None
     seconds: float = 600.0
     threads: int = 1
+    is_other: bool = False
 
 
 @dataclass(frozen=True)
 class Made:
-    """An ad that was made: its `id`, the durations of its pieces in nanoseconds, the ending of their names, and whether there is an initialisation
-    section."""
+    """An ad that was made: its `id`, the durations of its pieces in nanoseconds, the ending of their names, whether there is an initialisation
+    section, and by how many nanoseconds its sound lasts longer than its pictures (`over`)."""
 
     id: str
     pieces: tuple[int, ...] = field(default_factory=tuple)
     ending: str = "ts"
     has_map: bool = False
+    over: int = 0
 
     def said(self) -> dict[str, Any]:
         """It as JSON has it."""
-        return {"id": self.id, "seconds": seconds_text(sum(self.pieces)), "pieces": [seconds_text(it) for it in self.pieces], "ending": self.ending, "map": self.has_map}
+        return {"id": self.id, "seconds": seconds_text(sum(self.pieces)), "pieces": [seconds_text(it) for it in self.pieces], "ending": self.ending, "map": self.has_map, "over": self.over / SECOND}
 
 
 def read(folder: Path) -> Made | None:
@@ -51,8 +55,8 @@ def read(folder: Path) -> Made | None:
     try:
         said = json.loads((folder / FACTS).read_bytes())
         pieces = tuple(playlist.read_duration(str(it)) or 0 for it in said["pieces"])
-        return Made(str(said["id"]), pieces, str(said["ending"]), bool(said["map"])) if pieces and all(pieces) else None
-    except (OSError, ValueError, KeyError, TypeError):
+        return Made(str(said["id"]), pieces, str(said["ending"]), bool(said["map"]), round(float(said.get("over", 0)) * SECOND)) if pieces and all(pieces) else None
+    except (OSError, ValueError, KeyError, TypeError, OverflowError):
         return None
 
 
@@ -72,10 +76,10 @@ def make(children: Children, source: Path, ladder: Ladder, to: Path, name: str, 
         aside.chmod(0o755)
         for rendition in ladder.renditions:
             (aside / rendition).mkdir()
-        status, _, said = children.run(["ffmpeg", *conditioning.arguments(source, found.has_sound, ladder, cut, aside, choices.loudness, choices.threads)], choices.seconds)
+        status, _, said = children.run(["ffmpeg", *conditioning.arguments(source, found.has_sound, ladder, cut, aside, choices.loudness, choices.threads, choices.is_other)], choices.seconds)
         if status:
             raise Fault(f"ffmpeg ended with status {status}: {said.replace(str(source), 'its file').replace(str(aside), 'its folder') or 'it says nothing'}")
-        made = Made(name, cut.pieces(), conditioning.ending_of(ladder), ladder.has_map())
+        made = Made(name, cut.pieces(), conditioning.ending_of(ladder), ladder.has_map(), conditioning.over_of(cut.length(), ladder, choices.is_other))
         for rendition, it in ladder.renditions.items():
             finish(aside / rendition, it, cut, made, rendition)
         write_aside(aside / FACTS, json.dumps(made.said()).encode() + b"\n")

@@ -1,5 +1,6 @@
 """adsplice-monitor: figures of channels and processes for Prometheus, a check for Nagios and cron, and the as-run log."""
 import argparse
+import json
 import threading
 import time
 from collections.abc import Iterator
@@ -9,16 +10,18 @@ from prometheus_client import CollectorRegistry, generate_latest, start_http_ser
 from prometheus_client.core import CounterMetricFamily, GaugeMetricFamily, Metric
 from prometheus_client.registry import Collector
 
-from . import config_file, words
-from .as_run import BEAT, KEYS, SECONDS, SOLD, AsRun, Log
+from . import shown_breaks, words
+from .as_run import BEAT, KEYS, SECONDS, SOLD, Log
+from .decisions import ANSWERS
 from .journal import BEAT as BEAT_FILE
-from .kept import EVENTS, Kept
-from .masters import written_names
+from .kept import EVENTS
+from .machines import SAID
 from .store import repairs_kept
 from .origins import NAMES
 from .playlist import SECOND
 from .reconcile import report
 from .watch import UNFILLABLE, WORDS, Watch
+from .watched import Watched
 from .web import Client
 from .words import Fault
 
@@ -28,6 +31,7 @@ HELP = """Figures of adsplice's channels for Prometheus, and an as-run log.
                    --kept /var/lib/adsplice/kept --as-run /var/lib/adsplice/as-run.jsonl
   adsplice-monitor --config /etc/adsplice/feed.ini --once      the channels of a feed; prints the figures, for Nagios and cron
   adsplice-monitor --reconcile /var/lib/adsplice/decisions/news --as-run as-run.jsonl --channel news     what was sold and shown
+  adsplice-monitor --breaks --as-run /var/lib/adsplice/as-run.jsonl      what each rendition showed of each break
 
 Serves /metrics (--listen) until a signal ends it. With --once it looks at each channel until its list has changed or its
 limit is over, prints the figures behind a comment with what is wrong, and ends.
@@ -38,13 +42,22 @@ for --still; both are three target durations if they aren't named. An ended list
 Refused pushes and the as-run log need what adsplice-feed --keep has kept (--kept, or `keep` of --config).
 
 --reconcile compares the decision files of a folder with the as-run log: which sold break was shown whole, in part or not, and why; of each
-ad with an ID how often it was shown, and for how many seconds. With --kept it names the files that adsplice refused, too.
+ad with an ID how often it was shown, and for how many seconds. With --kept it names the files that adsplice refused, too. Of several machines
+name the log of each (--as-run A --as-run B): a break counts once, as that machine showed it that showed most of it.
 
-Exit status with --reconcile: 0 if all that was sold was shown whole; 2 if not. With --once: 0 all is well; 2 a channel is late, stands still or doesn't answer, or a process doesn't answer;
+--breaks prints a line for each break of a programme, with what each rendition showed by the as-run log. Channels are renditions of one programme
+if they have one name up to the last `-`.
+
+Exit status with --reconcile: 0 if all that was sold was shown whole; 2 if not. With --breaks: 0 if each was the same in all renditions; 2 if not. With --once: 0 all is well; 2 a channel is late, stands still or doesn't answer, or a process doesn't answer;
 1 a fault. Wrong words are 2, too. Without --once: 0 after SIGTERM, SIGINT or SIGHUP."""
 CRITICAL = 2
 LAST = 2.0  # seconds for which what is known is still written at the end
 AGAIN = 3.0  # seconds for which a channel without a list is looked at again
+RENEWED = 10.0  # seconds between two looks at which channels there are
+OLD_MACHINE = 10.0  # seconds after which what a feed said of its machine is old
+MACHINES = {"store_up": "Whether the store of several machines does what this one's feed asks", "leads": "Programmes that this machine leads",
+            "replicas_behind": "Programmes of which this machine's controllers lack what was given", "replicas_ill": "Programmes whose controllers don't answer on this machine",
+            "lead_moves": "How often the lead of one programme went to another machine within 10 minutes"}
 AWAY = (0, 502, 504)  # statuses that say that a process doesn't answer
 
 
@@ -57,42 +70,26 @@ def read_words(arguments: list[str]) -> argparse.Namespace:
     it.add_argument("--viewers", type=words.web_address, metavar="URL", help="the viewers' address (the one of --at if it isn't named)")
     it.add_argument("--process", type=words.web_address, action="append", default=[], metavar="URL", help="of a process: does it answer? May be repeated")
     it.add_argument("--kept", type=Path, metavar="DIR", help="the folder of adsplice-feed --keep")
-    it.add_argument("--as-run", type=Path, metavar="FILE", help="the as-run log, to which lines are added")
+    it.add_argument("--as-run", type=Path, action="append", default=[], metavar="FILE", help="the as-run log, to which lines are added; with --reconcile that of each machine")
     it.add_argument("--late", type=words.seconds, metavar="SECONDS")
     it.add_argument("--still", type=words.seconds, metavar="SECONDS")
     it.add_argument("--interval", type=words.seconds, default=1.0, metavar="SECONDS", help="between two looks (1)")
     it.add_argument("--listen", default="127.0.0.1:9465", metavar="HOST:PORT", help="for Prometheus (127.0.0.1:9465)")
     it.add_argument("--once", action="store_true")
+    it.add_argument("--breaks", action="store_true", help="prints what each rendition of a programme showed of each break, by the as-run log")
     it.add_argument("--reconcile", type=Path, metavar="DIR", help="a channel's folder of decisions, which is compared with the as-run log")
     said = it.parse_args(arguments)
-    if said.reconcile is not None:
-        if said.as_run is None:
-            it.error("--reconcile needs --as-run")
+    if said.reconcile is not None or said.breaks:
+        if not said.as_run:
+            it.error(f"--{'breaks' if said.breaks else 'reconcile'} needs --as-run")
         return said
     if said.config is None and not (said.channel and said.at):
         it.error("--channel and --at are needed, or --config")
-    if said.as_run is not None and said.kept is None and said.config is None:
+    if len(said.as_run) > 1 and not said.reconcile:
+        it.error("several --as-run go with --reconcile and --breaks alone")
+    if said.as_run and said.kept is None and said.config is None:
         it.error("--as-run needs --kept")
     return said
-
-
-def watches_of(said: argparse.Namespace) -> list[Watch]:
-    """A watch for each channel that the words `said` name; raises Fault."""
-    channels = [(it, said.at, said.kept, True) for it in said.channel]
-    if said.config is not None:
-        known = {name: (name, said.at or it.at, said.kept or it.keep, bool(it.decisions or it.texts.get("decisions")))
-                 for it in config_file.read_right(said.config, lambda name, text: Trouble(name).tell(f"{text}; goes on without it"))
-                 for name in (written_names(it) if it.master else [it.name])}
-        channels = [known[it] for it in said.channel or known if it in known]
-        if missing := set(said.channel) - set(known):
-            raise Fault(f"{said.config}: there is no channel {min(missing)}")
-    log = Log(said.as_run) if said.as_run else None
-    found = []
-    for name, at, folder, is_decided in channels:
-        kept = Kept(folder / f"{name}.events") if folder else None
-        found.append(Watch(name, f"{said.viewers or at}/channels/{name}/live.m3u8", f"{at}/channels/{name}/why", Client(5), kept,
-                           AsRun(name, log, is_decided=is_decided) if log and kept else None, said.late, said.still))
-    return found
 
 
 class Processes:
@@ -108,10 +105,10 @@ class Processes:
 
 
 class Figures(Collector):
-    """The figures of `watches` and `processes` as Prometheus takes them."""
+    """The figures of the channels that are `watched`, and of `processes`, as Prometheus takes them."""
 
-    def __init__(self, watches: list[Watch], processes: Processes) -> None:
-        self.watches, self.processes = watches, processes
+    def __init__(self, watched: Watched, processes: Processes) -> None:
+        self.watched, self.processes = watched, processes
 
     def collect(self) -> Iterator[Metric]:
         """All figures as they are now."""
@@ -119,8 +116,28 @@ class Figures(Collector):
         for url, is_up in self.processes.up.items():
             up.add_metric([url.partition("://")[2]], float(is_up))
         yield up
+        channels = GaugeMetricFamily("adsplice_programme_channels", "Channels of a programme with a master playlist", labels=["programme"])
+        for name, count in self.watched.programmes.items():
+            channels.add_metric([name], count)
+        yield channels
         yield from self.lists()
         yield from self.pushes()
+        yield from self.machines()
+
+    def machines(self) -> Iterator[Metric]:
+        """The figures of this machine as one of several that have a store, as its feed keeps them."""
+        found = {name: GaugeMetricFamily(f"adsplice_{name}", text, labels=["machine"]) for name, text in MACHINES.items()}
+        differed = CounterMetricFamily("adsplice_replica_differed", "Times that a channel was made anew here since it wasn't as the others", labels=["machine"])
+        folders = {it.kept.path.parent for it in self.watched.all() if it.kept is not None}
+        for path in sorted(path for it in folders for path in it.glob(f"*{SAID}")):
+            said = said_in(path)
+            if said is None:
+                continue
+            for name, key in zip(found, ("up", "leads", "behind", "ill", "moves")):
+                found[name].add_metric([path.stem], said[key])
+            differed.add_metric([path.stem], said["differed"])
+        yield from found.values()
+        yield differed
 
     def lists(self) -> Iterator[Metric]:
         """The figures of the channels' lists and breaks."""
@@ -136,7 +153,7 @@ class Figures(Collector):
         shown = CounterMetricFamily("adsplice_as_run_seconds", "Seconds of pods that were shown, by the pod", labels=["channel", "pod"])
         sold = CounterMetricFamily("adsplice_as_run_sold_seconds", "Seconds of the decided pods of breaks that are over", labels=["channel"])
         waiting = GaugeMetricFamily("adsplice_as_run_waiting", "Lines of the as-run log that can't be written", labels=["channel"])
-        for it in self.watches:
+        for it in self.watched.all():
             with it.lock:
                 answers.add_metric([it.name], float(it.status == 200))
                 late = it.behind()
@@ -170,11 +187,13 @@ class Figures(Collector):
         repairs = CounterMetricFamily("adsplice_feed_repairs", "Lists that the feed put right, by the kind of repair", labels=["channel", "kind"])
         origins = GaugeMetricFamily("adsplice_feed_origin", "Whether a channel's list is read from this one of its two origins", labels=["channel", "place"])
         late = CounterMetricFamily("adsplice_feed_late_decisions", "Decisions that came after their break had begun", labels=["channel"])
+        asked = CounterMetricFamily("adsplice_feed_questions", "Questions about breaks, by what became of them", labels=["channel", "answer"])
+        absent = CounterMetricFamily("adsplice_feed_absent", "Decisions that weren't given, since an ad of theirs wasn't there", labels=["channel"])
         refused = GaugeMetricFamily("adsplice_feed_refused_time_seconds", "When a decision was refused last, or came late, since 1970", labels=["channel", "what", "status", "fault"])
         apart = GaugeMetricFamily("adsplice_feed_apart", "Whether a rendition's numbers aren't those of the programme's others", labels=["channel"])
         steps = GaugeMetricFamily("adsplice_feed_step_age_seconds", "Seconds since a channel's feed showed that it goes on", labels=["channel"])
         ages = GaugeMetricFamily("adsplice_feed_kept_age_seconds", "Seconds since a channel's feed kept an event", labels=["channel"])
-        for it in self.watches:
+        for it in self.watched.all():
             if it.kept is None:
                 continue
             for age, end in ((steps, BEAT_FILE), (ages, EVENTS)):
@@ -189,12 +208,25 @@ class Figures(Collector):
                 restarts.add_metric([it.name], it.kept.restarts)
                 holes.add_metric([it.name], it.kept.holes)
                 late.add_metric([it.name], it.kept.late)
+                absent.add_metric([it.name], it.kept.absent)
+                for word in ANSWERS:
+                    asked.add_metric([it.name, word], it.kept.asked[word])
                 apart.add_metric([it.name], float(it.kept.is_apart))
                 for key, at in sorted(it.kept.refused.items()):
                     refused.add_metric([it.name, *key], at)
                 for place, name in enumerate(NAMES if it.kept.origin else (), 1):
                     origins.add_metric([it.name, name], float(it.kept.origin == place))
-        yield from (answers, unread, restarts, holes, repairs, origins, late, refused, apart, steps, ages)
+        yield from (answers, unread, restarts, holes, repairs, origins, late, asked, absent, refused, apart, steps, ages)
+
+
+def said_in(path: Path) -> dict[str, int] | None:
+    """What the file `path` says of a machine, with a store that isn't up if it is old; none if it doesn't read."""
+    try:
+        said = json.loads(path.read_bytes()[:4096])
+        found = {name: int(said[name]) for name in ("up", "leads", "behind", "ill", "moves", "differed")}
+        return found | ({"up": 0} if time.time() - path.stat().st_mtime > OLD_MACHINE else {})
+    except (OSError, ValueError, KeyError, TypeError, RecursionError):
+        return None
 
 
 def is_open(watch: Watch, begun: bytes, until: float) -> bool:
@@ -205,10 +237,11 @@ def is_open(watch: Watch, begun: bytes, until: float) -> bool:
     return watch.body == begun and not watch.troubles() and not watch.is_ended
 
 
-def once(watches: list[Watch], processes: Processes, registry: CollectorRegistry, interval: float) -> int:
-    """Looks at each of `watches` until its list has changed or its limit is over, every `interval` seconds; prints the figures
+def once(watched: Watched, processes: Processes, registry: CollectorRegistry, interval: float) -> int:
+    """Looks at each of the `watched` channels until its list has changed or its limit is over, every `interval` seconds; prints the figures
     of `registry`, and answers the exit status."""
     processes.look()
+    watches = watched.all()
     for it in watches:
         it.judge()
     begun, until = {it.name: it.body for it in watches}, time.monotonic() + AGAIN
@@ -218,6 +251,7 @@ def once(watches: list[Watch], processes: Processes, registry: CollectorRegistry
             it.judge()
     troubles = [text for it in watches for text in it.troubles()]
     troubles += [f"the process at {url} doesn't answer" for url, is_up in processes.up.items() if not is_up]
+    troubles += [f"the programme {name} has no master playlist yet" for name, count in watched.programmes.items() if not count]
     first = f"CRITICAL: {', and '.join(troubles)}" if troubles else f"OK: {len(watches)} channels go on"
     words.write_out(f"# {first}\n{generate_latest(registry).decode()}")
     return CRITICAL if troubles else 0
@@ -237,10 +271,21 @@ class Trouble:
             self.say(f"{words.now_text()} {self.name}: {text or 'all is well again'}")
 
 
+class Sections:
+    """What is wrong with the sections of the config file: each told once for as long as it is so."""
+
+    def __init__(self) -> None:
+        self.troubles: dict[str, Trouble] = {}
+
+    def tell(self, name: str, text: str) -> None:
+        """The section of the `name` is wrong, since its `text`."""
+        self.troubles.setdefault(name, Trouble(name)).tell(f"{text}; goes on without it")
+
+
 def follow(watch: Watch, ending: threading.Event, interval: float) -> None:
-    """Looks at `watch` every `interval` seconds until `ending` is set."""
+    """Looks at `watch` every `interval` seconds until `ending` is set, or its channel is gone."""
     trouble = Trouble(watch.name)
-    while not ending.wait(watch.pause(interval)):
+    while not ending.wait(watch.pause(interval)) and not watch.is_gone:
         try:
             watch.look()
             trouble.tell("")
@@ -250,7 +295,24 @@ def follow(watch: Watch, ending: threading.Event, interval: float) -> None:
             trouble.tell(f"{type(fault).__name__}: {str(fault)[:200]}")
 
 
-def serve(watches: list[Watch], processes: Processes, registry: CollectorRegistry, said: argparse.Namespace) -> int:
+def follow_all(watches: list[Watch], ending: threading.Event, interval: float) -> None:
+    """Follows each of `watches` in a thread of its own."""
+    for it in watches:
+        threading.Thread(target=follow, args=(it, ending, interval), daemon=True).start()
+
+
+def renew_on(watched: Watched, path: Path, ending: threading.Event, interval: float) -> None:
+    """Looks now and then at which channels the config file at `path` has, and follows those that are new."""
+    trouble = Trouble(str(path))
+    while not ending.wait(RENEWED):
+        try:
+            follow_all(watched.take(watched.wanted()), ending, interval)
+            trouble.tell("")
+        except (Fault, OSError) as fault:
+            trouble.tell(f"{fault}; goes on with those before")
+
+
+def serve(watched: Watched, processes: Processes, registry: CollectorRegistry, said: argparse.Namespace) -> int:
     """Serves the figures of `registry`, as the words `said` ask for, until a signal ends it; answers the exit status."""
     host, _, port = said.listen.rpartition(":")
     try:
@@ -258,11 +320,12 @@ def serve(watches: list[Watch], processes: Processes, registry: CollectorRegistr
     except (OSError, ValueError, OverflowError) as fault:
         raise Fault(f"--listen {said.listen}: {getattr(fault, 'strerror', None) or fault}") from None
     ending = words.ends_by_signals()
-    for it in watches:
-        threading.Thread(target=follow, args=(it, ending, said.interval), daemon=True).start()
+    follow_all(watched.all(), ending, said.interval)
     threading.Thread(target=look_on, args=(processes, ending, max(said.interval, 1)), daemon=True).start()
-    if log := next((it.as_run.log for it in watches if it.as_run), None):
-        beating = threading.Thread(target=beat_on, args=(log, watches, ending), daemon=True)
+    if said.config is not None:
+        threading.Thread(target=renew_on, args=(watched, said.config, ending, said.interval), daemon=True).start()
+    if log := watched.log:
+        beating = threading.Thread(target=beat_on, args=(log, watched, ending), daemon=True)
         beating.start()
     while not ending.wait(3600):
         pass
@@ -271,8 +334,8 @@ def serve(watches: list[Watch], processes: Processes, registry: CollectorRegistr
     return 0
 
 
-def beat_on(log: Log, watches: list[Watch], ending: threading.Event) -> None:
-    """Keeps that a monitor runs beside its as-run log `log`, and what it knows of the breaks of `watches`, until `ending` is set."""
+def beat_on(log: Log, watched: Watched, ending: threading.Event) -> None:
+    """Keeps that a monitor runs beside its as-run log `log`, and what it knows of the breaks of the `watched` channels, until `ending` is set."""
     trouble, has_begun, is_last = Trouble(str(log.path)), False, False
     while not is_last:
         is_last = ending.is_set()
@@ -280,7 +343,7 @@ def beat_on(log: Log, watches: list[Watch], ending: threading.Event) -> None:
             if not has_begun:
                 log.begin()
             has_begun = True
-            log.beat(state_of(watches))
+            log.beat(state_of(watched.all()))
             trouble.tell("")
         except OSError as fault:
             trouble.tell(fault.strerror or str(fault))
@@ -310,16 +373,16 @@ def main(arguments: list[str]) -> int:
     """Watches; answers the exit status."""
     said = read_words(arguments)
     try:
-        if said.reconcile is not None:
-            lines, is_well = report(said.reconcile, said.as_run, said.channel, said.kept)
+        if said.reconcile is not None or said.breaks:
+            lines, is_well = (shown_breaks.report(said.as_run, said.channel) if said.breaks else report(said.reconcile, said.as_run, said.channel, said.kept))
             words.write_out("".join(f"{words.plain(it)}\n" for it in lines))
             return 0 if is_well else CRITICAL
-        watches, processes = watches_of(said), Processes(said.process)
+        watched, processes = Watched(said, Sections().tell), Processes(said.process)
         registry = CollectorRegistry()
-        registry.register(Figures(watches, processes))
+        registry.register(Figures(watched, processes))
         if said.once:
             words.ends_cleanly()
-            return once(watches, processes, registry, said.interval)
-        return serve(watches, processes, registry, said)
+            return once(watched, processes, registry, said.interval)
+        return serve(watched, processes, registry, said)
     except (Fault, OSError) as fault:
         words.fail("adsplice-monitor", str(fault))

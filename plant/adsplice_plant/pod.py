@@ -15,7 +15,7 @@ HELP = """Makes a decision file for a break of the playlists of its ads, or judg
 
   adsplice-pod ID ad1/index.m3u8 ad2/index.m3u8 --at http://ads.example > decisions.json
   adsplice-pod --fallback ad1/index.m3u8 --at http://ads.example > fallback.json
-  adsplice-pod --check decisions.json
+  adsplice-pod --check decisions.json [--verify]
   adsplice-pod --vmap breaks.xml --list index.m3u8 --base http://origin.example/film/index.m3u8 --ads /var/www/ads --at http://ads.example --to film
   adsplice-pod --breaks 0=CAR0001H 600=CAR0001H,SOAP0001H end=CAR0001H --list index.m3u8 --base .. --ads .. --at .. --to film
   adsplice vod http://origin.example/film/index.m3u8 film/decisions.json < film/index.m3u8 > written.m3u8
@@ -26,12 +26,14 @@ standard error, a line each: a segment over the target duration, a pod that isn'
 have an initialisation section and some haven't, an ad with several keys.
 
 --check prints `right`, or the member that is wrong, in words, by the rules in adsplice_rules. A member that adsplice doesn't know, and so ignores, is told.
+With --verify each URI of the web that it names is asked for, by HEAD or by its first byte, and one that isn't there is a line.
 
 --vmap (IAB VMAP 1.0) and --breaks put breaks into the list of a programme on demand: before it, within it where a segment begins, and after
 it. No segment goes. The ads are those that adsplice-condition made in folders of --ads, by their IDs. DIR gets the list with signals, and the
 decision file, for `adsplice vod`. An ad or a break that can't be put in is told in a line each, and left out.
 
 Exit status: 0 done (or right); 1 a fault, or a wrong file; 2 wrong words; with --strict also 1 after a warning."""
+MOST_VERIFIED, VERIFIED = 5000, 30.0  # URIs that are asked for, and seconds for all of them
 NEAR = playlist.SECOND // 10  # how far a pod's length may be from its break's
 
 
@@ -44,6 +46,7 @@ def read_words(arguments: list[str]) -> argparse.Namespace:
     it.add_argument("--target", type=int, metavar="SECONDS", help="the channel's EXT-X-TARGETDURATION")
     it.add_argument("--length", type=words.seconds, metavar="SECONDS", help="how long the break lasts")
     it.add_argument("--check", metavar="FILE", help="judges a decision file (- is standard input)")
+    it.add_argument("--verify", action="store_true", help="with --check: asks whether its ads are there")
     it.add_argument("--vmap", metavar="FILE", help="a VMAP document, or its URL")
     it.add_argument("--breaks", nargs="+", metavar="OFFSET=ID,..", help="breaks by their offsets: seconds, HH:MM:SS, start or end")
     it.add_argument("--list", metavar="FILE", help="the list of the programme, or its URL")
@@ -60,6 +63,8 @@ def read_words(arguments: list[str]) -> argparse.Namespace:
         return said
     if said.check is None and len(said.names) < (1 if said.fallback else 2):
         it.error("an ID and at least one playlist are needed, or --check FILE")
+    if said.verify and said.check is None:
+        it.error("--verify goes with --check")
     if said.check is not None and said.names:
         it.error("--check takes one file and no playlists")
     return said
@@ -128,12 +133,22 @@ def verdict(body: bytes) -> str:
     return "" if wrong is None else f"{wrong.line()} ({wrong.fault})"
 
 
-def check(name: str) -> int:
-    """Judges the decision file `name`; answers the exit status."""
+def check(name: str, is_verified: bool) -> int:
+    """Judges the decision file `name`, and asks whether its ads are there if that is to be verified (`is_verified`); answers the exit status."""
     body = body_of(name)
     wrong = verdict(body)
-    words.write_out("".join(f"{words.plain(f'{name}: {it}')}\n" for it in ([wrong] if wrong else [*judge.strange_members(body), "right"])))
-    return words.FAULT if wrong else 0
+    absent = absent_of(body) if is_verified and not wrong else []
+    words.write_out("".join(f"{words.plain(f'{name}: {it}')}\n" for it in ([wrong] if wrong else [*judge.strange_members(body), *(absent or ["right"])])))
+    return words.FAULT if wrong or absent else 0
+
+
+def absent_of(body: bytes) -> list[str]:
+    """A line for each URI of the decision file `body` that isn't there."""
+    from .looking import Looker  # (with what it needs, which others don't)
+    from .presence import chosen
+    from .web import Client
+    named = chosen([body], MOST_VERIFIED)
+    return [f"{ad}: {words.shown(uri)} isn't there: {why}" for ad, uri, why in Looker(Client(VERIFIED, True), VERIFIED).absent_of(named)]
 
 
 def make(program: str, said: argparse.Namespace) -> int:
@@ -171,6 +186,7 @@ def put_in(said: argparse.Namespace) -> int:
         raise Fault(f"{said.vmap}: {fault}") from None
     faults += [f"break {it.name}: it has no ads, and is left out" for it in places if not it.ads]
     cuts, more = on_demand.cuts_of(programme, [it for it in places if it.ads])
+    cuts = on_demand.balanced(cuts)
     for text in faults + more:
         print(words.plain(f"adsplice-pod: {text}"), file=sys.stderr)
     if faults and said.strict:
@@ -194,6 +210,6 @@ def main(arguments: list[str]) -> int:
     try:
         if said.vmap or said.breaks:
             return put_in(said)
-        return check(said.check) if said.check is not None else make(find_program(said.program), said)
+        return check(said.check, said.verify) if said.check is not None else make(find_program(said.program), said)
     except (Fault, OSError) as fault:
         words.fail("adsplice-pod", str(fault))

@@ -14,14 +14,15 @@ from typing import Any
 from . import download, ladders, packaged, playlist
 from .ad_server import Asking
 from .children import Children
-from .conditioning import READS
+from .conditioning import FORMATS, READS
 from .ladders import FMP4, LARGEST, TEXT, TS, Ladder, Rendition
 from .outside import Outside
 from .playlist import SECOND, Listed
 from .words import Fault
 
 SECONDS = 20.0  # for a look at a file
-MEDIA, VARIANT = "#EXT-X-MEDIA:", "#EXT-X-STREAM-INF:"
+MEDIA, VARIANT, KEY = "#EXT-X-MEDIA:", "#EXT-X-STREAM-INF:", "#EXT-X-KEY:"
+KEY_BYTES = 16
 TEXTS = (".vtt", ".webvtt")
 
 
@@ -34,9 +35,22 @@ class Source:
     has_sound: bool
 
 
-def looked_at(children: Children, path: Path, seconds: float = SECONDS) -> dict[str, Any]:
-    """What ffprobe, one of `children`, says of the file at `path` within `seconds`; raises Fault."""
-    status, out, said = children.run(["ffprobe", "-v", "error", *READS, "-of", "json", "-show_streams", "-show_format", str(path)], seconds)
+@dataclass(frozen=True)
+class Key:
+    """What decrypts a segment under AES-128 (RFC 8216, 4.3.2.4): the `key` and the initialization vector (`vector`), of 16 bytes each."""
+
+    key: bytes
+    vector: bytes
+
+    def reads(self) -> list[str]:
+        """The words by which ffprobe reads a file under it. (Other users of the machine see them for a moment; each viewer has the key, too.)"""
+        return ["-protocol_whitelist", "file,crypto", "-format_whitelist", FORMATS, "-decryption_key", self.key.hex(), "-decryption_iv", self.vector.hex()]
+
+
+def looked_at(children: Children, path: Path, seconds: float = SECONDS, key: Key | None = None) -> dict[str, Any]:
+    """What ffprobe, one of `children`, says of the file at `path` within `seconds`, which is under the `key` if there is one; raises Fault."""
+    words = [*READS, str(path)] if key is None else [*key.reads(), f"crypto:{path}"]
+    status, out, said = children.run(["ffprobe", "-v", "error", *words[:-1], "-of", "json", "-show_streams", "-show_format", words[-1]], seconds)
     try:
         found = json.loads(out)
     except ValueError:
@@ -115,9 +129,8 @@ class Prober:
         newest = listed.segments[-1]
         if urllib.parse.urlsplit(newest.uri).path.lower().endswith(TEXTS):
             return Rendition(TEXT)
-        if any(line.startswith("#EXT-X-KEY:") and "METHOD=NONE" not in line for line in text.splitlines()):
-            raise Fault("its segments are encrypted, so ffprobe can't read them: write its profile by hand")
         section = [line for line in text.splitlines() if line.startswith(ladders.TAG)]
+        key = self.key(place, text, newest.number, bool(section))
         data = b""
         if section:
             said = packaged.attributes_of(section[-1].partition(":")[2])
@@ -126,7 +139,23 @@ class Prober:
         begin, length = last_range(text)
         segment, size = self.part(place, newest.uri, begin, min(length or download.PIECE, download.PIECE))
         bits = int(Fraction((length or size) * 8 * SECOND, max(newest.duration, 1)))
-        return ladders.probed(self.streams(data + segment), FMP4 if section else TS, bits)
+        return ladders.probed(self.streams(data + segment, key), FMP4 if section else TS, bits)
+
+    def key(self, place: str, text: str, number: int, has_section: bool) -> Key | None:
+        """What decrypts the newest segment of the list `text` at `place`, which has the media `number`; none if it is clear. `has_section`: it has an
+        initialisation section. Raises Fault if that can't be had."""
+        said = keys_of(text)
+        if not said:
+            return None
+        one = said[-1]
+        if any(it.get("METHOD") != "AES-128" or it.get("KEYFORMAT", "identity") != "identity" for it in said) or has_section:
+            raise Fault(f"its segments are under {one.get('METHOD', '')[:20]}{' with an initialisation section' if has_section else ''}, so ffprobe can't read them: "
+                        "write its profile by hand")
+        key, _ = self.part(place, one.get("URI", ""), 0, KEY_BYTES)
+        vector = one.get("IV", "")[2:].rjust(2 * KEY_BYTES, "0") if "IV" in one else f"{number:032x}"
+        if len(key) != KEY_BYTES or len(vector) != 2 * KEY_BYTES or not set(vector) <= set("0123456789abcdefABCDEF"):
+            raise Fault("its key, or the IV, hasn't 16 bytes")
+        return Key(key, bytes.fromhex(vector))
 
     def part(self, place: str, uri: str, begin: int, count: int) -> tuple[bytes, int]:
         """So many bytes (`count`) of what the `uri` in the list at `place` names, from `begin` on, and how many bytes that has; raises Fault."""
@@ -143,12 +172,22 @@ class Prober:
         except OSError as fault:
             raise Fault(f"{path}: {fault.strerror}") from None
 
-    def streams(self, data: bytes) -> list[dict[str, Any]]:
-        """What ffprobe says of the streams in the bytes `data`; raises Fault."""
+    def streams(self, data: bytes, key: Key | None) -> list[dict[str, Any]]:
+        """What ffprobe says of the streams in the bytes `data`, which are under the `key` if there is one; raises Fault."""
         with tempfile.NamedTemporaryFile(prefix="adsplice-") as it:
-            it.write(data)
+            it.write(data if key is None else data[:len(data) // KEY_BYTES * KEY_BYTES])
             it.flush()
-            return [one for one in looked_at(self.children, Path(it.name))["streams"] if isinstance(one, dict)]
+            return [one for one in looked_at(self.children, Path(it.name), key=key)["streams"] if isinstance(one, dict)]
+
+
+def keys_of(text: str) -> list[dict[str, str]]:
+    """What the EXT-X-KEY tags say that are in force for the last segment of the list `text`; nothing if it is clear."""
+    found: list[dict[str, str]] = []
+    for line in text.splitlines():
+        if line.startswith(KEY):
+            said = packaged.attributes_of(line.partition(":")[2])
+            found = [] if said.get("METHOD") == "NONE" else [*(it for it in found if it.get("KEYFORMAT") != said.get("KEYFORMAT")), said]
+    return found
 
 
 def range_of(text: str) -> tuple[int, int]:

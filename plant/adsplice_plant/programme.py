@@ -6,21 +6,23 @@ controller gets something of it. No clock, file or socket is known here (shell).
 from __future__ import annotations
 
 from collections import Counter
-from collections.abc import Collection
+from collections.abc import Collection, Mapping
 from dataclasses import dataclass, replace
 
-from . import apart, controllers, decided, packaged, ranges, repairs, spelling
+from . import apart, controllers, decided, joining, packaged, presence, ranges, repairs, slates, spelling
 from .edges import edge_of, up_to
-from .breaks import Line
-from .events import Action, Answered, Ask, AskedInVain, Began, Event, FallbackRead, FolderRead, Found, ListRead, OriginChanged
+from .breaks import Line, Numbering
+from .events import Action, Answered, Ask, AskedInVain, Began, Event, FallbackRead, FolderRead, Found, ListRead, Looked, OriginChanged, SlateRead, Tell
 from .events import Repaired as RepairTold
+from .growing import Growing
 from .packaged import PackagedList, PackagedSegment
 from .playlist import SECOND
 from .reckoning import Numbers, Store
 from .repair import Repaired, Repairer, count_on
 from .replay import as_elsewhere, as_it_runs, put_past
-from .siblings import Sibling, Siblings, reach_of
+from .siblings import Sibling, Siblings, is_alike, numbering_of, pace_of, reach_of
 from .state import FileState, Rendition, Standing, State, Way
+from .traits import usual_length
 from .translator import Translator
 from .turn import Turn, history_of, window_of
 from .values import changed
@@ -75,12 +77,16 @@ def take(turn: Turn, event: Event) -> None:
         turn.set(waits_until=0.0)
     elif isinstance(event, FallbackRead):
         turn.put(event.channel, fallback=event.body)
+    elif isinstance(event, SlateRead):
+        turn.put(event.channel, slate=event.body)
     elif isinstance(event, Answered):
         controllers.answered(turn, event)
     elif isinstance(event, Found):
         controllers.found(turn, event)
     elif isinstance(event, AskedInVain):
         turn.set(asked={**turn.state.asked, event.id: turn.at}, waits_until=0.0)
+    elif isinstance(event, Looked):
+        presence.take(turn, event)
     elif isinstance(event, Began):
         begin_again(turn)
         decided.take_folders(turn, event.folders)
@@ -128,7 +134,9 @@ def begin_again(turn: Turn) -> None:
     for channel, it in turn.renditions():
         turn.put_controller(channel, way=Way.UNKNOWN, sent=None, trials=0, retry_at=0.0, is_unseen=False)
         turn.put(channel, came_at=turn.at)
-    turn.set(asked=dict.fromkeys(turn.state.asked, turn.at), waits_until=0.0, in_step_since=None)
+    begun = decided.begun_of(turn, turn.state.asked)  # (the others are asked for again, unless they were answered)
+    turn.set(asked=dict.fromkeys(begun, turn.at), waits_until=0.0, in_step_since=None)
+    presence.begin_again(turn)
 
 
 # ---- a turn
@@ -200,17 +208,19 @@ def take_lists(turn: Turn) -> None:
     told = translate(turn, translator, found, busy) if turn.state.renditions[due[0]].settings.signals else []
     learn(turn, found)
     pass_over(turn, translator, found)
+    listed = listed_ids(turn) | {name for it in found.values() for name in ranges.ids_in(it.found().date_ranges())}
+    decided.give_files(turn, listed, False)
     if waits(turn, translator, found):
         for channel in found:
             turn.put(channel, is_new=True, older=older[channel])
         return
-    for line in told:
-        turn.tell("", line.who, 0, line.word, line.text, is_again=True)
-    listed = listed_ids(turn) | {name for it in found.values() for name in ranges.ids_in(it.found().date_ranges())}
-    decided.give_files(turn, listed, False)
+    place = len(turn.actions)
     if not any(it.stands.entry for _, it in turn.renditions()):
         decided.give_files(turn, listed, True)
+    slates.fill(turn, translator)
     enter(turn, translator, found)
+    if turn.state.translator is translator:  # (else the same lists say it again)
+        turn.actions[place:place] = [Tell("", line.who, 0, line.word, line.text, is_again=True) for line in told]
 
 
 def may_begin(turn: Turn) -> bool:
@@ -233,11 +243,17 @@ def may_begin(turn: Turn) -> bool:
 
 
 def is_in_step(turn: Turn) -> bool:
-    """Whether all renditions' newest lists have as many segments, and the same first media number or the same first instant."""
+    """Whether all renditions' newest lists have as many segments, and the same first media number or the same first instant. Those of renditions
+    whose segments aren't as long begin at instants that are less than a segment apart."""
     listed = [segments_of(it.came) if it.came is not None else [] for _, it in turn.renditions()]
-    if not all(listed) or len({len(it) for it in listed}) > 1:
+    if not all(listed):
         return False
     begins = [it[0].stated or 0 for it in listed]
+    paces = [pace_of(it) for it in listed]
+    if not is_alike(min(paces), max(paces)):
+        return not all(begins) or max(begins) - min(begins) < max(paces)
+    if len({len(it) for it in listed}) > 1:
+        return False
     return len({it[0].own for it in listed}) == 1 or (all(begins) and max(begins) - min(begins) < SECOND // 2)
 
 
@@ -290,6 +306,8 @@ def righted(turn: Turn, channel: str, found: dict[str, Taken]) -> Taken:
     repaired = repairer.take(text, turn.at, turn.clock)
     if not repairer.last and it.stands.viewed.end is not None:
         go_on_after(repaired, it.stands.viewed.end)
+    elif not repairer.last and (there := joining.viewed_there(turn, channel, repaired)) is not None:
+        joining.join(repaired, there)
     repairer.siblings = None
     return Taken(repairer, repaired, text, text is not body)
 
@@ -305,11 +323,15 @@ def go_on_after(repaired: Repaired, end: Numbers) -> None:
 
 def siblings_of(turn: Turn, channel: str, found: dict[str, Taken]) -> Siblings:
     """The other renditions, as the one of the `channel` sees them; of those that have no list yet the first ones, which were `found`."""
-    group = turn.state.renditions[channel].settings.group
-    segments = {name: it.stands.repairer.past[-MOST_REMEMBERED:] + it.stands.repairer.last or (found[name].found().segments if name in found else [])
-                for name, it in turn.renditions()}
-    return Siblings([Sibling(it.settings.base, segments[name], it.stands.repairer.held_since is not None, it.settings.group == group)
-                     for name, it in turn.renditions() if name != channel])
+    mine = turn.state.renditions[channel]
+    pace = pace_of(mine.stands.repairer.last or segments_of(mine.came or b""))
+    siblings = []
+    for name, it in turn.renditions():
+        segments = it.stands.repairer.past[-MOST_REMEMBERED:] + it.stands.repairer.last or (found[name].found().segments if name in found else [])
+        is_like = is_alike(pace, pace_of(segments))
+        if name != channel:
+            siblings.append(Sibling(it.settings.base, segments, it.stands.repairer.held_since is not None, is_like and it.settings.group == mine.settings.group, is_like))
+    return Siblings(siblings)
 
 
 def tell_why(turn: Turn, channel: str, repaired: Repaired) -> None:
@@ -334,12 +356,13 @@ def translate(turn: Turn, translator: Translator, found: dict[str, Taken], busy:
     lists = {channel: it.found() for channel, it in found.items() if it.found().segments}
     others = [(channel, it.found()) for channel, it in busy.items() if it.found().segments]
     told: list[Line] = []
+    numberings = numberings_of(turn, {**lists, **dict(others)})
     if len(lists) + len(others) > 1:
         for channel, it in (*others, *lists.items()):
-            told += translator.take(it, turn.state.renditions[channel].settings.rendition()).told
+            told += translator.take(it, turn.state.renditions[channel].settings.rendition(), numberings.get(channel)).told
     for channel, it in lists.items():
         rendition = turn.state.renditions[channel]
-        said = translator.take(it, rendition.settings.rendition())
+        said = translator.take(it, rendition.settings.rendition(), numberings.get(channel))
         told += said.told
         it.signals = said.ranges
         run = rendition.stands.viewed.reckoned.run if rendition.stands.viewed.reckoned is not None else None
@@ -347,6 +370,17 @@ def translate(turn: Turn, translator: Translator, found: dict[str, Taken], busy:
             found[channel].repaired.came = None
             found[channel].repaired.kinds["clock"] = ""
     return told
+
+
+def numberings_of(turn: Turn, lists: Mapping[str, PackagedList]) -> dict[str, Numbering]:
+    """The numberings of those channels of the programme whose segments aren't as long as those of the first one of the shortest. Their newest `lists` are
+    looked at beside what was listed before."""
+    if len(turn.state.renditions) == 1:
+        return {}
+    listed = {channel: lists[channel].segments if channel in lists else it.stands.repairer.last for channel, it in turn.renditions()}
+    paces = {channel: pace for channel, it in listed.items() if (pace := pace_of(it))}
+    shortest = next((channel for channel, it in paces.items() if is_alike(it, min(paces.values()))), "")
+    return {channel: numbering_of(listed[channel], listed[shortest]) for channel, it in paces.items() if not is_alike(it, paces[shortest])}
 
 
 def learn(turn: Turn, found: dict[str, Taken]) -> None:
@@ -362,8 +396,10 @@ def pass_over(turn: Turn, translator: Translator, found: dict[str, Taken]) -> No
         return
     lists = {channel: it.stands for channel, it in turn.renditions() if it.stands.repairer.last}
     reached = {channel: passed(it, found[channel].found() if channel in found else PackagedList()) for channel, it in lists.items()}
+    numberings = numberings_of(turn, {})
+    newest = {channel: numberings.get(channel, Numbering()).of(it.repairer.last[-1].number) for channel, it in lists.items()}
     for one in translator.breaks.known:
-        there = [channel for channel, it in lists.items() if one.clock is None or it.repairer.last[-1].number > one.clock]
+        there = [channel for channel, number in newest.items() if one.clock is None or number > one.clock]
         if any(one.id in it.pods.entered for it in lists.values()) or all(reached[channel] <= one.start for channel in there):
             continue
         for channel, it in turn.renditions():
@@ -381,29 +417,38 @@ def passed(stands: Standing, found: PackagedList) -> int:
 
 
 def waits(turn: Turn, translator: Translator, found: dict[str, Taken]) -> bool:
-    """Asks for the decisions of the breaks that became known. Whether the lists that were `found` wait for one."""
+    """Asks for the decisions of the breaks that became known. Whether the lists that were `found` wait for one, or for a look at its ads."""
     first = next(iter(turn.state.renditions.values())).settings
-    if not first.ask:
-        return False
-    known = translator.breaks.known
     end = max((end_of(it.found()) for it in found.values()), default=0)
-    target = max((it.found().target or 0 for it in found.values()), default=0) or round(turn.target())
-    new = [it for it in known if it.id not in turn.state.asked and not is_decided(turn, it.id)]
-    asked = {name: until for name, until in turn.state.asked.items() if any(it.id == name for it in known)}
-    asked |= {it.id: turn.at + min(first.hold, SHARE * target) for it in new}
-    turn.set(asked=asked)
-    if new:
-        turn.actions.append(Ask(tuple(new), target, end))
-    awaited = [asked[it.id] for it in known if it.start < end and turn.at < asked.get(it.id, 0.0) and not is_decided(turn, it.id) and not decided.begun_of(turn, [it.id])]
+    known = translator.breaks.known
+    awaited = presence.awaited(turn, known, end) if first.verify else []
+    if first.ask:
+        ask(turn, translator, found, end)
+        awaited += [turn.state.asked[it.id] for it in known if it.start < end and turn.at < turn.state.asked.get(it.id, 0.0)
+                    and not is_decided(turn, it.id) and not decided.begun_of(turn, [it.id])]
     if awaited:
         turn.set(waits_until=max(awaited))
     return bool(awaited)
 
 
+def ask(turn: Turn, translator: Translator, found: dict[str, Taken], end: int) -> None:
+    """Asks for the decisions of the breaks that became known by the lists that were `found`, which end at the instant `end`."""
+    first, known = next(iter(turn.state.renditions.values())).settings, translator.breaks.known
+    target = max((it.found().target or 0 for it in found.values()), default=0) or round(turn.target())
+    new = [it for it in known if it.id not in turn.state.asked and not is_decided(turn, it.id)]
+    asked = {name: until for name, until in turn.state.asked.items() if any(it.id == name for it in known)}
+    turn.set(asked=asked | {it.id: turn.at + min(first.hold, SHARE * target) for it in new})
+    if new:
+        listed = {name: found[name].found().segments if name in found else it.stands.repairer.last for name, it in turn.renditions()}
+        bare = frozenset(name for name, segments in listed.items() if segments and segments[-1].section is None)
+        turn.actions.append(Ask(tuple(new), target, end, {name: usual_length(it) for name, it in listed.items()}, bare))
+
+
 def is_decided(turn: Turn, name: str) -> bool:
-    """Whether there is a decision on the break `name` in all renditions."""
+    """Whether there is a decision on the break `name` in all renditions; those of subtitles need none of their own."""
     files = [it for it in turn.state.files.values() if name in it.ids and it.state in (FileState.NEW, FileState.GIVEN)]
-    return any(it.stamps.keys() >= turn.state.renditions.keys() for it in files) or all(name in it.stands.pods.held for _, it in turn.renditions())
+    needed = {channel for channel, it in turn.renditions() if not it.settings.empty_subtitles}
+    return any(it.stamps.keys() >= needed for it in files) or all(name in it.stands.pods.held for _, it in turn.renditions())
 
 
 def end_of(found: PackagedList) -> int:
@@ -474,6 +519,9 @@ def standing(before: Standing, it: Taken, text: bytes, entry: int, translator: T
     repairer, viewed, tolerance = it.repairer, before.viewed.copy(), translator.tolerance
     lines = it.found().date_ranges()
     last, listed = before.repairer.last, repairer.last
+    if it.repaired.joins:
+        viewed.begins = Growing(sorted(it.repaired.joins.items()))
+        viewed.learn(listed, lines)
     viewed.note(lines, listed[-1].number)
     viewed.forget((repairer.past or listed)[0].number)
     new = listed[max(0, len(listed) - (listed[-1].number - last[-1].number)):] if last and listed[-1].number >= last[-1].number else listed

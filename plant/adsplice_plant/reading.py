@@ -7,7 +7,8 @@ import time
 from collections.abc import Callable
 
 from .events import Event, ListRead, Note, OriginChanged
-from .origin import CUT_OFF, Origin, Read, origin_of, read_whole
+from .location import Location, Url
+from .origin import CUT_OFF, Origin, Read, WebOrigin, origin_of, read_whole
 from .origins import NAMES, Choice, Place, TwoOrigins
 from .pauses import Pauses
 from .settings import Settings
@@ -51,6 +52,8 @@ class Reading:
         self.is_well = True
         self.is_again = threading.Event()  # set if the list is to be read anew at once, though it hasn't changed
         self.has_ended = False
+        self.may_read = threading.Event()  # (on one of several machines the others' lists count while they lead)
+        self.may_read.set()
         self.origin: Origin = origin_of(settings.origin, new_client())
         if settings.second:
             second = origin_of(settings.second, new_client())
@@ -69,6 +72,12 @@ class Reading:
         self.noting.note(Note(name, "place", place + 1, text))
         self.telling.tell(name, "origins", 0, NAMES[place].capitalize(), text)
 
+    def move(self, place: Location) -> None:
+        """The list is read at another `place` from now on, of the same kind as before."""
+        if isinstance(place, Url) and isinstance(self.origin, WebOrigin):
+            self.origin.url = place.text
+            self.again()
+
     def again(self) -> None:
         """The list is read anew at once, though it hasn't changed."""
         self.is_again.set()
@@ -77,10 +86,13 @@ class Reading:
         """Nothing is read any more."""
         self.has_ended = True
         self.is_again.set()
+        self.may_read.set()
 
     def run(self, failed: Callable[[Exception], None]) -> None:
         """Reads until it is ended. `failed` is called with each fault that nobody foresaw, after which it is read again."""
         while not self.has_ended:
+            if not self.may_read.wait(SOON):
+                continue
             try:
                 pause = self.turn()
             except Exception as fault:  # noqa: BLE001  (another list may be without it)
@@ -94,7 +106,7 @@ class Reading:
         """One look; answers the seconds to the next one."""
         begun = time.monotonic()
         found = read_whole(self.origin, self.settings.unended, self.settings.line, self.settings.base)
-        if self.has_ended:
+        if self.has_ended or not self.may_read.is_set():
             return 0.0
         self.take(found)
         target = self.target() or self.stated

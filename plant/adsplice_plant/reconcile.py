@@ -5,10 +5,10 @@ import glob
 import json
 import re
 from collections import Counter
-from collections.abc import Iterator
+from collections.abc import Iterator, Sequence
 from dataclasses import dataclass, field
 from pathlib import Path
-from typing import Any
+from typing import Any, NamedTuple
 
 from . import judge
 from .as_run import lines_of
@@ -22,6 +22,14 @@ MOST = 64 << 20  # bytes of a log, from its end, that are read
 HOWS = ("whole", "part", "not")
 ROTATED = re.compile(r"[.-][0-9]{1,14}")  # the end of the name of a log that was rotated
 REFUSED = (409, 422)  # statuses of adsplice's refusals
+
+
+class Gap(NamedTuple):
+    """A time `since` an instant `until` another one, both as texts that sort as they come, of which a log has nothing, and `why`."""
+
+    since: str
+    until: str
+    why: str
 
 
 @dataclass
@@ -190,17 +198,32 @@ def refused_lines(name: str, files: list[Sold]) -> Iterator[str]:
             yield f"{name} ({it.file}): refused: {it.refused}"
 
 
-def report(folder: Path, log: Path, channels: list[str], kept: Path | None = None) -> tuple[list[str], bool]:
-    """A line for each break of the decision files in `folder`, by the as-run log `log`, of the `channels` alone if some are named; one for each file
-    that is refused, by the rules or by what the feed `kept`; one for each ad with an ID, and for each time that isn't recorded. And whether all was
-    shown whole. Raises Fault."""
-    if not log.exists():
-        raise Fault(f"{log}: there is no such as-run log")
-    its = [it for file in files_of(log) for it in lines_of(file, MOST) if not channels or it.get("channel", channels[0]) in channels]
+def in_all(gaps: list[list[Gap]]) -> list[Gap]:
+    """The times that are among the `gaps` of each log: what another machine recorded isn't missing."""
+    found = gaps[0] if gaps else []
+    for others in gaps[1:]:
+        found = [Gap(max(one.since, it.since), min(one.until, it.until), one.why) for one in found for it in others
+                 if max(one.since, it.since) < min(one.until, it.until)]
+    return found
+
+
+def gaps_of(lines: list[dict[str, Any]]) -> list[Gap]:
+    """The times that a log says aren't recorded, by its `lines`."""
+    return [Gap(str(it["gap"].get("from")), str(it["gap"].get("to")), str(it.get("why"))) for it in lines if isinstance(it.get("gap"), dict)]
+
+
+def report(folder: Path, logs: Sequence[Path], channels: list[str], kept: Path | None = None) -> tuple[list[str], bool]:
+    """A line for each break of the decision files in `folder`, by the as-run `logs`, one of each machine, of the `channels` alone if some are named; one for
+    each file that is refused, by the rules or by what the feed `kept`; one for each ad with an ID, and for each time that no log has recorded. And whether all
+    was shown whole. A break that several logs have counts once. Raises Fault."""
+    for it in logs:
+        if not it.exists():
+            raise Fault(f"{it}: there is no such as-run log")
+    all_lines = [[it for file in files_of(log) for it in lines_of(file, MOST) if not channels or it.get("channel", channels[0]) in channels] for log in logs]
     by_name: dict[str, list[dict[str, Any]]] = {}
-    for it in its:
-        if isinstance(it.get("id"), str):
-            by_name.setdefault(it["id"], []).append(it)
+    for line in (line for lines in all_lines for line in lines):
+        if isinstance(line.get("id"), str):
+            by_name.setdefault(line["id"], []).append(line)
     found, tally = [], Tally()
     for name, files in sold_in(folder, refusals_in(kept, channels)).items():
         shown = best_of(files, by_name.get(name, []))
@@ -208,8 +231,7 @@ def report(folder: Path, log: Path, channels: list[str], kept: Path | None = Non
         found.append(f"{name} ({shown.sold.file}): {shown.text}")
         found += refused_lines(name, files)
     found += tally.lines()
-    gaps = [it for it in its if isinstance(it.get("gap"), dict)]
-    found += [f"from {it['gap'].get('from')} to {it['gap'].get('to')} not recorded: {it.get('why')}" for it in gaps]
+    found += [f"from {it.since} to {it.until} not recorded: {it.why}" for it in in_all([gaps_of(it) for it in all_lines])]
     counts = tally.hows
     found.append(f"{counts.total()} sold: {counts['whole']} shown whole, {counts['part']} in part, {counts['not']} not; {seconds_text(tally.sold)} s sold, "
                  f"{seconds_text(tally.shown)} s shown")

@@ -75,7 +75,8 @@ class Repaired:
     """A list to be pushed: as data (`found`), and as it came, if nothing was wrong (`came`). `kinds` are the repairs with what is told
     of each. It is none of these if `why` says why nothing is pushed; `waits` if the same list may be taken later. `steps` are the
     discontinuities that were added for other renditions; `front` segments stay in front of the packager's own, by the `lead`. The next
-    list may go on from what is `accepted`, if this one is."""
+    list may go on from what is `accepted`, if this one is. `joins`: the numbers that viewers have in other renditions at its segments, by
+    its media numbers, if it is the first list of one that comes later than the others."""
 
     found: PackagedList | None = None
     head: Head | None = None
@@ -87,6 +88,7 @@ class Repaired:
     lead: Lead | None = None
     front: int = 0
     accepted: Accepted | None = None
+    joins: dict[int, tuple[int, int]] = field(default_factory=dict)
 
     def body(self) -> bytes:
         """The text to push."""
@@ -247,7 +249,7 @@ class Repairer:
         first = found.segments[0]
         theirs = self.siblings.place_at(first.begins) if self.siblings is not None else None
         if theirs is not None:
-            media, steps = theirs[0] - first.number, theirs[1] - first.discontinuity
+            media, steps = 0 if theirs[0] is None else theirs[0] - first.number, theirs[1] - first.discontinuity
             for it in found.segments:
                 it.number, it.discontinuity = it.number + media, it.discontinuity + steps
 

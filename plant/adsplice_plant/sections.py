@@ -5,12 +5,15 @@ import random
 import threading
 import time
 from collections.abc import Callable, Mapping
+from pathlib import Path
 from typing import NamedTuple
 
 from . import settings as told
 from .fed import Fed, Limits
 from .locks import Lock, Taken, take_all
-from .masters import Programme
+from .location import Location
+from .machines import Machines
+from .masters import Feeds, Programme
 from .settings import Settings
 from .shell import Feeding, store_of
 from .telling import Say
@@ -41,12 +44,17 @@ def difference(fed: Mapping[str, list[Settings]], wanted: Mapping[str, list[Sett
                       [it for it in fed if it not in wanted and it not in wrong], [it for it in fed if it in wrong or wanted.get(it) == fed[it]])
 
 
+def lock_of(it: Settings) -> Path | None:
+    """The file of the lock of the channel `it`; one without `keep` has none."""
+    return it.keep / f"{it.name}.lock" if it.keep is not None else None
+
+
 class Section:
     """What is fed by `settings`: one channel, the renditions of a programme, or those that its master playlist names. `say` prints a line, and
-    `known` are the channels that are fed, by their names."""
+    `known` are the channels that are fed, by their names. `stores`: answers the machines of a store."""
 
-    def __init__(self, settings: list[Settings], limits: Limits, say: Say, known: dict[str, Fed]) -> None:
-        self.settings, self.limits, self.say, self.known = settings, limits, say, known
+    def __init__(self, settings: list[Settings], limits: Limits, say: Say, known: dict[str, Fed], stores: Callable[[Settings], Machines | None]) -> None:
+        self.settings, self.limits, self.say, self.known, self.stores = settings, limits, say, known, stores
         self.name = settings[0].programme or settings[0].name
         self.ending, self.guard = threading.Event(), threading.Lock()
         self.threads: list[threading.Thread] = []
@@ -60,7 +68,8 @@ class Section:
         if first.master is None:
             self.feed(self.settings, spread)
             return
-        master = Programme(first, Client(self.limits.timeout, first.redirects, first.reach()), self.say, lambda channels: self.feed(channels, 0))
+        feeds = Feeds(lambda channels: self.feed(channels, 0), self.change, self.move)
+        master = Programme(first, Client(self.limits.timeout, first.redirects, first.reach()), self.say, feeds)
         self.go(master.run, self.ending, self.limits.longest_pause)
 
     def go(self, does: Callable[..., None], *what: object) -> None:
@@ -85,7 +94,7 @@ class Section:
             try:
                 for it in channels:
                     told.make_folder(it)
-                self.feeding = Feeding(channels, self.limits, self.say, store_of(channels))
+                self.feeding = Feeding(channels, self.limits, self.say, store_of(channels), machines=self.stores(channels[0]))
             except (Fault, OSError) as fault:
                 self.release()
                 raise fault if isinstance(fault, Fault) else Fault(f"channel {channels[0].name}: {fault.filename}: {fault.strerror}") from None
@@ -93,11 +102,49 @@ class Section:
             self.feeding.start(random.uniform(0, max(0.0, spread)))
         return ""
 
+    # ---- other renditions
+
+    def change(self, channels: list[Settings]) -> None:
+        """Feeds the `channels` of a programme in place of those that it had: those that are in both go on from where they stand. Raises Fault if another
+        feed has a new one, if a folder can't be made, or if several machines have the programme; then all is as it was."""
+        with self.guard:
+            old, held = self.feeding, {it.path for it in self.locks}
+            if self.ending.is_set() or old is None:
+                raise Fault("it isn't fed")
+            if channels[0].store is not None:
+                raise Fault("several machines have the programme: start their feeds anew to feed other renditions")
+            for it in channels:
+                told.make_folder(it)
+            try:
+                new = take_all(path for path in map(lock_of, channels) if path is not None and path not in held)
+            except (Taken, OSError) as fault:
+                raise Fault(str(fault)) from None
+            old.end()
+            old.join(time.monotonic() + 2 * self.limits.timeout)
+            self.feeding = Feeding(channels, self.limits, self.say, store_of(channels), known=old.state)
+            wanted = {lock_of(it) for it in channels}
+            for lock in [lock for lock in self.locks if lock.path not in wanted]:
+                self.locks.remove(lock)
+                lock.release()
+            self.locks += new
+            for name in old.channels.keys() - self.feeding.channels.keys():
+                self.known.pop(name, None)
+            self.known.update(self.feeding.channels)
+            self.feeding.start()
+
+    def move(self, channel: str, place: Location) -> None:
+        """Has the list of the `channel` read at another `place` from now on."""
+        with self.guard:
+            if self.feeding is not None:
+                self.feeding.channels[channel].reading.move(place)
+
+    # ---- locks
+
     def lock(self, channels: list[Settings]) -> str:
         """Takes the locks of the `channels`; who has one of them if another feed does. One without `keep` has no lock, and where the disk refuses it
         is told that there is none."""
         try:
-            self.locks = take_all(it.keep / f"{it.name}.lock" for it in channels if it.keep is not None)
+            self.locks = take_all(path for path in map(lock_of, channels) if path is not None)
         except Taken as fault:
             return str(fault)
         except OSError as fault:

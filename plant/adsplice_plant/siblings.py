@@ -6,27 +6,30 @@ from dataclasses import replace
 from typing import NamedTuple
 
 from . import packaged, playlist
+from .breaks import Numbering
 from .packaged import InitSection, Key, PackagedSegment
 
 FAR = 10  # segments after a list's end at which it may come next
 NEAR = 30  # segments by which the ends of two lists may be apart that are of one clock
 MOST_BORROWED = 100  # segments that a rendition takes from another one at a time
+MOST_MEASURED = 8  # newest segments by which it is seen how long a rendition's are
 
 
 class Sibling(NamedTuple):
     """A rendition: the `base` of its references, the `segments` that it has listed, the oldest first, whether a list of it that doesn't go
-    on is held back (`is_held`), and whether it `lends` segments, being of the same kind: pictures have no use for sound alone."""
+    on is held back (`is_held`), and whether it `lends` segments, being of the same kind: pictures have no use for sound alone. `is_alike`: its
+    segments are as long, so that its media numbers are those of the one that sees it."""
 
     base: str
     segments: list[PackagedSegment]
     is_held: bool = False
     lends: bool = True
+    is_alike: bool = True
 
     def newest(self) -> list[PackagedSegment]:
         """The segments since its packager's clock went back last: those before have the same instants."""
         begins = [it.begins or 0 for it in self.segments]
         return self.segments[next((place for place in range(len(begins) - 1, 0, -1) if begins[place] < begins[place - 1]), 0):]
-
 
     def has(self, other: PackagedSegment) -> bool:
         """Whether it has a segment with the media number of the `other` rendition's that begins when that does, or nearly."""
@@ -70,23 +73,25 @@ class Siblings:
         """The instants at which segments begin, by their media numbers; of two renditions' the one's that was there first."""
         found: dict[int, int] = {}
         for one in self.found:
-            found = {it.number: it.begins for it in one.segments if it.begins is not None} | found
+            found = {it.number: it.begins for it in one.segments if it.begins is not None and one.is_alike} | found
         return found
 
-    def place_at(self, instant: int | None) -> tuple[int, int] | None:
+    def place_at(self, instant: int | None) -> tuple[int | None, int] | None:
         """Another rendition's media number and discontinuity number at `instant`, by the segment that begins nearest to it. Past its last segment the
-        next ones are as long as that; none if it is so far away that the two have other clocks."""
-        known = [(abs(it.begins - instant), place == 0, it) for one in self.found for place, it in enumerate(reversed(one.newest()))
+        next ones are as long as that; none if it is so far away that the two have other clocks. One whose segments are as long is asked first;
+        of another one the media number says nothing (none)."""
+        known = [(not one.is_alike, abs(it.begins - instant), place == 0, it) for one in self.found for place, it in enumerate(reversed(one.newest()))
                  if it.begins is not None and instant is not None]
         if not known or instant is None:
             return None
-        _, is_last, it = min(known, key=lambda one: one[0])
+        is_other, _, is_last, it = min(known, key=lambda one: one[:2])
         more = max(0, (instant - (it.begins or 0) + it.duration // 2) // it.duration) if is_last and it.duration else 0
-        return (it.number + more, it.discontinuity) if more <= FAR else None
+        return (None if is_other else it.number + more, it.discontinuity) if more <= FAR else None
 
     def is_awaited(self, instant: int | None, duration: int) -> bool:
         """Whether a rendition that goes on hasn't come to the segment that begins at `instant`, of `duration` nanoseconds."""
-        ends = [(it.begins or 0) + it.duration for one in self.found if not one.is_held for it in one.segments[-1:] if it.begins is not None]
+        ends = [(it.begins or 0) + it.duration + (0 if one.is_alike else max(0, it.duration - duration))
+                for one in self.found if not one.is_held for it in one.segments[-1:] if it.begins is not None]
         return instant is not None and any(end < instant - duration // 2 for end in ends)
 
     def between(self, start: int, end: int) -> list[PackagedSegment]:
@@ -98,12 +103,36 @@ class Siblings:
         """The segments of one of them after the one that is the `last` one of a rendition, up to the instant `first` by a clock that has gone back
         since: of the one that has most of them. A rendition has them by its numbers, if it has the same number at the same instant."""
         place = self.place_at(first)
-        return self.most([[it for it in one.segments if place is not None and last.number < it.number < place[0]] if one.has(last) else [] for one in self.found])
+        number = place[0] if place is not None and place[0] is not None else last.number
+        return self.most([[it for it in one.segments if last.number < it.number < number] if one.has(last) else [] for one in self.found])
 
     def most(self, found: list[list[PackagedSegment]]) -> list[PackagedSegment]:
         """Of the segments that were `found` of each rendition those of the one that lends most of them; none if they are more than MOST_BORROWED."""
         there, base = max(((segments, one.base) for segments, one in zip(found, self.found) if one.lends), key=lambda it: len(it[0]), default=([], ""))
         return [moved(it, base) for it in there] if len(there) <= MOST_BORROWED else []
+
+
+def pace_of(segments: list[PackagedSegment]) -> int:
+    """How long the newest of the `segments` are in the mean, in nanoseconds; 0 if there are none."""
+    newest = segments[-MOST_MEASURED:]
+    return sum(it.duration for it in newest) // len(newest) if newest else 0
+
+
+def is_alike(pace: int, other: int) -> bool:
+    """Whether renditions whose segments have these mean durations are cut alike: neither's are half as long again as the other's. One of which
+    nothing is known (0) is taken for such."""
+    return not pace or not other or 2 * max(pace, other) < 3 * min(pace, other)
+
+
+def numbering_of(mine: list[PackagedSegment], theirs: list[PackagedSegment]) -> Numbering:
+    """Which of `their` media numbers the segments that are `mine` have, of which the lists have come about as far: by the newest one that
+    begins within half a segment of one of theirs, by the same clock; if there is none, by the ends of the lists."""
+    pace, other = max(1, pace_of(theirs)), max(1, pace_of(mine))
+    for it in reversed(mine[-NEAR:]):
+        for one in reversed(theirs[-NEAR:]):
+            if it.begins is not None and one.begins is not None and abs(it.begins - one.begins) <= pace // 2:
+                return Numbering(it.number, one.number, other, pace)
+    return Numbering(mine[-1].number, theirs[-1].number, other, pace) if mine and theirs else Numbering()
 
 
 def middle_of(it: PackagedSegment) -> int:

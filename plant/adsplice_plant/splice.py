@@ -60,13 +60,16 @@ class Kind(IntEnum):
 class Message:
     """What a section says at one place: its `kind`; the `type` of the span that it begins, ends or speaks of (none for a
     splice_insert, and for a cancelled descriptor, which doesn't say); the `event`; the `duration` in nanoseconds, if it states
-    one that isn't 0; the segmentation_upid in hexadecimal digits."""
+    one that isn't 0; the segmentation_upid in hexadecimal digits; and which one it is (`part`) of how many (`parts`), as avail_num and
+    avails_expected, or segment_num and segments_expected say it: 0 if they don't."""
 
     kind: Kind
     type: int | None
     event: int
     duration: int | None = None
     upid: str = ""
+    part: int = 0
+    parts: int = 0
 
     def name(self) -> str:
         """The name of what it says, by the standard."""
@@ -170,7 +173,7 @@ def message_of_insert(insert: Insert) -> Message:
     if insert.out_of_network is None:
         return Message(Kind.CANCEL, None, insert.event)
     duration = ticks_nanos(insert.ticks) if insert.ticks else None
-    return Message(Kind.BEGIN if insert.out_of_network else Kind.END, None, insert.event, duration if insert.out_of_network else None)
+    return Message(Kind.BEGIN if insert.out_of_network else Kind.END, None, insert.event, duration if insert.out_of_network else None, "", insert.avail, insert.avails)
 
 
 def descriptor_messages(loop: bytes) -> list[Message]:
@@ -201,9 +204,9 @@ def segmentation(bits: Bits) -> Message:
     duration = ticks_nanos(bits.take(40)) if has_duration else 0
     bits.take(8)
     upid = b"".join(bytes([bits.take(8)]) for _ in range(bits.take(8))).hex().upper()
-    type_, _ = bits.take(8), bits.take(16)
+    type_, part, parts = bits.take(8), bits.take(8), bits.take(8)
     if type_ in SPANS:
-        return Message(Kind.BEGIN, type_, event, duration or None, upid)
+        return Message(Kind.BEGIN, type_, event, duration or None, upid, part, parts)
     return Message(Kind.END, type_ - 1, event, None, upid) if type_ - 1 in SPANS else Message(Kind.OTHER, type_, event, None, upid)
 
 

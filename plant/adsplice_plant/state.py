@@ -8,7 +8,7 @@ from __future__ import annotations
 
 import urllib.parse
 from collections.abc import Mapping
-from dataclasses import dataclass, field
+from dataclasses import dataclass, field, replace
 from enum import Enum
 from typing import NamedTuple
 
@@ -26,6 +26,7 @@ class Way(Enum):
     """How far a controller is on the way to what the programme's log has."""
 
     UNKNOWN = "unknown"  # whether it has the channel isn't known
+    OTHER = "other"  # it has the channel with a list that isn't known, or not that of the log: it is to be deleted
     MADE = "made"  # it has the channel; whether that has a list isn't known
     THERE = "there"  # it has the channel, and what it acknowledged
 
@@ -39,7 +40,8 @@ class Controller:
     `anew`: the number of the newest entry when it had no list; of the decisions up to there it is given those that still say something.
     `led`: the number of the newest entry of which it has what comes ahead of the list. `sent`: the request that it hasn't answered; `trials`:
     how often it didn't, in a row; `retry_at`: when it is tried again; `unfit`: how many lists in a row it refused since they don't go on after the
-    last one; `is_unseen`: whether its written playlist is to be looked at."""
+    last one; `is_unseen`: whether its written playlist is to be looked at. Of a log that several machines have: the number of the newest entry whose list it
+    `refused`, and when it was deleted last since it wasn't as the log says (`dropped_at`)."""
 
     way: Way = Way.UNKNOWN
     decided: int = 0
@@ -55,6 +57,8 @@ class Controller:
     retry_at: float = 0.0
     unfit: int = 0
     is_unseen: bool = False
+    refused: int = 0
+    dropped_at: float = float("-inf")
 
 
 @dataclass(frozen=True)
@@ -89,6 +93,7 @@ class Rendition:
     is_new: bool = False
     controller: Controller = Controller()
     fallback: bytes | None = None  # the fallback file's bytes
+    slate: bytes | None = None  # the slate file's bytes, which fill pods up
     listed: frozenset[str] | None = None  # the IDs of the date ranges of its newest list
     seen_at: float = float("-inf")
     is_blocked: bool = False  # whether its newest list has other initialisation sections than the channel: only a new channel takes it
@@ -108,7 +113,8 @@ class FileState(Enum):
 class File:
     """The decision that the renditions have in files of one name: each channel's stamp and bytes, its `kind` (breaks, withdraw, fallback; empty
     if it doesn't say) and the IDs of its breaks. `listed` are those of them that were seen in a list, and `late` those that had begun when they
-    were decided. `since`: when the first rendition had it; `entry`: of the log, by which it was given."""
+    were decided. `since`: when the first rendition had it; `entry`: of the log, by which it was given. `looked_at`: when a look at its ads was begun, if
+    one was; `is_there`: whether they are there by that."""
 
     stamps: Mapping[str, Stamp]
     bodies: Mapping[str, bytes]
@@ -119,6 +125,8 @@ class File:
     late: frozenset[str] = frozenset()
     since: float = 0.0
     entry: int = 0
+    looked_at: float | None = None
+    is_there: bool = False
 
 
 class Telling(NamedTuple):
@@ -178,6 +186,8 @@ class State:
     in_step_since: float | None = None  # since when the first lists wait for one another
     equal_after: int = -1  # the media number up to which discontinuities were added so that the renditions' numbers are equal
     is_apart: frozenset[str] = frozenset()  # the channels whose numbers aren't those of the others
+    life: str = ""  # of a log that several machines have: another one is another log. Empty for a log of one machine
+    is_behind: bool = False  # whether that log has more: a channel without a list waits for it
 
 
 def query_of(settings: Settings) -> str:
@@ -192,3 +202,9 @@ def begin(settings: list[Settings], tolerance: int, longest_pause: float = 5.0) 
     choices = {it.name: Choices(it.target, it.endless, it.times, query_of(it)) for it in settings}
     renditions = {it.name: Rendition(it, Standing(Repairer(choices[it.name]))) for it in settings}
     return State(first.programme or first.name, renditions, Translator(first.types, first.nearest, tolerance), longest_pause=longest_pause)
+
+
+def with_renditions(known: State, fresh: State) -> State:
+    """The state `known` with the renditions and settings of the `fresh` one: those that it has go on, and of others nothing is known."""
+    renditions = {name: replace(known.renditions[name], settings=it.settings) if name in known.renditions else it for name, it in fresh.renditions.items()}
+    return replace(known, renditions=renditions, longest_pause=fresh.longest_pause, is_apart=known.is_apart & renditions.keys())

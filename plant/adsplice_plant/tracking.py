@@ -17,13 +17,13 @@ from pathlib import Path
 from typing import Any
 
 from . import macros, playlist
-from .ad_server import shown
 from .asking import file_name
 from .filling import Pod
 from .journal import append
 from .outside import Outside
 from .playlist import SECOND, seconds_text
 from .whole_files import write_aside
+from .words import shown
 
 CALL = 10.0  # seconds for a call
 LOOK = 2.0  # seconds between two looks at the log

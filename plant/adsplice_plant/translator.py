@@ -8,7 +8,7 @@ from dataclasses import dataclass, field
 from typing import Any, NamedTuple
 
 from . import packaged, signals, splice
-from .breaks import AUTO, STALE, TOLERANCE, Break, Breaks, Line, Order, Placed, Timeline
+from .breaks import AUTO, STALE, TOLERANCE, Break, Breaks, Line, Numbering, Order, Placed, Timeline
 from .date_ranges import STATED, DateRange, RangeReader, is_leaving, is_same, ranges_of
 from .packaged import DATE_RANGE, PackagedList
 from .playlist import instant_text, seconds_text
@@ -71,8 +71,8 @@ class Translator:
 
     # ---- what a list says
 
-    def take(self, found: PackagedList, rendition: str = "", moved: int = 0) -> Translated:
-        """Looks at the list `found` of a `rendition`, which has `moved` its media numbers, and answers what it becomes."""
+    def take(self, found: PackagedList, rendition: str = "", numbering: Numbering | None = None) -> Translated:
+        """Looks at the list `found` of a `rendition`, whose media numbers have this `numbering` in its programme, and answers what it becomes."""
         if not found.segments:
             return Translated()
         ranges, fresh = ranges_of(found), self.first_new(found, rendition)
@@ -80,7 +80,7 @@ class Translator:
         self.look_for_styles(found, ranges, fresh, instants is None)
         if instants is None:
             return Translated(None, self.tellings())
-        line, before = Timeline(found.segments, instants, self.aligns, moved), {it.id for it in self.breaks.known}
+        line, before = Timeline(found.segments, instants, self.aligns, numbering), {it.id for it in self.breaks.known}
         self.restate(ranges, line, fresh, rendition)
         self.count(self.of_segments(found, fresh) + self.of_ranges(ranges, line, fresh, rendition), line)
         self.breaks.settle(line)

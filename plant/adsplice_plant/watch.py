@@ -43,6 +43,7 @@ class Watch:
     judged: tuple[float, float] | None = None  # the time of day, and that of the monotonic clock, at which it is judged; none is now
     told: dict[str, str] = field(default_factory=dict)  # the word of `why` of each break
     words: Counter[str] = field(default_factory=Counter)
+    is_gone: bool = False  # whether its channel isn't watched any more
 
     @property
     def body(self) -> bytes:

@@ -18,7 +18,7 @@ import ssl
 import threading
 import time
 import urllib.request
-from collections.abc import Callable, Mapping
+from collections.abc import Callable, Iterator, Mapping
 from dataclasses import dataclass, field
 from typing import Any
 
@@ -56,10 +56,11 @@ class Answer:
 
 
 class Bounds:
-    """What is left of the time and of the bytes of an answer, which may take `limit` seconds from now on."""
+    """What is left of the time and of the bytes of an answer, which may take `limit` seconds from now on, and have `most` bytes. `is_head_enough`: its body
+    isn't read."""
 
-    def __init__(self, limit: float) -> None:
-        self.until, self.left = time.monotonic() + limit, 2 * MAX_BYTES + MAX_HEAD
+    def __init__(self, limit: float, most: int = MAX_BYTES, is_head_enough: bool = False) -> None:
+        self.until, self.left, self.is_head_enough = time.monotonic() + limit, 2 * most + MAX_HEAD, is_head_enough
         self.has_begun = False  # whether the head of the answer has come
 
     def time(self) -> float:
@@ -262,9 +263,12 @@ class Client:
         self.limit, self.redirects, self.reach, self.lock = limit, redirects, reach or Reach(), threading.Lock()
         self.idle: dict[tuple[str, bytes, int | None, str | None], list[Connection]] = {}  # by scheme, host and port, and the proxy
 
-    def ask(self, method: str, url: str, body: bytes | None = None, fields: Mapping[str, str] | None = None) -> Answer:
-        """The answer to a request of `method` for `url`, with the bytes `body` and the header fields `fields`."""
-        bounds = Bounds(self.limit)
+    def ask(self, method: str, url: str, body: bytes | None = None, fields: Mapping[str, str] | None = None, limit: float | None = None,
+            is_head_enough: bool = False) -> Answer:
+        """The answer to a request of `method` for `url`, with the bytes `body` and the header fields `fields`; within `limit` seconds, if that is named. If
+        its head is enough, nothing after that is read."""
+        limit = self.limit if limit is None else limit
+        bounds = Bounds(limit, is_head_enough=is_head_enough)
         try:
             first = at = url_of(url)
             for _ in range(MOST_REDIRECTS):
@@ -277,9 +281,28 @@ class Client:
                     return Answer(0, why=words.plain(f"a redirect to {at.scheme[:10]}://{at.host[:100]} isn't followed: {why}"))
             return Answer(0, why=f"more than {MOST_REDIRECTS} redirects")
         except TimeoutError:
-            return Answer(0, why=f"no {'whole ' if bounds.has_begun else ''}answer within {self.limit:g} s")
+            return Answer(0, why=f"no {'whole ' if bounds.has_begun else ''}answer within {limit:.3g} s")
         except (http.client.HTTPException, OSError, ValueError) as fault:
             return Answer(0, why=why_of(fault))
+
+    def lines(self, url: str, body: bytes, fields: Mapping[str, str], silence: float, most: int) -> Iterator[bytes]:
+        """The lines of the answer to a POST of the bytes `body` to `url`, with the header fields `fields`, as they come: each within `silence` seconds of
+        the one before, and of at most so many bytes. Ends with the answer; raises OSError, HTTPException or ValueError."""
+        at = url_of(url)
+        it = Connection(at, proxy_for(at), Bounds(silence), self.reach.judge(at.host, (at.host,)))
+        try:
+            send(it, "POST", at, body, fields)
+            wire = it.sock
+            with it.getresponse() as reply:
+                if reply.status != 200:
+                    raise http.client.HTTPException(f"it answers {reply.status}")
+                while line := reply.readline(most + 1):
+                    if len(line) > most:
+                        raise OSError(f"a line of more than {most} bytes")
+                    yield line
+                    wire.bounds = Bounds(silence, most)
+        finally:
+            it.close()
 
     def once(self, method: str, url: httpx.URL, body: bytes | None, fields: Mapping[str, str], bounds: Bounds, named: str) -> Answer:
         """The answer to one request, within `bounds`, that began at the host `named`; raises HTTPException, OSError or ValueError."""
@@ -347,6 +370,8 @@ def read(reply: http.client.HTTPResponse, url: httpx.URL, bounds: Bounds) -> Ans
         raise http.client.HTTPException("Content-Length isn't one number")
     if said.get("content-encoding", "identity").strip().lower() not in ("", "identity"):
         return Answer(0, why=CODED)
+    if bounds.is_head_enough and not reply.isclosed():
+        return Answer(reply.status, b"", said, url=str(url))
     held, pieces = bytearray(), 0
     while piece := reply.read1(PIECE):
         held += piece

@@ -14,6 +14,7 @@ from typing import NoReturn
 
 FAULT, WRONG_WORDS = 1, 2  # exit statuses
 OUT, ERROR = 1, 2  # descriptors of standard output and standard error
+LONGEST_SHOWN = 120  # characters of a URL in a line
 NEEDED = {"origin", "adsplice", "fallback"}  # who of a feed's lines has no status only if it isn't there
 USUAL = {"Asked", "First", "Begins", "Ends", "Removed", "Over"}  # words in place of a fault that tell of nothing wrong
 NOTED = {"Repaired", "Held", "Lags", "Ignored", "Cancelled", "Moved"}  # and of what the feed mends by itself
@@ -40,11 +41,11 @@ def web_address(text: str) -> str:
     """The http or https URL `text`, without a slash at its end."""
     parts = urllib.parse.urlsplit(text)
     if parts.scheme not in ("http", "https") or not parts.hostname:
-        raise argparse.ArgumentTypeError(f"{text!r} isn't a URL that begins with http:// or https://")
+        raise argparse.ArgumentTypeError(f"{shown(text)!r} isn't a URL that begins with http:// or https://")
     try:
         parts.port  # noqa: B018  (it is read, and judged, when it is asked for)
     except ValueError:
-        raise argparse.ArgumentTypeError(f"{text!r}: its port isn't one from 0 to 65535") from None
+        raise argparse.ArgumentTypeError(f"{shown(text)!r}: its port isn't one from 0 to 65535") from None
     return text.rstrip("/")
 
 
@@ -52,6 +53,14 @@ def without_user(url: str) -> str:
     """The web address `url` without `user:password@`: what viewers, logs and pages may have of it."""
     parts = urllib.parse.urlsplit(url)
     return urllib.parse.urlunsplit(parts._replace(netloc=parts.netloc.rpartition("@")[2]))
+
+
+def shown(url: str) -> str:
+    """The `url` as a line has it: without a user, and without what comes behind its path. Both may have secrets."""
+    try:
+        return without_user(url).partition("?")[0].partition("#")[0][:LONGEST_SHOWN]
+    except ValueError:
+        return "what isn't a URL"
 
 
 def seconds(text: str) -> float:

@@ -14,12 +14,14 @@ INSERT = 5  # splice_insert's splice_command_type
 @dataclass(frozen=True)
 class Insert:
     """9.7.3: what a splice_insert says of a break: whether it leaves the network (None if it is cancelled), and its
-    break_duration's ticks. Its event and whether it is immediate mean nothing to adsplice."""
+    break_duration's ticks. Its event, whether it is immediate, avail_num and avails_expected mean nothing to adsplice."""
 
     out_of_network: bool | None = None
     ticks: int | None = None
     event: int = 0
     is_immediate: bool = False
+    avail: int = 0
+    avails: int = 0
 
 
 @dataclass(frozen=True)
@@ -76,8 +78,8 @@ def splice_insert(bits: Bits) -> Insert:
         if not immediate:
             splice_time(bits)
     ticks = break_duration(bits) if has_duration else None
-    bits.take(32)
-    return Insert(out == 1, ticks, event, immediate == 1)
+    bits.take(16)
+    return Insert(out == 1, ticks, event, immediate == 1, bits.take(8), bits.take(8))
 
 
 def command_at(given: bytes, length: int, kind: int) -> tuple[Insert | None, bytes]:

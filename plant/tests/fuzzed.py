@@ -311,6 +311,7 @@ class Folders(Tried):
             it.finish(name)
         asker = asking.Asker("news", "folder", 1.0, None, {"": self.room}, lambda *said: None, lambda name: False, lambda name: None, lambda name: None)
         asker.ask(Ask((Break("b9", 10**9, 1, "splice_insert"),), 2, 0))
+        asker.end()
         it.look()
         owed({path: path.lstat().st_mtime_ns for path in self.room.parent.iterdir() if path != self.room} == before, "something elsewhere was touched")
         owed(all(words.plain(line).isprintable() for line in told), "a line")

@@ -63,6 +63,26 @@ def test_commands_elsewhere_on_the_page_have_right_words(room):
     assert [it.name for it in example.sections] == ["news", "sport"] and example.sections[1].prefetch == 120.0
 
 
+def test_each_command_of_the_pages_has_words_that_its_program_knows(room):
+    """The commands that aren't run, since their files and hosts are examples, are read by the programs."""
+    import importlib
+    import shlex
+    count = 0
+    for page in ("ADS.md", "DECISION_FILES.md", "OPERATING.md", "SIGNALS.md", "PACKAGERS.md"):
+        for line in Path(f"{ROOT}/docs/{page}").read_text(encoding="utf-8").split("\n"):
+            found = re.fullmatch(r" {4}(?:plant/|\S*/)?adsplice-(pod|condition|decide|monitor|explain) (.*)", line)
+            if not found or line.endswith("\\"):
+                continue
+            words = shlex.split(re.split(r" [<>|&#]", found[2])[0], comments=True)
+            module = importlib.import_module(f"adsplice_plant.{found[1]}")
+            try:
+                module.read_words(words)
+            except SystemExit as fault:
+                raise AssertionError((page, line)) from fault
+            count += 1
+    assert count > 15, count
+
+
 class Origin(Files):
     """A programme that was made, whose live lists are given by hand: `/NAME/index.m3u8`."""
 

@@ -21,15 +21,15 @@ STEPS = 60  # lists of 2 s
 class Plant:
     """A channel by the rules, its feed's journal, and a monitor that may end; what was written as ads, by its media number."""
 
-    def __init__(self, room, rng):
-        self.folder, self.rng, self.ads = Path(room.path), rng, {}
-        self.journal = Journal(self.folder / "news.events", lambda: [])
+    def __init__(self, room, rng, name="news"):
+        self.folder, self.rng, self.ads, self.name = Path(room.path), rng, {}, name
+        self.journal = Journal(self.folder / f"{name}.events", lambda: [])
         self.channel = Channel(base_of("http://origin.example/ch/index.m3u8"))
         self.begin_monitor()
 
     def begin_monitor(self):
         """A monitor begins, after another one may have ended at any moment."""
-        self.kept, self.run = Kept(self.folder / "news.events"), as_run.AsRun("news", as_run.Log(self.folder / "as-run.jsonl"))
+        self.kept, self.run = Kept(self.folder / f"{self.name}.events"), as_run.AsRun(self.name, as_run.Log(self.folder / "as-run.jsonl"))
 
     def give(self, what, text):
         """The feed gives the channel a list or a decision."""
@@ -170,6 +170,25 @@ def test_an_ad_of_which_a_part_was_seen_and_a_pod_that_was_sold_but_not_shown(ro
     assert {name: it / playlist.SECOND for name, it in plant.run.lengths.items()} == {"own": 4, "none": 0, "sold": 26}, plant.run.lengths
 
 
+def test_each_rendition_has_a_line_with_what_it_showed_of_each_ad(room):
+    from adsplice_plant import reconcile
+    plants = [Plant(room, None, name) for name in ("news-1", "news-2")]
+    pod = json.dumps({"breaks": [{"id": "b1", "ads": ads(("CAR", 1), ("SOAP", 3))}]})
+    for plant in plants:
+        plant.give("decisions", pod)
+    for newest in range(5, 30):
+        for plant in plants:
+            plant.give("origin", listed(newest - 5, newest, [("b1", 20, 8)] if newest < 24 else ()))
+            if plant is plants[0] or newest not in range(12, 19):
+                plant.look()
+    said = {line["channel"]: line for line in lines_in(room) if "id" in line}
+    found = {name: ([(it["id"], it["shown"], it["seconds"], it["whole"]) for it in line["ads"]], line["seconds"], line["sold"]) for name, line in said.items()}
+    assert found == {"news-1": ([("CAR", 1, 2.0, True), ("SOAP", 3, 6.0, True)], 8.0, 8.0), "news-2": ([("CAR", 1, 2.0, True), ("SOAP", 1, 2.0, False)], 4.0, 8.0)}, found
+    room.write("orders/b1.json", pod)
+    texts = {name: reconcile.report(Path(room.path) / "orders", [Path(room.path) / "as-run.jsonl"], [name])[0][-1] for name in said}
+    assert texts == {"news-1": "1 sold: 1 shown whole, 0 in part, 0 not; 8 s sold, 8 s shown", "news-2": "1 sold: 0 shown whole, 1 in part, 0 not; 8 s sold, 4 s shown"}, texts
+
+
 def test_what_a_monitor_before_this_one_kept_is_read(room):
     from adsplice_plant import unfinished
     now = unfinished.Seen(playlist.DateRange("b1", {"START-DATE": "x"}), "Filled", Pod([("u", 2)], (("CAR", 1),)), True, 7, 5, {0}, 8, True, True)
@@ -237,7 +256,7 @@ def test_a_thousand_breaks_of_a_day_are_reconciled_to_the_second(room):
     for name, its in sold.items():
         (folder / f"{name}.json").write_text(json.dumps({"breaks": [{"id": name, "ads": its}]}), encoding="utf-8")
     from adsplice_plant import reconcile
-    lines, is_well = reconcile.report(folder, Path(room.path) / "as-run.jsonl", ["news"])
+    lines, is_well = reconcile.report(folder, [Path(room.path) / "as-run.jsonl"], ["news"])
     assert not is_well and whole < 1000
     said = {line.split()[1].rstrip(":"): line for line in lines if line.startswith("ad ")}
     for name, (count, lasts, shown, wholly) in owed.items():
@@ -256,3 +275,38 @@ def refuse(*_):
 
 
 test_as_run_log_has_each_written_segment_of_each_pod_once = apart(test_as_run_log_has_each_written_segment_of_each_pod_once)
+
+
+def line_of(channel, name, start, pod="own", shown=3, of=3, **more):
+    """A line of an as-run log, of a pod of 2 s segments."""
+    return {"channel": channel, "id": name, "start": start, "pod": pod, "shown": shown, "of": of, "seconds": 2 * shown, **more}
+
+
+def test_what_each_rendition_showed_is_one_line_a_break(room):
+    start, near, later = (f"2026-11-30T20:{it}Z" for it in ("00:00.000", "00:02.000", "40:00.000"))
+    lines = [line_of("film-1", "b1", start), line_of("film-2", "b1", near), line_of("news", "b1", start),
+             line_of("film-1", "b2", later), line_of("film-2", "b2", later, "none", 0, 0, why="NotDecided", reason="no decision file named it"),
+             line_of("film-1", "b1", later), line_of("film-2", "b1", later, shown=2), line_of("film-1", "b3", later, "fallback"),
+             {"channel": "film-1", "gap": {"from": start, "to": near}, "why": "x"}]
+    room.write("as-run.jsonl", "".join(f"{json.dumps(it)}\n" for it in lines) + "[]\n{torn")
+    status, out, _ = room.run("adsplice-monitor", "--breaks", "--as-run", f"{room.path}/as-run.jsonl")
+    assert status == 2 and out.splitlines() == [
+        f"film b1 at {start}: its pod whole, 6 s in film-1, film-2",
+        f"news b1 at {start}: its pod whole, 6 s in news",
+        f"film b2 at {later}: its pod whole, 6 s in film-1; nothing (no decision file named it) in film-2",
+        f"film b1 at {later}: its pod whole, 6 s in film-1; its pod 2 of 3 segments, 4 s in film-2",
+        f"film b3 at {later}: the fallback whole, 6 s in film-1; no line yet in film-2",
+        "5 breaks: 2 the same in all renditions, 3 not"], out
+    status, out, _ = room.run("adsplice-monitor", "--breaks", "--as-run", f"{room.path}/as-run.jsonl", "--channel", "news")
+    assert status == 0 and out.splitlines()[-1] == "1 break: 1 the same in all renditions, 0 not", out
+    assert room.run("adsplice-monitor", "--breaks", "--as-run", f"{room.path}/none.jsonl")[0] == 1
+    assert room.run("adsplice-monitor", "--breaks")[0] == 2
+
+
+test_what_each_rendition_showed_is_one_line_a_break.needs = ("httpx", "prometheus_client")
+
+
+def test_channels_of_one_programme_have_one_front(room):
+    from adsplice_plant.shown_breaks import programmes_of
+    assert programmes_of(["film-1", "film-2", "news", "tv-east", "a-b-1", "a-b-2", "a-c"]) == {
+        "film-1": "film", "film-2": "film", "news": "news", "tv-east": "tv-east", "a-b-1": "a-b", "a-b-2": "a-b", "a-c": "a-c"}

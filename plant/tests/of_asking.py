@@ -130,7 +130,8 @@ def test_a_break_is_asked_for_once_and_its_list_waits_for_the_answer(room):
     assert 0.2 <= it.give(12)
     until(lambda: os.path.exists(f"{room.path}/1001.json"), 20, "the answer")
     assert server.questions == [{"channel": "news", "id": "1001", "start": instant(24), "planned": 10, "event": 1001, "type": 0x34,
-                                 "name": "Provider Placement Opportunity Start", "upid": "000000002CA0A18A", "target": 2, "renditions": []}]
+                                 "name": "Provider Placement Opportunity Start", "upid": "000000002CA0A18A", "number": 1, "of": 1, "target": 2, "renditions": [],
+                                 "ladder": [{"name": "", "kind": None, "codecs": None, "size": None, "segment": 2}]}]
     with open(f"{room.path}/1001.json", encoding="utf-8") as file:
         assert file.read() == json.dumps(json.loads(decided(("1001", 5))))
     for newest in range(13, 20):
@@ -250,6 +251,221 @@ def test_a_programme_is_asked_for_once_and_each_rendition_gets_its_own_uris(room
     for name in ("1080", "720"):
         with open(f"{room.path}/{name}/1001.json", encoding="utf-8") as file:
             assert f"http://ads.example/{name}/1001-0.ts" in file.read()
+
+
+MASTER = """#EXTM3U
+#EXT-X-MEDIA:TYPE=AUDIO,GROUP-ID="a",NAME="English",URI="en/index.m3u8"
+#EXT-X-MEDIA:TYPE=SUBTITLES,GROUP-ID="t",NAME="English",URI="subs/index.m3u8"
+#EXT-X-MEDIA:TYPE=AUDIO,GROUP-ID="lone",NAME="Czech",URI="cs/index.m3u8"
+#EXT-X-STREAM-INF:BANDWIDTH=5000000,CODECS="avc1.640028,mp4a.40.2",RESOLUTION=1920x1080,AUDIO="a",SUBTITLES="t"
+# a comment
+hd/index.m3u8
+#EXT-X-STREAM-INF:BANDWIDTH=800000,CODECS="hvc1.1.6.L93.B0, ac-3",AUDIO="a"
+sd/index.m3u8
+#EXT-X-STREAM-INF:BANDWIDTH=64000,CODECS="mp4a.40.5",AUDIO="a"
+radio/index.m3u8
+#EXT-X-STREAM-INF:BANDWIDTH=900000,RESOLUTION=wide
+unknown/index.m3u8
+"""
+
+
+def test_what_a_rendition_is_like_is_known_by_its_master_playlist(room):
+    from adsplice_plant.traits import Traits, traits_of
+    lines, is_variant = [], False
+    for line in MASTER.splitlines():
+        uri = re.search('URI="([^"]*)"', line)
+        lines.append((line, uri[1] if uri else line if line[0] != "#" else ""))
+    assert traits_of(lines) == {
+        "en/index.m3u8": Traits("AUDIO", "mp4a.40.2"), "subs/index.m3u8": Traits("SUBTITLES"), "cs/index.m3u8": Traits("AUDIO"),
+        "hd/index.m3u8": Traits("VIDEO", "avc1.640028,mp4a.40.2", "1920x1080"), "sd/index.m3u8": Traits("VIDEO", "hvc1.1.6.L93.B0,ac-3"),
+        "radio/index.m3u8": Traits("AUDIO", "mp4a.40.5"), "unknown/index.m3u8": Traits()}, traits_of(lines)
+    from adsplice_plant import masters
+    found = masters.read(MASTER.encode(), "http://origin.example/master.m3u8")
+    assert traits_of(found.lines)["hd/index.m3u8"] == Traits("VIDEO", "avc1.640028,mp4a.40.2", "1920x1080")
+
+
+def test_the_length_of_segments_is_the_usual_one(room):
+    from adsplice_plant.packaged import PackagedSegment
+    from adsplice_plant.traits import usual_length
+    assert [usual_length(PackagedSegment("", 0, duration=it) for it in lengths) for lengths in ((), (4, 2, 4, 2, 4), (3, 5), (2,))] == [0, 4, 5, 2]
+
+
+def test_a_question_has_what_each_rendition_is_like(room):
+    from dataclasses import replace
+    from adsplice_plant.traits import Traits
+    server = room.server(Decider(lambda question: (204, "")))
+    it = Asking(room, server.url, renditions=("hd", "en"))
+    it.channels = [replace(it.channels[0], traits=Traits("VIDEO", "avc1.640028", "1920x1080")), replace(it.channels[1], traits=Traits("AUDIO", "mp4a.40.2"))]
+    it.begin()
+    it.give(12)
+    assert server.questions[0]["ladder"] == [{"name": "hd", "kind": "VIDEO", "codecs": "avc1.640028", "size": "1920x1080", "segment": 2},
+                                             {"name": "en", "kind": "AUDIO", "codecs": "mp4a.40.2", "size": None, "segment": 2}]
+
+
+def test_subtitles_beside_fragmented_mp4_get_no_initialisation_section(room):
+    answer = json.loads(decided(("1001", 5)).replace("ads.example/", "ads.example/{}/"))
+    answer["breaks"][0]["ads"][0]["map"] = {"uri": "http://ads.example/{}/init.mp4"}
+    server = room.server(Decider(lambda question: (200, json.dumps(answer))))
+    it = Asking(room, server.url, renditions=("v", "sub"))
+    for newest in (11, 12):
+        with_map = STYLE.listed(newest).replace("#EXT-X-MEDIA-SEQUENCE", '#EXT-X-MAP:URI="init.mp4"\n#EXT-X-MEDIA-SEQUENCE')
+        it.read(with_map, "news-v")
+        it.read(STYLE.listed(newest).replace(".ts", ".vtt"), "news-sub")
+        until(lambda text=with_map: it.has_given(text, ["news-v"]), 30, "the list")
+    found = {name: json.loads(Path(room.path, name, "1001.json").read_text())["breaks"][0]["ads"][0] for name in ("v", "sub")}
+    assert found["v"]["map"] == {"uri": "http://ads.example/v/init.mp4"} and "map" not in found["sub"], found
+    assert found["sub"]["segments"][0]["uri"] == "http://ads.example/sub/1001-0.ts"
+    texts = {name: [body for method, path, body in it.controller.asked if path == f"/channels/news-{name}/decisions"] for name in ("v", "sub")}
+    assert b'"map"' in texts["v"][-1] and b'"map"' not in texts["sub"][-1]
+
+
+# ---- questions that were open when the feed ended, and full disks
+
+def asked_in(room, name="1001"):
+    """The question that is kept."""
+    with open(f"{room.path}/asked/{name}.json", encoding="utf-8") as file:
+        return json.load(file)
+
+
+def test_a_question_that_was_open_when_the_feed_ended_is_asked_again_and_answered_once(room):
+    server = room.server(Decider(lambda question: (200, decided((question["id"], 5)).replace("ads.example", f"ads{len(server.questions)}.example")), pause=2))
+    it = Asking(room, server.url, hold=0.9, timeout=20.0, keep=Path(room.path) / "kept")
+    it.give(11)
+    it.read(STYLE.listed(12), "news")
+    until(lambda: server.questions, 10, "the question")
+    it.close()
+    assert "answered" not in asked_in(room)
+    server.pause = 0.1
+    again = Asking(room, server.url, hold=0.9, keep=Path(room.path) / "kept")
+    again.give(12)
+    until(lambda: os.path.exists(f"{room.path}/1001.json"), 10, "the answer")
+    time.sleep(2.2)  # (the first answer has come by then, to nobody)
+    with open(f"{room.path}/1001.json", encoding="utf-8") as file:
+        assert "ads2.example" in file.read()
+    until(lambda: asked_in(room).get("answered") == 200, 20, "the end of the question")
+    assert len(server.questions) == 2 and not it.lines()
+    assert [line.partition(": ")[0] for line in again.lines()] == ["news ask/1001 - Again", "news ask/1001 200 -"], again.lines()
+    again.close()
+    third = Asking(room, server.url, keep=Path(room.path) / "kept")
+    third.give(13)
+    assert len(server.questions) == 2 and not third.lines()
+
+
+def test_a_question_that_was_answered_without_ads_is_not_asked_again(room):
+    server = room.server(Decider(lambda question: (204, "")))
+    for number in range(3):
+        it = Asking(room, server.url, hold=0.9, keep=Path(room.path) / "kept")
+        it.give(12)
+        until(lambda: asked_in(room).get("answered") == 204, 20, "the end of the question")
+        it.close()
+    assert len(server.questions) == 1 and asked_in(room)["answered"] == 204
+
+
+def test_an_open_question_is_not_asked_again_once_its_break_has_begun(room):
+    server = room.server(Decider(pause=1.5))
+    it = Asking(room, server.url, hold=0.1, timeout=20.0, keep=Path(room.path) / "kept")
+    it.give(12)
+    it.close()
+    again = Asking(room, server.url, hold=0.1, keep=Path(room.path) / "kept")
+    again.give(13)
+    time.sleep(0.3)
+    assert len(server.questions) == 1 and not again.lines(), again.lines()
+
+
+def test_who_watches_the_folder_is_waited_for_after_a_new_start(room):
+    it = Asking(room, "folder", hold=0.9, keep=Path(room.path) / "kept")
+    it.read(STYLE.listed(12), "news")
+    until(lambda: os.path.exists(f"{room.path}/asked/1001.json"), 10, "the question")
+    it.close()
+    again = Asking(room, "folder", hold=0.9, keep=Path(room.path) / "kept")
+    again.read(STYLE.listed(12), "news")
+    time.sleep(0.3)
+    room.write("whatever.json", decided(("1001", 5)))
+    until(lambda: again.feed.is_decided("1001") and again.has_given(STYLE.listed(12), ["news"]), 10, "its decision")
+    assert not again.lines() and b"1001-0.ts" in again.controller.puts("decisions")[-1]
+
+
+def test_many_questions_in_the_folder_are_not_too_many_after_a_new_start(room):
+    it = Asking(room, "folder", hold=0.1)
+    known = [modules()["breaks"].Break(f"b{n}", n * SECOND, n, "splice_insert") for n in range(20)]
+    it.ask(*known[:10])
+    it.feed.asker.open.clear()
+    it.ask(*known[10:])
+    it.close()
+    again = Asking(room, "folder", hold=0.1)
+    again.ask(*known)
+    assert not again.lines() and not again.feed.asker.open and len(os.listdir(f"{room.path}/asked")) == 20, again.lines()
+
+
+def test_a_folder_that_can_not_be_written_loses_no_question(room):
+    server = room.server(Decider())
+    it = Asking(room, server.url, hold=0.4)
+    os.rmdir(room.path)
+    it.give(12)
+    it.sees("ask/1001 200 Unkept")
+    assert len(server.questions) == 1 and [line.partition(": ")[0] for line in it.lines()] == ["news ask/1001 - Unkept", "news ask/1001 200 Unkept"], it.lines()
+    os.mkdir(room.path)
+    it.sees("ask/1001 200 Late: answered after")
+    until(lambda: os.path.exists(f"{room.path}/asked/1001.json") and asked_in(room).get("answered") == 200, 20, "the end of the question")
+    assert os.path.exists(f"{room.path}/1001.json") and len(server.questions) == 1
+
+
+def test_a_question_for_a_folder_waits_until_it_can_be_written(room):
+    it = Asking(room, "folder", hold=0.9)
+    Path(room.path, "asked").touch()
+    it.read(STYLE.listed(12), "news")
+    it.sees("ask/1001 - Unkept")
+    os.remove(f"{room.path}/asked")
+    it.sees("ask/1001 - Asked")
+    assert asked_in(room)["id"] == "1001"
+
+
+def test_a_full_disk_loses_no_question(room):
+    import resource
+    server, controller = room.server(Decider()), room.server(FakeController())
+    room.write("a.m3u8", STYLE.listed(11))
+    feed = room.feed("--channel", "news", "--origin", f"{room.path}/a.m3u8", "--at", controller.url, "--base", "http://origin.example/i.m3u8",
+                     "--decisions", f"{room.path}/d", "--ask", server.url, "--hold", "0.9")
+    feed.sees(" news adsplice 204 -: the list is taken")
+    hard = resource.prlimit(feed.process.pid, resource.RLIMIT_FSIZE)[1]
+    resource.prlimit(feed.process.pid, resource.RLIMIT_FSIZE, (0, hard))  # (a write gets EFBIG, as it gets ENOSPC on a full disk)
+    room.write("a.m3u8", STYLE.listed(12))
+    feed.sees("ask/1001 - Unkept: .*/d/asked: File too large; asks all the same")
+    feed.sees("ask/1001 200 Unkept: .*/d: File too large; the answer waits until it can be written")
+    resource.prlimit(feed.process.pid, resource.RLIMIT_FSIZE, (hard, hard))
+    feed.sees("ask/1001 200 (-|Late): answered after")
+    assert len(server.questions) == 1 and os.path.exists(f"{room.path}/d/1001.json") and not [name for name in os.listdir(f"{room.path}/d") if name.endswith(".new")]
+    assert feed.end(signal.SIGTERM) == 0
+
+
+def test_what_became_of_a_question_is_kept_for_monitor_and_explainer(room):
+    from adsplice_plant.kept import Kept
+    good = decided(("1001", 5))
+    cases = (((200, good), 0, "Answered", None), ((204, ""), 0, "NoAds", "the ad server has no ads for it"), ((404, ""), 0, "Unanswered", "the ad server has given no answer (the ad server answers 404)"),
+             ((200, "<html>"), 0, "Wrong", "the ad server's answer isn't taken: line 1, column 1: the file isn't JSON"), ((200, good), 0.8, "Late", "its decision came too late"))
+    for said, pause, word, why in cases:
+        with Room(None) as place:
+            server = place.server(Decider(lambda question, said=said: said, pause=pause))
+            it = Asking(place, server.url, hold=0.5, timeout=5.0, keep=Path(place.path) / "kept")
+            it.give(12)
+            it.sees("ask/1001")
+            it.give(13)
+            it.close()
+            kept = Kept(Path(place.path) / "kept" / "news.events")
+            kept.follow()
+            assert dict(kept.asked) == {word: 1} and (kept.reasons.get("1001") or "").startswith(why or "") and (why is None) == ("1001" not in kept.reasons), (word, kept.asked, kept.reasons)
+            explained = place.run("adsplice-explain", "--kept", f"{place.path}/kept/news.events", "--break", "1001")[1]
+            assert why is None or f"since {why.replace('its decision', 'it')}" in explained, (word, explained)
+
+
+def test_a_break_that_is_one_too_many_has_its_reason(room):
+    from adsplice_plant.kept import Kept
+    it = Asking(room, "folder", hold=60, keep=Path(room.path) / "kept")
+    it.ask(*(modules()["breaks"].Break(f"b{n}", n * SECOND, n, "splice_insert") for n in range(18)))
+    it.close()
+    kept = Kept(Path(room.path) / "kept" / "news.events")
+    kept.follow()
+    assert dict(kept.asked) == {"TooMany": 2} and kept.reasons == dict.fromkeys(("b16", "b17"), "it wasn't asked for: 16 questions are open"), (kept.asked, kept.reasons)
 
 
 def test_ids_become_names_of_files(room):

@@ -85,6 +85,34 @@ def test_a_files_length_and_the_stated_one(room):
 def test_samples_by_hand(room):
     for codec, rate, seconds, owed in (("aac", 48_000, 10, 468 * 1024), ("aac", 44_100, 10, 430 * 1024), ("ac3", 48_000, 10, 312 * 1536)):
         assert conditioning.samples_of(seconds * SECOND, ladders.Sound(codec, rate, 2, 64_000)) == owed, codec  # (469 frames of AAC: 468.75 to the nearest; one is the encoder's)
+    # the other making: 468 frames in place of 469, 704 in place of 703 (of 703.125), and 375 for 8 s, which are whole frames
+    aac = ladders.Sound("aac", 48_000, 2, 64_000)
+    assert [(conditioning.frames_of(it * SECOND, aac, False), conditioning.frames_of(it * SECOND, aac, True)) for it in (10, 15, 8)] == [(469, 468), (703, 704), (375, 375)]
+    one = ladders.Ladder(2 * SECOND, {"v": ladders.Rendition("ts"), "a": ladders.Rendition("ts", None, aac)})
+    assert [conditioning.over_of(10 * SECOND, one, it) for it in (False, True)] == [5_333_333, -16_000_000] and conditioning.over_of(8 * SECOND, one, True) == 0
+    assert conditioning.over_of(10 * SECOND, ladders.Ladder(2 * SECOND, {"v": ladders.Rendition("ts")}), False) == 0
+
+
+@pure
+def test_sound_stays_with_pictures_over_a_thousand_breaks(room):
+    import random
+    from dataclasses import replace
+    from adsplice_plant.filling import Pod, Ready, balanced
+    rng, by, frame = random.Random(5), 0, 1024 * SECOND // 48_000
+    aac = ladders.Sound("aac", 48_000, 2, 64_000)
+    one = ladders.Ladder(2 * SECOND, {"a": ladders.Rendition("ts", None, aac)})
+
+    def made(length, is_other):
+        return Ready(f"{length}{is_other}", (length,), "u", "", conditioning.over_of(length, one, is_other))
+    ads = [replace(made(it, False), twin=made(it, True)) for it in (10 * SECOND, 15 * SECOND, 20 * SECOND, 30 * SECOND, 7_520_000_000, 8 * SECOND)]
+    for number in range(1000):
+        its = [rng.choice(ads) for _ in range(rng.randrange(1, 4))] if number >= 500 else [ads[0]]
+        before = by
+        pod, by = balanced(Pod(list(its), [None] * len(its)), by)
+        assert by - before == sum(it.over for it in pod.ready) and [it.length() for it in pod.ready] == [it.length() for it in its]
+        assert abs(by) <= frame // 2 + 2, (number, by)  # (so much of rounding)
+    alone = made(10 * SECOND, False)
+    assert balanced(Pod([alone], [None]), 0)[0].ready == [alone]
 
 
 @pure
@@ -95,7 +123,7 @@ def test_wrong_ladders_are_told(room):
                        (with_(container="avi"), "its container is avi"), (with_(picture={**RENDITIONS["v0"]["picture"], "codec": "vp9"}), "no pictures of vp9"), (with_(picture={**RENDITIONS["v0"]["picture"], "rate": "1/0"}), "ZeroDivisionError"),
                        (with_(picture={**RENDITIONS["v0"]["picture"], "width": 99_999}), "pictures of 99999x54"), (with_(sound={**RENDITIONS["v0"]["sound"], "codec": "opus"}), "no sound of opus"),
                        ({"piece": "2", "renditions": {"../x": RENDITIONS["en"]}}, "a name is that of a folder"), ({"piece": "2", "renditions": {"sub": {"container": "vtt"}}}, "one has pictures or sound"),
-                       ({"piece": "2", "renditions": {**RENDITIONS, "f": {**RENDITIONS["en"], "container": "fmp4"}}}, "some renditions are fragmented MP4, and v0, v1, en, sub not")):
+                       ({"piece": "2", "renditions": {**RENDITIONS, "f": {**RENDITIONS["en"], "container": "fmp4"}}}, "some renditions are fragmented MP4, and v0, v1, en not")):
         try:
             ladders.ladder_of(said)
         except Fault as fault:
@@ -200,8 +228,67 @@ def test_a_ladder_is_profiled(room):
     one = json.loads(out)["renditions"]["main"]
     assert (status, one["container"], one["picture"]["rate"], one["picture"]["profile"]) == (0, "fmp4", "30000/1001", "main"), (err, one)
     assert "rendition v: " in condition(room, "--profile", f"v={room.path}/none.m3u8", "w=x")[2]
-    room.write("key.m3u8", Path(f"{room.path}/v0.m3u8").read_text().replace("#EXTINF", '#EXT-X-KEY:METHOD=AES-128,URI="k"\n#EXTINF', 1))
-    assert "its segments are encrypted" in condition(room, "--profile", f"{room.path}/key.m3u8")[2]
+
+
+def encrypted(room, name, seconds=8, vector="00000000000000000000000000000005"):
+    """A programme of segments of 2 s under AES-128, and its key: its list."""
+    Path(f"{room.path}/{name}.key").write_bytes(bytes(range(16)))
+    info = room.write(f"{name}.info", f"{name}.key\n{room.path}/{name}.key\n{vector}\n")
+    ffmpeg("-f", "lavfi", "-i", "testsrc2=s=96x54:r=25", "-f", "lavfi", "-i", "sine=r=48000", "-t", str(seconds), "-c:v", "libx264", "-preset", "veryfast", "-pix_fmt", "yuv420p", "-bf", "0", "-g", "50",
+           "-sc_threshold", "0", "-c:a", "aac", "-ac", "2", "-f", "hls", "-hls_time", "2", "-hls_list_size", "0", "-hls_key_info_file", info, f"{room.path}/{name}.m3u8")
+    return Path(f"{room.path}/{name}.m3u8").read_text()
+
+
+def test_a_ladder_under_a_key_is_profiled(room):
+    text = encrypted(room, "e")
+    plain = {"codec": "h264", "width": 96, "height": 54, "rate": "25"}
+    # without an IV it is the media sequence number (RFC 8216, 5.2): that of the last segment is 3, and each but the last one may have another
+    encrypted(room, "n", vector=f"{3:032x}")
+    room.write("n.m3u8", Path(f"{room.path}/n.m3u8").read_text().replace(f",IV=0x{3:032x}", ""))
+    room.write("off.m3u8", text.replace("#EXTINF", "#EXT-X-KEY:METHOD=NONE\n#EXTINF", 1))
+    files = room.server(Files(room.path))
+    for place in (f"{room.path}/e.m3u8", f"{files.url}/e.m3u8", f"{room.path}/n.m3u8"):
+        status, out, err = condition(room, "--profile", place)
+        assert status == 0, err
+        assert {key: json.loads(out)["renditions"]["main"]["picture"][key] for key in plain} == plain, out
+    assert condition(room, "--profile", f"{room.path}/off.m3u8")[0] == 1  # (it says that it is clear, and isn't)
+    for more, owed in ((text.replace("METHOD=AES-128", "METHOD=SAMPLE-AES"), "its segments are under SAMPLE-AES, so ffprobe can't read them: write its profile by hand"),
+                       (text.replace("IV=0x0", "IV=0xg"), "its key, or the IV, hasn't 16 bytes"), (text.replace("e.key", "none.key"), "No such file"),
+                       (text.replace("#EXTINF", '#EXT-X-MAP:URI="i.mp4"\n#EXTINF', 1), "under AES-128 with an initialisation section"),
+                       (text.replace("IV=", 'KEYFORMAT="com.example",IV='), "its segments are under AES-128")):
+        status, _, err = condition(room, "--profile", room.write("w.m3u8", more))
+        assert status == 1 and owed in err and err.count("\n") == 1, (owed, err)
+
+
+def test_ads_of_a_ladder_under_a_key_are_clear_pieces(room):
+    """RFC 8216, 4.3.2.4: a key counts up to the next EXT-X-KEY, so METHOD=NONE has to stand before the first piece of the ad, and the key after the last."""
+    text = encrypted(room, "e")
+    room.write("ladder.json", condition(room, "--profile", f"{room.path}/e.m3u8")[1])
+    assert condition(room, media(f"{room.path}/ad.mp4", 4), "--ladder", f"{room.path}/ladder.json", "--to", f"{room.path}/ads/CAR0001H")[0] == 0
+    files = room.server(Files(room.path))
+    done = room.run("adsplice-pod", "--breaks", "4=CAR0001H", "--list", f"{room.path}/e.m3u8", "--base", f"{files.url}/e.m3u8", "--ads", f"{room.path}/ads", "--at", f"{files.url}/ads", "--to", f"{room.path}/film")
+    assert done[0] == 0, done
+    rules = subprocess.run([PYTHON, f"{PLANT}/adsplice_rules/run", "vod", f"{files.url}/e.m3u8", f"{room.path}/film/decisions.json"], input=Path(f"{room.path}/film/index.m3u8").read_bytes(), capture_output=True, check=True)
+    written = room.write("written.m3u8", rules.stdout.decode())
+    states, key, steps = [], "", 0
+    for line in rules.stdout.decode().splitlines():
+        if line.startswith("#EXT-X-KEY:"):
+            key = line
+        steps += line == "#EXT-X-DISCONTINUITY"
+        if line and line[0] != "#":
+            states.append((line.rpartition("/")[2], "METHOD=NONE" not in key, steps))
+    assert states == [("e0.ts", True, 0), ("e1.ts", True, 0), ("s0.ts", False, 1), ("s1.ts", False, 1), ("e2.ts", True, 2), ("e3.ts", True, 2)], states
+    seen_frames = subprocess.run(["ffprobe", "-v", "error", "-protocol_whitelist", "file,http,tcp,crypto", "-allowed_extensions", "ALL", "-count_frames", "-select_streams", "v", "-show_entries", "stream=nb_read_frames", "-of", "csv=p=0", written],
+                                 capture_output=True, text=True, check=False)
+    assert seen_frames.stdout.split()[:1] == ["300"], (seen_frames.stdout, seen_frames.stderr)  # (8 s of the programme and 4 s of the ad, 25 a second)
+
+
+def test_an_ad_for_webvtt_beside_fragmented_mp4(room):
+    renditions = {"v": {"container": "fmp4", "picture": {**RENDITIONS["v0"]["picture"]}}, "a": {"container": "fmp4", "sound": RENDITIONS["en"]["sound"]}, "sub": {"container": "vtt"}}
+    assert condition(room, media(f"{room.path}/ad.mp4", 4), "--ladder", ladder(room, renditions), "--to", f"{room.path}/ad")[0] == 0
+    assert Path(f"{room.path}/ad/v/init.mp4").exists() and not Path(f"{room.path}/ad/sub/init.mp4").exists()
+    assert [Path(f"{room.path}/ad/sub/s{n}.{ending}").read_text() for n in (0, 1) for ending in ("vtt", "m4s")] == ["WEBVTT\n"] * 4
+    assert "EXT-X-MAP" not in Path(f"{room.path}/ad/sub/index.m3u8").read_text()
 
 
 class Files(FakeServer):

@@ -34,7 +34,7 @@ def parts_of(text):
 
 def explain(room, *words):
     """Runs adsplice-explain in the test's folder."""
-    return room.run("adsplice-explain", *words, "--program", room.program, cwd=room.path)
+    return room.run("adsplice-explain", *words, *(("--program", room.program) if room.program else ()), cwd=room.path)
 
 
 def test_each_mistake_has_its_sentence(room):
@@ -93,6 +93,25 @@ def test_what_a_feed_kept(room):
              for n, (what, status, fault, body) in enumerate(events)]
     path = room.write("news.events", "\n".join(lines) + "\n" + lines[0][:30])
     assert explain(room, "--kept", path) == (0, "b1: it is filled by its own pod (2 segments, 4 s)\n", "")
+
+
+def test_what_a_feed_kept_of_a_programme(room):
+    def kept(name, breaks, *decisions):
+        """The file of a rendition that has these breaks and decisions."""
+        events = [("channel", 201, "", json.dumps({"base": "http://h/i.m3u8"})), ("origin", 204, "", listed(0, 5)), *(("decisions", 204, "", decided(it)) for it in decisions),
+                  ("origin", 204, "", listed(1, 7, breaks)), ("origin", 204, "", listed(3, 9, breaks))]
+        lines = [json.dumps({"at": f"2024-05-01T12:00:0{n}Z", "what": what, "status": status, "fault": fault, "body": body}) for n, (what, status, fault, body) in enumerate(events)]
+        return room.write(f"{name}.events", "\n".join(lines) + "\n")
+
+    breaks = [("b1", 12, 2), ("b2", 16, 2)]
+    files = kept("film-1", breaks, ("b1", 1), ("b2", 1)), kept("film-2", breaks, ("b1", 1))
+    status, out, err = explain(room, "--kept", *files)
+    assert (status, err) == (3, "") and [it[:22] for it in out.splitlines()] == ["film-1: b1: it is fill", "film-2: b1: it is fill", "film-1: b2: it is fill", "film-2: b2: no decisio"], out
+    status, out, _ = explain(room, "--kept", *files, "--break", "b1")
+    assert status == 0 and out.count("\n") == 2 and out.startswith("film-1: b1: "), out
+
+
+test_what_a_feed_kept_of_a_programme.needs = ()
 
 
 def test_faults_are_one_line(room):

@@ -149,21 +149,44 @@ def test_settings_and_what_is_kept_are_read_by_the_group_alone(room):
     if not shutil.which("deb-systemd-helper"):
         return
     machine = Machine(room)
-    settings, kept = room.write("etc/feed.ini", ""), room.write("state/kept/news.events", "")
-    for path in (settings, kept):
+    settings, deciding, kept = room.write("etc/feed.ini", ""), room.write("etc/decide.ini", ""), room.write("state/kept/news.events", "")
+    for path in (settings, deciding, kept):
         os.chmod(path, 0o644)
     machine.configure()
-    assert [os.stat(path).st_mode & 0o777 for path in (settings, kept)] == [0o640, 0o640]
+    assert [os.stat(path).st_mode & 0o777 for path in (settings, deciding, kept)] == [0o640, 0o640, 0o640]
     with open(f"{room.path}/did", encoding="utf-8") as it:
-        assert f"chown root:adsplice {settings}\n" in it.read()
-    os.chmod(settings, 0o600)
+        did = it.read()
+    assert f"chown root:adsplice {settings}\n" in did and f"chown root:adsplice {deciding}\n" in did
+    for path in (settings, deciding):
+        os.chmod(path, 0o600)
     machine.configure("0.1")
-    assert os.stat(settings).st_mode & 0o777 == 0o600, "what an admin made of it stays"
+    assert [os.stat(path).st_mode & 0o777 for path in (settings, deciding)] == [0o600, 0o600], "what an admin made of it stays"
     with open(f"{ROOT}/install", encoding="utf-8") as it:
-        assert "install -o root -g adsplice -m 640 \"$here/plant/systemd/feed.ini\" /etc/adsplice/feed.ini" in it.read()
+        text = it.read()
+    for name in ("feed", "decide"):
+        assert f"install -o root -g adsplice -m 640 \"$here/plant/systemd/{name}.ini\" /etc/adsplice/{name}.ini" in text, name
 
 
 test_settings_and_what_is_kept_are_read_by_the_group_alone.needs = ()
+
+
+def test_purge_leaves_the_as_run_log_and_nothing_else(room):
+    stays = ["as-run.jsonl", "as-run.jsonl-20261101", "as-run.jsonl.1"]
+    for name in (*stays, "as-run.jsonl.seen", "kept/news.log", "decisions/news/b.json", "ads/CAR/ad.json", ".hidden"):
+        room.write(f"state/{name}", "")
+    with open(f"{PLANT}/debian/postrm", encoding="utf-8") as it:
+        text = it.read().replace("/var/lib/adsplice", f"{room.path}/state").replace("/etc/", f"{room.path}/etc/").replace("/var/cache/adsplice", f"{room.path}/cache").replace("deluser", "true").replace("deb-systemd-helper", "true")
+    script = room.write("postrm", text)
+    done = subprocess.run(["sh", script, "purge"], capture_output=True, text=True, check=False)
+    assert done.returncode == 0 and sorted(os.listdir(f"{room.path}/state")) == stays and "The as-run log stays" in done.stdout, (done, os.listdir(f"{room.path}/state"))
+    for name in stays:
+        os.remove(f"{room.path}/state/{name}")
+    done = subprocess.run(["sh", script, "purge"], capture_output=True, text=True, check=False)
+    assert done.returncode == 0 and not done.stdout and not os.path.exists(f"{room.path}/state"), done
+    assert subprocess.run(["sh", script, "purge"], check=False).returncode == 0
+
+
+test_purge_leaves_the_as_run_log_and_nothing_else.needs = ()
 
 
 WRITES = """import os, sys

@@ -48,9 +48,27 @@ WRITTEN = """#EXTM3U
 def test_a_master_playlist_keeps_all_but_i_frames(room):
     from adsplice_plant import masters
     found = masters.read(MASTER.encode(), BASE)
-    assert found.uris == ["en/index.m3u8", "1080/index.m3u8?t=1", "http://other.example/720/index.m3u8"], found.uris
-    assert found.groups == {"en/index.m3u8": "AUDIO"} and found.left_out == {"EXT-X-I-FRAME-STREAM-INF"}
+    assert found.uris == ["en/index.m3u8", "subtitles/en.m3u8", "1080/index.m3u8?t=1", "http://other.example/720/index.m3u8"], found.uris
+    assert found.groups == {"en/index.m3u8": "AUDIO", "subtitles/en.m3u8": "SUBTITLES"} and found.left_out == {"EXT-X-I-FRAME-STREAM-INF"}
+    owed = WRITTEN.replace("http://origin.example/film/subtitles/en.m3u8", "/words")
+    assert masters.write(found, dict(zip(found.uris, ("/en", "/words", "/1080", "/720")))).decode() == owed
+    assert not found.has_captions and not found.has_others
+    captions = '#EXT-X-MEDIA:TYPE=CLOSED-CAPTIONS,GROUP-ID="c",NAME="English",INSTREAM-ID="CC1"\n'
+    assert masters.read((MASTER + captions).encode(), BASE).has_captions
+
+
+def test_subtitles_stay_at_the_origin_if_no_empty_piece_is_known(room):
+    from adsplice_plant import masters
+    from adsplice_plant.settings import ladder_of
+    said = {"origin": BASE, "at": "http://127.0.0.1:1", "master": f"{room.path}/viewers.m3u8"}
+    types = masters.types_of(ladder_of("film", said)[0])
+    found = masters.read(MASTER.encode(), BASE, types)
+    assert types == ("AUDIO", "VIDEO") and found.has_others and found.uris == ["en/index.m3u8", "1080/index.m3u8?t=1", "http://other.example/720/index.m3u8"]
     assert masters.write(found, dict(zip(found.uris, ("/en", "/1080", "/720")))).decode() == WRITTEN
+    for more, uri in (({"viewers": "https://tv.example/x"}, "https://tv.example/x/empty.vtt"), ({"empty_subtitles": "http://ads.example/no.vtt"}, "http://ads.example/no.vtt")):
+        programme = ladder_of("film", {**said, **more})[0]
+        channels = masters.channels_of(masters.read(MASTER.replace("http://other.example/", "").encode(), BASE, masters.types_of(programme)), programme)
+        assert [it.empty_subtitles for it in channels] == ["", uri, "", ""] and [it.group for it in channels] == ["AUDIO", "SUBTITLES", "", ""]
 
 
 def test_what_is_no_master_playlist_is_told(room):
@@ -68,22 +86,24 @@ def test_renditions_of_a_master_playlist_are_channels(room):
     controller = room.server(FakeController())
     for name in ("en", "1080", "720"):
         room.write(f"{name}/index.m3u8", listed(0, 5, name=name))
+    room.write("subtitles/en.m3u8", listed(0, 5, name="words"))
     words = ("--channel", "film", "--origin", f"{room.path}/master.m3u8", "--base", BASE, "--at", controller.url, "--master", f"{room.path}/viewers.m3u8",
              "--viewers", "http://viewers.example", "--decisions", f"{room.path}/{{}}/decisions", "--longest-pause", "1")
     feed = room.feed(*words)
     feed.sees("film master - Unread: .*No such file")
     room.write("master.m3u8", MASTER.replace("http://other.example/", ""))
-    feed.sees("film master - -: 3 renditions are channels, film-1 to film-3; viewers load .*/viewers.m3u8; EXT-X-I-FRAME-STREAM-INF is left out")
-    for it in (1, 2, 3):
+    feed.sees("film master - -: 4 renditions are channels, film-1 to film-4; viewers load .*/viewers.m3u8; EXT-X-I-FRAME-STREAM-INF is left out")
+    for it in (1, 2, 3, 4):
         feed.sees(f"film-{it} adsplice 204 -: the list is taken")
     with controller.lock:
         bases = sorted((path, json.loads(body)["base"]) for method, path, body in controller.asked if method == "PUT" and path.count("/") == 2)
-    assert bases == [(f"/channels/film-{it}", f"http://origin.example/film/{uri}") for it, uri in enumerate(("en/index.m3u8", "1080/index.m3u8?t=1", "720/index.m3u8"), 1)]
+    assert bases == [(f"/channels/film-{it}", f"http://origin.example/film/{uri}") for it, uri in enumerate(("en/index.m3u8", "subtitles/en.m3u8", "1080/index.m3u8?t=1", "720/index.m3u8"), 1)]
     with open(f"{room.path}/viewers.m3u8", encoding="utf-8") as it:
         text = it.read()
-    assert text.count("http://viewers.example/channels/film-2/live.m3u8\n") == 2 and 'URI="http://viewers.example/channels/film-1/live.m3u8"' in text, text
+    assert text.count("http://viewers.example/channels/film-3/live.m3u8\n") == 2 and 'URI="http://viewers.example/channels/film-1/live.m3u8"' in text, text
+    assert 'TYPE=SUBTITLES,GROUP-ID="s",NAME="English",URI="http://viewers.example/channels/film-2/live.m3u8"' in text, text
     room.write("720/index.m3u8", listed(1, 6, name="720"))
-    until(lambda: any(b"7206.ts" in it for it in controller.puts("origin")), 5, "a list of film-3")
+    until(lambda: any(b"7206.ts" in it for it in controller.puts("origin")), 5, "a list of film-4")
 
 
 test_renditions_of_a_master_playlist_are_channels.needs = ("httpx",)
@@ -165,14 +185,20 @@ def test_a_master_playlist_with_a_host_that_does_not_read_is_told(room):
     for line in ('#EXT-X-SESSION-KEY:METHOD=SAMPLE-AES,URI="http://["\n#EXT-X-STREAM-INF:BANDWIDTH=1\nv.m3u8', "#EXT-X-STREAM-INF:BANDWIDTH=1\nhttp://["):
         said = {"origin": room.write("master.m3u8", f"#EXTM3U\n{line}\n"), "base": BASE, "at": "http://127.0.0.1:1", "master": f"{room.path}/viewers.m3u8"}
         lines, begun = [], []
-        programme = masters.Programme(ladder_of("film", said)[0], Client(1), lines.append, begun.append)
+        programme = masters.Programme(ladder_of("film", said)[0], Client(1), lines.append, masters.Feeds(begun.append, begun.append, lambda *_: None))
         assert not programme.look() and not begun and "film master - Refused: " in lines[0], lines
 
 
 def test_names_of_a_master_playlist_s_renditions(room):
     from adsplice_plant import masters
     found = masters.read(MASTER.encode(), BASE)
-    assert masters.names_of(found, []) == ["1", "2", "3"] and masters.names_of(found, ["en", "hd", "sd"]) == ["en", "hd", "sd"]
+    assert [*masters.names_of(found, [], {}).values()] == ["1", "2", "3", "4"]
+    assert masters.names_of(found, ["en", "words", "hd", "sd"], {})["1080/index.m3u8"] == "hd"
+    try:
+        masters.names_of(found, ["en", "hd"], {})
+        raise AssertionError("two names for four")
+    except Fault as fault:
+        assert "renditions names 2, and the master playlist has 4" in str(fault)
     status, _, err = room.run("adsplice-feed", "--channel", "film", "--origin", BASE, "--at", "http://127.0.0.1:1", "--master", f"{room.path}/no/viewers.m3u8")
     assert status == 1 and "there is no folder" in err and err.count("\n") == 1, err
 
@@ -182,7 +208,7 @@ test_names_of_a_master_playlist_s_renditions.needs = ("httpx",)
 
 def test_a_long_master_playlist_takes_time_by_its_bytes(room):
     from adsplice_plant import masters
-    one, many = b"#EXT-X-STREAM-INF:BANDWIDTH=1\n%s.m3u8\n", b"#EXT-X-MEDIA:TYPE=SUBTITLES,GROUP-ID=\"s\",NAME=\"a\",URI=\"s%d\"\n"
+    one, many = b"#EXT-X-STREAM-INF:BANDWIDTH=1\n%s.m3u8\n", b"#EXT-X-SESSION-DATA:DATA-ID=\"a\",URI=\"s%d\"\n"
     for make, is_taken in ((lambda n: b"".join(one % b"%d" % it for it in range(n)), False), (lambda n: one % b"a" + b"".join(many % it for it in range(n)), None), (lambda n: one % b"a" + b"".join(many % it for it in range(n // 12)), True),
                            (lambda n: one % b"a" * n, True), (lambda n: one % (b"a" * 100) * (n // 3), True)):
         took = []
@@ -225,3 +251,65 @@ def test_a_fault_that_nobody_foresaw_ends_no_thread(room):
     one.look = look
     one.run(ending, 0.1)
     assert len(looks) == 3 and len(lines) == 1 and "film master - Refused: KeyError: 'nobody foresaw it'; reads it again" in lines[0], lines
+
+
+def test_renditions_keep_their_names_in_whatever_order_they_come(room):
+    from adsplice_plant import renditions
+    numbers = [str(it) for it in range(1, 6)]
+    first = renditions.named({}, ["v/1.m3u8", "a.m3u8?t=1"], numbers)
+    assert first == {"v/1.m3u8": "1", "a.m3u8": "2"}
+    for uris, owed in (
+            (["a.m3u8?t=2", "v/1.m3u8"], {"v/1.m3u8": "1", "a.m3u8": "2"}),  # another order, another token
+            (["v/2.m3u8", "v/1.m3u8", "a.m3u8"], {"v/1.m3u8": "1", "a.m3u8": "2", "v/2.m3u8": "3"}),  # a new one
+            (["v/1.m3u8", "v/2.m3u8"], {"v/1.m3u8": "1", "a.m3u8": "2", "v/2.m3u8": "3"})):  # a new one, and one that is gone keeps its name
+        assert renditions.named(first, uris, numbers) == owed, (uris, renditions.named(first, uris, numbers))
+    assert renditions.named({}, ["v.m3u8?q=1", "v.m3u8?q=2"], numbers) == {"v.m3u8?q=1": "1", "v.m3u8?q=2": "2"}  # told apart by their queries
+    assert renditions.named(first, ["b", "c", "d", "e"], numbers) == {"a.m3u8": "2", "b": "3", "c": "4", "d": "5", "e": "1"}  # the oldest one's that is gone
+    try:
+        renditions.named({}, ["a", "b", "c"], ["en", "hd"])
+        raise AssertionError("three of two names")
+    except Fault as fault:
+        assert "more than 2 renditions" in str(fault)
+
+
+def test_names_of_renditions_are_kept(room):
+    from pathlib import Path
+    from adsplice_plant import renditions
+    path = Path(room.path) / "kept" / "film.renditions"
+    renditions.save(path, {"v.m3u8": "2", "a.m3u8": "1"})
+    assert renditions.load(path) == {"v.m3u8": "2", "a.m3u8": "1"} and list(renditions.load(path)) == ["v.m3u8", "a.m3u8"]
+    for text in ("", "[]", "{", '{"renditions": 3}', '{"renditions": [1]}', "[" * 100_000):
+        path.write_text(text)
+        assert renditions.load(path) == {}, text
+    assert renditions.load(None) == {} and renditions.load(path.with_name("none")) == {}
+
+
+def master_of(*names):
+    """A master playlist of variants of these names."""
+    return "#EXTM3U\n" + "".join(f"#EXT-X-STREAM-INF:BANDWIDTH={place + 1}\n{name}/index.m3u8\n" for place, name in enumerate(names))
+
+
+def test_renditions_come_and_go_without_a_new_start(room):
+    controller = room.server(FakeController())
+    for name in ("hd", "sd", "low"):
+        room.write(f"{name}/index.m3u8", listed(0, 5, name=name))
+    room.write("master.m3u8", master_of("hd", "sd"))
+    feed = room.feed("--channel", "film", "--origin", f"{room.path}/master.m3u8", "--base", BASE, "--at", controller.url, "--master", f"{room.path}/viewers.m3u8",
+                     "--keep", f"{room.path}/kept", "--longest-pause", "1")
+    feed.sees("film master - -: 2 renditions are channels, film-1 to film-2")
+    feed.sees("film-2 adsplice 204 -: the list is taken")
+    room.write("master.m3u8", master_of("low", "sd", "hd"))  # in another order, with a new one
+    feed.sees("film master - Changed: film-3 is new; feeds them so once that stays for 5 s", 40)
+    feed.sees("film master - Changes: film-3 is new; the others go on", 20)
+    feed.sees("film-3 adsplice 204 -: the list is taken", 20)
+    with open(f"{room.path}/viewers.m3u8", encoding="utf-8") as it:
+        assert [line for line in it.read().splitlines() if line.startswith("/")] == [f"/channels/film-{it}/live.m3u8" for it in (3, 2, 1)]
+    with controller.lock:
+        made = [path for method, path, _ in controller.asked if method == "PUT" and path.count("/") == 2]
+        first = {path.split("/")[2]: body for method, path, body in reversed(controller.asked) if path.endswith("/origin")}
+    assert set(made) == {f"/channels/film-{it}" for it in (1, 2, 3)} and b"low0.ts" in first["film-3"] and b"hd0.ts" in first["film-1"], (made, first)
+    room.write("hd/index.m3u8", listed(1, 6, name="hd"))
+    until(lambda: any(b"hd6.ts" in it for it in controller.puts("origin")), 5, "a list of film-1")
+
+
+test_renditions_come_and_go_without_a_new_start.needs = ("httpx",)

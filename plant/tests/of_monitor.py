@@ -324,11 +324,49 @@ def test_as_run_line_says_why_a_break_has_no_pod_of_its_own(room):
 
 
 def test_a_fallback_where_nobody_decides_is_usual(room):
-    from adsplice_plant import monitor
+    from adsplice_plant import monitor, watched
     text = (f"[DEFAULT]\nat = http://127.0.0.1:1\nkeep = {room.path}/kept\n[plain]\norigin = /i.m3u8\nbase = http://h/\n[decided]\norigin = /i.m3u8\nbase = http://h/\ndecisions = {room.path}/d\n"
             f"[ladder]\nrenditions = 1 2\norigin = /{{}}.m3u8\nbase = http://h/\ndecisions = {room.path}/{{}}\n")
-    watches = monitor.watches_of(monitor.read_words(["--config", room.write("feed.ini", text), "--as-run", f"{room.path}/as-run.jsonl"]))
+    watches = watched.Watched(monitor.read_words(["--config", room.write("feed.ini", text), "--as-run", f"{room.path}/as-run.jsonl"]), print).all()
     assert {it.name: it.as_run.is_decided for it in watches} == {"plain": False, "decided": True, "ladder-1": True, "ladder-2": True}
+
+
+def test_channels_of_a_master_playlist_are_watched_as_they_come_and_go(room):
+    from adsplice_plant import monitor, watched
+    from adsplice_plant.words import Fault
+    text = (f"[DEFAULT]\nat = http://127.0.0.1:1\nkeep = {room.path}/kept\n[film]\norigin = http://h/master.m3u8\nmaster = {room.path}/film.m3u8\n"
+            f"[plain]\norigin = /i.m3u8\nbase = http://h/\n")
+    path, told = room.write("feed.ini", text), []
+    it = watched.Watched(monitor.read_words(["--config", path]), lambda *said: told.append(said))
+
+    def master(*names):
+        room.write("film.m3u8", "#EXTM3U\n" + "".join(f"#EXT-X-STREAM-INF:BANDWIDTH=1\n/channels/film-{name}/live.m3u8\n" for name in names))
+
+    def look():
+        new = [one.name for one in it.take(it.wanted())]
+        return sorted(one.name for one in it.all()), new, it.programmes["film"]
+
+    assert look() == (["plain"], [], 0)  # (the feed hasn't written it yet)
+    master("1", "2")
+    assert look() == (["film-1", "film-2", "plain"], ["film-1", "film-2"], 2)
+    first = it.watches["film-1"]
+    master("1", "3")
+    gone = it.watches["film-2"]
+    assert look() == (["film-1", "film-3", "plain"], ["film-3"], 2) and gone.is_gone and it.watches["film-1"] is first
+    room.write("feed.ini", text + "[more]\norigin = /i.m3u8\nbase = http://h/\n[wrong]\norigin = /i.m3u8\n")
+    assert look() == (["film-1", "film-3", "more", "plain"], ["more"], 2) and told[-1][0] == "wrong", told
+    os.remove(path)
+    try:
+        it.wanted()
+        raise AssertionError("a file that isn't there")
+    except (Fault, OSError):
+        assert len(it.all()) == 4
+
+
+def test_a_programme_without_a_master_playlist_is_told(room):
+    text = f"[film]\nat = http://127.0.0.1:1\norigin = http://h/master.m3u8\nmaster = {room.path}/film.m3u8\n"
+    status, out, _ = room.run("adsplice-monitor", "--config", room.write("feed.ini", text), "--once")
+    assert status == 2 and out.startswith("# CRITICAL: the programme film has no master playlist yet\n") and 'adsplice_programme_channels{programme="film"} 0.0' in out, out
 
 
 def test_state_of_the_feed_has_figures(room):
@@ -467,7 +505,7 @@ def test_a_break_counts_as_whole_by_any_of_its_files_and_refused_ones_are_named(
     assert "b1 (2.json)" not in room.run("adsplice-monitor", "--reconcile", f"{room.path}/orders", "--as-run", log, "--channel", "news")[1]
 
 
-LEFT_OUT = {"adsplice_ended"}  # figures that the dashboard hasn't: a list that has ended is no fault
+LEFT_OUT = {"adsplice_programme_channels", "adsplice_ended"}  # figures that the dashboard hasn't: a list that has ended is no fault
 
 
 def test_alerts_name_figures_that_there_are_and_the_dashboard_has_each(room):

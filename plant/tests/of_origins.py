@@ -284,7 +284,8 @@ def test_figure_of_the_origin(room):
     from adsplice_plant.watch import Watch
 
     watches = [Watch(name, "", "", None, Kept(Path(name), origin=place)) for name, place in (("one", 0), ("first", 1), ("second", 2))]
-    found = {(it.labels["channel"], it.labels["place"]): it.value for one in Figures(watches, Processes([])).pushes() if one.name == "adsplice_feed_origin" for it in one.samples}
+    watched = type("Watched", (), {"all": lambda _: watches})()
+    found = {(it.labels["channel"], it.labels["place"]): it.value for one in Figures(watched, Processes([])).pushes() if one.name == "adsplice_feed_origin" for it in one.samples}
     assert found == {("first", "first"): 1, ("first", "second"): 0, ("second", "first"): 0, ("second", "second"): 1}
 
 

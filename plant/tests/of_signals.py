@@ -29,7 +29,7 @@ BASE = "http://origin.example/ch/index.m3u8"
 # Samples of the standard (ANSI/SCTE 35, 14.1, 14.2 and 14.4), and what they say of a break.
 SAMPLES = (
     ("FC3034000000000000FFFFF00506FE72BD0050001E021C435545494800008E7FCF0001A599B00808000000002CA0A18A3402009AC9D17E",
-     [Message(Kind.BEGIN, 0x34, 0x4800008E, 307 * SECOND, "000000002CA0A18A")]),
+     [Message(Kind.BEGIN, 0x34, 0x4800008E, 307 * SECOND, "000000002CA0A18A", 2)]),
     ("FC302F000000000000FFFFF014054800008F7FEFFE7369C02EFE0052CCF500000000000A0008435545490000013562DBA30A",
      [Message(Kind.BEGIN, None, 0x4800008F, 5_426_421 * 100_000 // 9)]),
     ("FC3048000000000000FFFFF00506FE7A4D88B60032021743554549480000187F9F0808000000002CCBC344110000021743554549480000197F9F0808000000002CA4DBA01000009972E343",
@@ -51,11 +51,13 @@ def test_messages_of_sections(room):
     assert said(splice_insert(7, False)) == [Message(Kind.END, None, 7)]
     assert said(splice_insert(7, seconds=0)) == [Message(Kind.BEGIN, None, 7)]
     assert said(splice_insert(7, seconds=1.5, components=[1, 2], ticks=5, length=0xFFF)) == [Message(Kind.BEGIN, None, 7, 1_500_000_000)]
+    assert said(splice_insert(7, seconds=0, avail=(2, 3))) == [Message(Kind.BEGIN, None, 7, None, "", 2, 3)]
+    assert said(time_signal(segmentation(7, 0x34, part=(1, 4)))) == [Message(Kind.BEGIN, 0x34, 7, None, "", 1, 4)]
     assert said(splice_insert(7, is_cancelled=True)) == [Message(Kind.CANCEL, None, 7)]
-    assert said(time_signal(segmentation(7, 0x22, 90_000), length=0xFFF)) == [Message(Kind.BEGIN, 0x22, 7, 90_000 * SECOND)]
+    assert said(time_signal(segmentation(7, 0x22, 90_000), length=0xFFF)) == [Message(Kind.BEGIN, 0x22, 7, 90_000 * SECOND, "", 1, 1)]
     assert said(time_signal(segmentation(7, 0x47, components=[1], is_restricted=True))) == [Message(Kind.END, 0x46, 7)]
     assert said(time_signal(segmentation(7, 0x30), segmentation(8, 0x34), segmentation(6, 0x35), segmentation(5, 0x31, is_cancelled=True))) == [
-        Message(Kind.CANCEL, None, 5), Message(Kind.END, 0x34, 6), Message(Kind.BEGIN, 0x34, 8), Message(Kind.BEGIN, 0x30, 7)]
+        Message(Kind.CANCEL, None, 5), Message(Kind.END, 0x34, 6), Message(Kind.BEGIN, 0x34, 8, None, "", 1, 1), Message(Kind.BEGIN, 0x30, 7, None, "", 1, 1)]
     assert said(time_signal(bytes([0, 8, *b"CUEI", 0, 0, 0, 1]), bytes([2, 4, *b"ABCD"]), segmentation(7, 0x50))) == [Message(Kind.OTHER, 0x50, 7)]
     assert [splice.read(digits(section(it, b""))).name() for it in (0, 7, 9)] == ["splice_null", "bandwidth_reservation", "command of type 9"]
     assert Message(Kind.END, 0x34, 7).name() == "Provider Placement Opportunity End" and Message(Kind.OTHER, 0x99, 7).name() == "segmentation type 0x99"
@@ -86,18 +88,20 @@ def test_written_sections_are_read_again(room):
 
 FIELDS = ("scte35.splice_command_type", "scte35_si.event_id", "scte35_si.cancelled", "scte35_si.out_of_net", "scte35_si.break.duration",
           "scte35.splice_descriptor.event_id", "scte35.splice_descriptor.cancel_indicator", "scte35.splice_descriptor.segmentation_duration",
-          "scte35.splice_descriptor.segmentation_type_id", "scte35.splice_descriptor.upid")
+          "scte35.splice_descriptor.segmentation_type_id", "scte35.splice_descriptor.upid", "scte35_si.avail", "scte35_si.avails_expected",
+          "scte35.splice_descriptor.segment_num", "scte35.splice_descriptor.segments_expected")
 
 
 def random_section(source):
     """A section of random fields: a splice_insert, or a time_signal with one segmentation descriptor."""
     components = None if source.random() < 0.7 else [source.randrange(256) for _ in range(source.randrange(1, 4))]
     event, is_cancelled = source.choice((0, 1, 2**32 - 1, source.randrange(2**32))), source.random() < 0.1
+    part = source.choice(((0, 0), (1, 3), (source.randrange(256), source.randrange(256))))
     if source.random() < 0.5:
         seconds = source.choice((None, 0, 10, source.randrange(90_000)))
-        return splice_insert(event, source.random() < 0.5, seconds, source.choice((None, 1, 2**33 - 1)), is_cancelled, source.random() < 0.5, components)
+        return splice_insert(event, source.random() < 0.5, seconds, source.choice((None, 1, 2**33 - 1)), is_cancelled, source.random() < 0.5, components, avail=part)
     seconds, upid = source.choice((None, 0, 30, source.randrange(2**23))), bytes(source.choice(b"ABCxyz09") for _ in range(source.randrange(20)))
-    return time_signal(segmentation(event, source.randrange(256), seconds, source.choice((1, 8)), upid, is_cancelled, components, source.random() < 0.5),
+    return time_signal(segmentation(event, source.randrange(256), seconds, source.choice((1, 8)), upid, is_cancelled, components, source.random() < 0.5, part),
                        ticks=source.choice((None, 5)))
 
 
@@ -112,17 +116,18 @@ def told_by_tshark(room, sections):
 
 def owed_by_tshark(values):
     """The message of a section of which tshark says these values."""
-    command, event, cancelled, out, ticks, event_2, cancelled_2, ticks_2, kind, upid = values
+    command, event, cancelled, out, ticks, event_2, cancelled_2, ticks_2, kind, upid, *parts = values
+    avail, avails, part, parts = (int(it or "0", 0) for it in parts)
     if command == "0x05":
         is_out = out in ("1", "True")
         duration = int(ticks or "0", 0) * 100_000 // 9 if is_out else 0
-        said = Message(Kind.BEGIN if is_out else Kind.END, None, int(event, 16), duration or None)
+        said = Message(Kind.BEGIN if is_out else Kind.END, None, int(event, 16), duration or None, "", avail, avails)
         return Message(Kind.CANCEL, None, int(event, 16)) if cancelled in ("1", "True") else said
     if cancelled_2 in ("1", "True"):
         return Message(Kind.CANCEL, None, int(event_2, 16))
     kind, upid = int(kind, 16), upid.encode().hex().upper()
     if kind in splice.SPANS:
-        return Message(Kind.BEGIN, kind, int(event_2, 16), (int(ticks_2 or "0", 0) * 100_000 // 9) or None, upid)
+        return Message(Kind.BEGIN, kind, int(event_2, 16), (int(ticks_2 or "0", 0) * 100_000 // 9) or None, upid, part, parts)
     return Message(Kind.END, kind - 1, int(event_2, 16), None, upid) if kind - 1 in splice.SPANS else Message(Kind.OTHER, kind, int(event_2, 16), None, upid)
 
 

@@ -12,7 +12,7 @@ sys.path.insert(0, PLANT)
 import simulated  # noqa: E402
 from adsplice_rules.edge import Edge, Request  # noqa: E402
 from simulation.controller import Controller  # noqa: E402
-from simulation.named import ALONE, CALM, NAMED, UNDECIDED, of  # noqa: E402
+from simulation.named import ALONE, CALM, LONG, NAMED, UNDECIDED, of  # noqa: E402
 from simulation.packager import BASE, Packager  # noqa: E402
 from simulation.plan import Fault, draw  # noqa: E402
 from simulation.viewers import Ads, Viewers  # noqa: E402
@@ -112,6 +112,12 @@ def test_breaks_of_a_calm_day_are_filled(room):
     assert not world.found and (world.tally["breaks"], world.tally["own pods"]) == (3, 3), (world.found, world.tally)
     world = simulated.play(of(*UNDECIDED))
     assert not world.found and (world.tally["filled"], world.tally["own pods"]) == (3, 0), (world.found, world.tally)
+
+
+def test_a_picture_is_given_at_its_own_pace_beside_sound_in_longer_segments(room):
+    world = simulated.play(LONG, True)
+    lists = {name: sum(f" p-{name} PUSH" in line for line in world.log) for name in LONG.names}
+    assert not world.found and lists["v"] >= 1.9 * lists["a"], (world.found, lists)
 
 
 def test_faults_are_left_out_one_by_one(room):

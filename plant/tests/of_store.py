@@ -40,9 +40,9 @@ from adsplice_rules.channel import Channel, decide, refreshed, written  # noqa: 
 
 NEEDS = ()
 ENDS = {  # what ends with a process, by the class whose member it is
-    "State": {"in_step_since", "waits_until", "longest_pause"}, "Rendition": {"settings", "came", "reach", "older", "came_at", "is_new", "seen_at", "is_other"},
-    "Controller": {"sent", "trials", "retry_at", "is_unseen"},
-    "Repairer": {"siblings", "accepted", "held_since"}, "File": {"since"}, "Breaks": {"told", "recent"}, "Decided": {"tells"}}
+    "State": {"in_step_since", "waits_until", "longest_pause", "is_behind"}, "Rendition": {"settings", "came", "reach", "older", "came_at", "is_new", "seen_at", "is_other", "slate"},
+    "Controller": {"sent", "trials", "retry_at", "is_unseen", "dropped_at"},
+    "Repairer": {"siblings", "accepted", "held_since"}, "File": {"since", "looked_at", "is_there"}, "Breaks": {"told", "recent"}, "Decided": {"tells"}}
 
 
 # ---- states, as a feed makes them
@@ -254,7 +254,7 @@ def members(state):
     files = {"one.json": File(stamps, bodies, "breaks", ("b1", "b\ud800"), since=5.0), "two.json": File(stamps, bodies, "", (), FileState.REFUSED, entry=3),
              "three.json": File(stamps, bodies, "breaks", ("b2",), FileState.GIVEN, frozenset({"b2"}), frozenset({"b2"}), entry=4)}
     decisions = (Decided(2, bodies, "breaks", ("b1",), "one.json", True), Decided(4, {channels[0]: b"{}"}, "fallback", ()))
-    renditions = {name: dataclasses.replace(it, fallback=b"\x00\xff", is_blocked=True, controller=Controller(Way.MADE, 4, 3, 99, reached=98, ahead=(7, -2), first=(b"{}", b"\xc3"), anew=1, led=2, unfit=2)) for name, it in state.renditions.items()}
+    renditions = {name: dataclasses.replace(it, fallback=b"\x00\xff", is_blocked=True, controller=Controller(Way.MADE, 4, 3, 99, reached=98, ahead=(7, -2), first=(b"{}", b"\xc3"), anew=1, led=2, unfit=2, refused=5)) for name, it in state.renditions.items()}
     removed = {"four.json": Removed(("b3",), ("b4",), bodies, "the file was removed", True)}
     return dataclasses.replace(state, renditions=renditions, files=files, decisions=decisions, removed=removed, asked={"b1": 8.0, "b9": 9.0}, over=("b0", "b00"), equal_after=12,
                                fallback={channels[0]: b"{}\xff"}, is_apart=frozenset(channels[:1]), in_step_since=3.0)
@@ -295,8 +295,8 @@ def crowded():
         {"a": Mark(8, "8.ts", 48)}, {"a": 6}, {"a": {"b1": {"SCTE35-OUT"}}}, {"a": {"b1": 6}}, {"a": {"b1": [6, None]}}, {"EXT-X-AD"})
     translator.breaks = copy.copy(one.translator.breaks)
     breaks = translator.breaks
-    breaks.known, breaks.cancelled, breaks.is_first, breaks.clock = [Break("b1", 6, 7, "a splice", 52, 9, "upid", 3, 9, False, True, True, 8, ",X=1", True, 6, 4)], {"b3"}, False, 106
-    return dataclasses.replace(one, renditions=renditions, translator=translator, entry=9)
+    breaks.known, breaks.cancelled, breaks.is_first, breaks.clock = [Break("b1", 6, 7, "a splice", 52, 9, "upid", 3, 9, False, True, True, 8, ",X=1", True, 6, 4, 1, 2)], {"b3"}, False, 106
+    return dataclasses.replace(one, renditions=renditions, translator=translator, entry=9, life="one")
 
 
 def crowded_alone():

@@ -51,8 +51,9 @@ def splice_time(ticks):
     return (Fields().put(0, 1).put(127, 7) if ticks is None else Fields().put(1, 1).put(63, 6).put(ticks, 33)).bytes()
 
 
-def splice_insert(event, is_out=True, seconds=None, ticks=None, is_cancelled=False, is_immediate=False, components=None, descriptors=b"", length=None):
-    """9.7.3: a splice_insert. `components`: their tags, in place of the whole program."""
+def splice_insert(event, is_out=True, seconds=None, ticks=None, is_cancelled=False, is_immediate=False, components=None, descriptors=b"", length=None,
+                  avail=(0, 0)):
+    """9.7.3: a splice_insert. `components`: their tags, in place of the whole program. `avail`: avail_num and avails_expected."""
     it = Fields().put(event, 32).put(int(is_cancelled), 1).put(127, 7)
     if not is_cancelled:
         it.put(int(is_out), 1).put(int(components is None), 1).put(int(seconds is not None), 1).put(int(is_immediate), 1).put(15, 4)
@@ -64,12 +65,12 @@ def splice_insert(event, is_out=True, seconds=None, ticks=None, is_cancelled=Fal
                 it.put(tag, 8).raw(b"" if is_immediate else splice_time(ticks))
         if seconds is not None:
             it.put(1, 1).put(63, 6).put(round(seconds * 90_000), 33)
-        it.put(0, 16).put(0, 8).put(0, 8)
+        it.put(0, 16).put(avail[0], 8).put(avail[1], 8)
     return section(5, it.bytes(), descriptors, length=length)
 
 
-def segmentation(event, kind, seconds=None, upid_type=0, upid=b"", is_cancelled=False, components=None, is_restricted=False):
-    """10.3.3: a segmentation_descriptor of the segmentation type `kind`."""
+def segmentation(event, kind, seconds=None, upid_type=0, upid=b"", is_cancelled=False, components=None, is_restricted=False, part=(1, 1)):
+    """10.3.3: a segmentation_descriptor of the segmentation type `kind`. `part`: segment_num and segments_expected."""
     it = Fields().put(CUEI, 32).put(event, 32).put(int(is_cancelled), 1).put(127, 7)
     if not is_cancelled:
         it.put(int(components is None), 1).put(int(seconds is not None), 1).put(int(not is_restricted), 1).put(0b10111 if is_restricted else 31, 5)
@@ -79,7 +80,7 @@ def segmentation(event, kind, seconds=None, upid_type=0, upid=b"", is_cancelled=
                 it.put(tag, 8).put(127, 7).put(90_000, 33)
         if seconds is not None:
             it.put(round(seconds * 90_000), 40)
-        it.put(upid_type, 8).put(len(upid), 8).raw(upid).put(kind, 8).put(1, 8).put(1, 8)
+        it.put(upid_type, 8).put(len(upid), 8).raw(upid).put(kind, 8).put(part[0], 8).put(part[1], 8)
     return bytes([2, len(it.bytes())]) + it.bytes()
 
 

@@ -22,6 +22,7 @@ HERE = os.path.dirname(os.path.abspath(__file__))
 sys.path[:0] = [HERE, os.path.dirname(HERE)]
 
 from simulation.controller import Controller  # noqa: E402
+from simulation.group import GroupWorld, draw_group  # noqa: E402
 from simulation.named import NAMED  # noqa: E402
 from simulation.plan import Plan, draw  # noqa: E402
 from simulation.viewers import Breach  # noqa: E402
@@ -30,12 +31,17 @@ from simulation.world import RulesController, World  # noqa: E402
 MOST_SEEDS = 6  # that are printed for a kind
 
 
-WAYS = {"is_by_rules": False, "has_text": True}  # how all days are played
+WAYS = {"is_by_rules": False, "has_text": True, "is_group": False}  # how all days are played
+
+
+def drawn(seed: int, each: float) -> Plan:
+    """The plan of a seed, of one machine or of several."""
+    return draw_group(seed, each) if WAYS["is_group"] else draw(seed, each)
 
 
 def play(plan: Plan, is_loud: bool = False) -> World:
     """Plays the day of a `plan`; the world at its end, with its breaches in `found`. What the feed raises is a breach, too."""
-    world = World(plan, RulesController if WAYS["is_by_rules"] else Controller, is_loud, WAYS["has_text"])
+    world = (GroupWorld if WAYS["is_group"] else World)(plan, RulesController if WAYS["is_by_rules"] else Controller, is_loud, WAYS["has_text"])
     try:
         world.found = world.run()
     except Exception as fault:  # noqa: BLE001
@@ -103,7 +109,7 @@ def tell_days(said: argparse.Namespace) -> bool:
     """Plays days, and prints what they broke; whether they broke nothing."""
     begun, seed, total, seeds, hours = time.process_time(), said.seed, Counter[str](), dict[str, list[int]](), 0.0
     while (time.process_time() - begun < said.seconds) if said.count is None else seed < said.seed + said.count:
-        plan = draw(seed, said.each)
+        plan = drawn(seed, said.each)
         world = play(plan)
         for kind in {it.kind for it in world.found}:
             seeds.setdefault(kind, []).append(seed)
@@ -146,14 +152,15 @@ def main(words: list[str]) -> int:
     it.add_argument("--loud", action="store_true", help="with --shrink: all that happens")
     it.add_argument("--kind", default="", help="with --shrink: of the breach")
     it.add_argument("--copies", action="store_true", help="the feed's log keeps copies of states, and no text")
+    it.add_argument("--group", action="store_true", help="three machines that have a store in common, with its faults and theirs")
     said = it.parse_args(words)
-    WAYS.update(is_by_rules=said.rules, has_text=not said.copies)
+    WAYS.update(is_by_rules=said.rules, has_text=not said.copies, is_group=said.group)
     if said.named is not None:
         return 0 if tell_named(said.named) else 1
     if said.play is not None:
-        return 0 if tell_day(draw(said.play, said.each)) else 1
+        return 0 if tell_day(drawn(said.play, said.each)) else 1
     if said.shrink is not None:
-        return 0 if tell_shrunk(draw(said.shrink, said.each), said.loud, said.kind) else 1
+        return 0 if tell_shrunk(drawn(said.shrink, said.each), said.loud, said.kind) else 1
     return 0 if tell_days(said) else 1
 
 

@@ -85,7 +85,7 @@ class FakeServer:
                     return
                 outer.write(self, *said)
 
-            do_GET = do_PUT = do_POST = do_DELETE = handle_any
+            do_GET = do_PUT = do_POST = do_DELETE = do_HEAD = handle_any
 
             def log_message(self, *_):
                 pass
@@ -110,7 +110,8 @@ class FakeServer:
         if "Content-Length" not in fields and status not in (204, 304):
             handler.send_header("Content-Length", str(len(body)))
         handler.end_headers()
-        handler.wfile.write(body)
+        if handler.command != "HEAD":
+            handler.wfile.write(body)
 
     def count(self, method, path):
         """How often it was asked so."""

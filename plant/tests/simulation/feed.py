@@ -13,7 +13,7 @@ from adsplice_plant.events import (Answered, Ask, AskedInVain, Began, FallbackRe
 from adsplice_plant.inbox import Inbox
 from adsplice_plant.location import Url
 from adsplice_plant.settings import Settings
-from adsplice_plant.state import State, begin
+from adsplice_plant.state import State, begin, with_renditions
 
 from .packager import BASE
 from .plan import Plan
@@ -82,7 +82,7 @@ class Log:
     def write(self, state: State) -> None:
         """Keeps a state."""
         known = known_of(state, self.known)
-        if self.known is None or self.lines >= store.MOST_LINES:
+        if self.known is None or self.lines >= store.MOST_LINES or self.known.state.renditions.keys() != state.renditions.keys():
             self.text, self.lines = store.whole(known), 0
         else:
             self.lines += 1
@@ -119,7 +119,8 @@ class Feed:
     """The feed of a `plan` in a `world`. `log`: what it keeps; `entry`: the number of the newest entry there."""
 
     def __init__(self, plan: Plan, world: World, log: Log | Copies) -> None:
-        self.plan, self.world, self.settings, self.log = plan, world, settings_of(plan), log
+        self.plan, self.world, self.log = plan, world, log
+        self.settings = [it for it in settings_of(plan) if it.rendition() not in dict(plan.later)]
         self.state: State = begin(self.settings, SECOND // 10)
         self.entry = 0
         self.is_up, self.life = False, 0
@@ -153,11 +154,23 @@ class Feed:
         self.world.ended()
         self.world.later(self.away, self.start)
 
+    def join(self, name: str) -> None:
+        """The rendition `name` is one of the programme's from now on."""
+        self.world.say(f"{name} joins")
+        known = {it.rendition() for it in self.settings} | {name}
+        self.settings = [it for it in settings_of(self.plan) if it.rendition() in known]
+        self.life, self.inbox = self.life + 1, Inbox()
+        self.sent.clear()
+        self.tick_at = None
+        self.state = with_renditions(self.state, begin(self.settings, SECOND // 10))
+        self.give(Began())
+        self.world.begun()
+
     # ---- events
 
     def give(self, event: Any) -> None:
         """Takes an event in, as soon as the store has what came before."""
-        if not self.is_up:
+        if not self.is_up or getattr(event, "channel", self.settings[0].name) not in self.state.renditions:
             return
         self.inbox.post(event)
         if not self.is_busy:

@@ -9,6 +9,7 @@ LENGTH = 130.0
 BREAKS = (Span("b0", 30_000, 42_000, 42_000, 4000, 5000), Span("b1", 60_000, 70_000, 72_000, 4000, 5000), Span("b2", 96_000, 108_000, 108_000, 2000, 5000))
 CALM = Plan(0, ("v", "a"), LENGTH, window=6, speakers=("v", "a"), breaks=BREAKS)
 ALONE = replace(CALM, names=("v",), speakers=("v",))
+LONG = replace(CALM, long=("a",))
 UNDECIDED = tuple(Fault(0.1, "no decision") for _ in BREAKS)  # the fallback fills all breaks
 
 
@@ -73,6 +74,20 @@ NAMED: dict[str, Plan] = {
         *UNDECIDED, *killed_within(46.0), *killed_within(80.0), plan=replace(CALM, style="endless cues", asks=True)),
     "a break's ID comes again": of(plan=replace(CALM, breaks=(BREAKS[0], BREAKS[1], BREAKS[2]._replace(name="b0")))),
     "packagers number their lists each by its own": of(*killed_within(), plan=replace(CALM, in_step=False)),
+    "sound has segments twice as long": of(plan=LONG),
+    "sound has segments twice as long, and the fallback fills all breaks": of(*UNDECIDED, plan=LONG),
+    "sound has segments twice as long, cut elsewhere": of(plan=replace(LONG, cuts=700)),
+    "sound has segments twice as long, and the picture alone has cues": of(plan=replace(LONG, style="cues", speakers=("v",), asks=True)),
+    "sound has segments twice as long, and the controllers are killed within a break": of(*killed_within(), plan=LONG),
+    "sound has segments twice as long, and packagers begin again": of(Fault(46.0, "begins again", ALL, 2), plan=LONG),
+    "sound has segments twice as long, and begins again": of(Fault(46.0, "begins again", "a", 2), plan=LONG),
+    "sound has segments twice as long, and the clock goes back within a break": of(Fault(35.0, "packager's clock", ALL, -180.0), plan=LONG),
+    "sound has segments twice as long, and stands still for long": of(Fault(45.0, "stands still", "a", 40.0), plan=LONG),
+    "the picture has segments twice as long": of(plan=replace(CALM, long=("v",))),
+    "a rendition comes later than the others": of(plan=replace(CALM, later=(("a", 50.0),))),
+    "a rendition comes while the others show a break": of(plan=replace(CALM, later=(("a", 36.0),))),
+    "a rendition of longer segments comes later than the others": of(plan=replace(LONG, later=(("a", 76.3),))),
+    "a rendition comes later than the others, and the controllers are killed": of(*killed_within(65.0), plan=replace(CALM, later=(("a", 50.0),))),
     **{f"the feed is killed after {count} actions of a step{where}": of(Fault(at, "feed ended", ALL, 0.5, count), Fault(at + 8, "feed ended", ALL, 2.0, count))
        for count in range(7) for at, where in ((28.3, " where a break begins"), (48.9, ""))},
 }

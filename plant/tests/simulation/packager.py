@@ -48,7 +48,7 @@ class Packager:
     def __init__(self, plan: Plan, name: str) -> None:
         self.plan, self.name = plan, name
         self.shift = plan.cuts if name == "a" else 0
-        self.speaks = name in plan.speakers
+        self.speaks, self.length = name in plan.speakers, plan.target * plan.times(name)
         self.next = -plan.window - 1  # the number of the next cut of the programme
         self.run = 0  # how often it began
         self.base = 7 if plan.in_step else 7 + 3 * plan.names.index(name)  # its first media number
@@ -64,14 +64,14 @@ class Packager:
 
     def cut_at(self, number: int) -> int:
         """Where the programme is cut for the `number`th time."""
-        at = number * self.plan.target
+        at = number * self.length
         if self.shift >= 0:
             return at + self.shift
         return -(-at * FRAMES[1] // FRAMES[0]) * FRAMES[0] // FRAMES[1]
 
     def tags(self, begin: int) -> tuple[str, int]:
         """The tags of the segment that begins there, and its discontinuities."""
-        half, found, steps = self.plan.target // 2, "", 0
+        half, found, steps = self.length // 2, "", 0
         for it in self.plan.breaks:
             if begin < it.start - half or begin > it.planned + half:
                 continue
@@ -109,7 +109,7 @@ class Packager:
 
     def begin_again(self, now: int, seconds: float) -> None:
         """It begins again, and is away for so many seconds."""
-        self.run, self.away_until = self.run + 1, now + round(seconds * 1000) - self.plan.target
+        self.run, self.away_until = self.run + 1, now + round(seconds * 1000) - self.length
         self.cuts.clear()
         self.gone, self.gone_steps, self.base = 0, 0, 0
         self.still_until = self.lag_until = 0
@@ -131,7 +131,7 @@ class Packager:
         if not self.cuts:
             return None
         steps = [f"#EXT-X-DISCONTINUITY-SEQUENCE:{self.gone_steps}"] if self.gone_steps else []
-        head = ["#EXTM3U", "#EXT-X-VERSION:3", f"#EXT-X-TARGETDURATION:{-(-self.plan.target // 1000)}", f"#EXT-X-MEDIA-SEQUENCE:{self.base + self.gone}", *steps]
+        head = ["#EXTM3U", "#EXT-X-VERSION:3", f"#EXT-X-TARGETDURATION:{-(-self.length // 1000)}", f"#EXT-X-MEDIA-SEQUENCE:{self.base + self.gone}", *steps]
         text = "\n".join([*head, *self.ranges(), *(it.text for it in self.cuts), ""])
         if self.spelled == 1:
             self.token += 1

@@ -42,7 +42,8 @@ class Plan:
     """A day of `length` seconds with the renditions `names`, the first of which is the picture. `target`: milliseconds of a segment; `window`:
     segments of a list; `cuts`: where the sound is cut (milliseconds of its shift, or -1: at frames); `style` of the signals; `speakers`:
     who signals; `processes`: whether each rendition has a controller of its own; `has_fallback`; `asks`: whether decisions are asked for;
-    `marks`: whether the packager has discontinuities where breaks begin and end; `in_step`: whether they number alike."""
+    `marks`: whether the packager has discontinuities where breaks begin and end; `in_step`: whether they number alike; `long`: the renditions whose
+    segments are twice as long; `later`: those that the feed reads from a moment on, in seconds."""
 
     seed: int
     names: tuple[str, ...] = ("v", "a")
@@ -57,8 +58,14 @@ class Plan:
     asks: bool = False
     marks: bool = False
     in_step: bool = True
+    long: tuple[str, ...] = ()
+    later: tuple[tuple[str, float], ...] = ()
     breaks: tuple[Span, ...] = ()
     faults: tuple[Fault, ...] = field(default=())
+
+    def times(self, name: str) -> int:
+        """How many times the target a segment of the rendition `name` lasts."""
+        return 2 if name in self.long else 1
 
     def channel(self, name: str) -> str:
         """The name of the channel of the rendition `name`."""
@@ -67,6 +74,7 @@ class Plan:
 
 SPELLED = 1_000_000  # from this seed on packagers spell their segments otherwise in each list, in one of so many ways:
 WAYS = 6
+LONGER = 2_000_000  # from this seed on sound, if there is some, has segments twice as long; packagers spell as they do before SPELLED
 STYLES = ("cues", "cues", "endless cues", "ranges", "ranges")
 
 
@@ -136,6 +144,8 @@ def draw(seed: int, each: float = 20.0) -> Plan:
     plan = Plan(seed, names, length, target, dice.choice((6, 8, 12)), dice.choice((0, 0, 20, 700, -1)), style, speakers, dice.random() < 0.5,
                 dice.random() < 0.7, asks, dice.random() < 0.3, dice.random() < 0.8)
     breaks, faults = breaks_of(dice, length, target), faults_of(dice, length, names, each)
+    if seed >= LONGER:
+        return Plan(**{**vars(plan), "breaks": breaks, "faults": faults, "long": tuple(it for it in names if it == "a")})
     if seed >= SPELLED:
         others = [it for it in faults if it.kind != "spelled otherwise"]
         faults = tuple(sorted([Fault(round(dice.uniform(1, 60), 2), "spelled otherwise", ALL, 0.0, seed % WAYS + 1), *others]))

@@ -102,7 +102,8 @@ class Viewers:
 
     def numbers(self) -> dict[int, tuple[int, int]]:
         """The media number and the discontinuity number of each cut of the programme, whosever segment that was."""
-        return {cut_of(path): (number, self.ledger[number][1]) for path, number in self.seen.items()}
+        times = self.plan.times(self.packager.name)
+        return {times * cut_of(path): (number, self.ledger[number][1]) for path, number in self.seen.items()}
 
     # ---- pods
 
@@ -138,7 +139,7 @@ class Viewers:
         after = self.plan.breaks[self.since[-1].place].end if self.since and self.since[-1].place >= 0 else self.reached
         next_one = next((it.begin for it in self.between(after, after + MOST_AWAY) if self.was_read(it)), after)  # (what lies before that is nobody's)
         near = [(it.name != name, order, abs(it.start - at), place) for order, at in enumerate((after, next_one)) for place, it in enumerate(self.plan.breaks)
-                if abs(it.start - at) <= self.plan.target // 2 + NEAR]
+                if abs(it.start - at) <= self.packager.length // 2 + NEAR]
         return min(near)[-1] if near else -1
 
     def was_read(self, it: Cut) -> bool:
@@ -189,7 +190,7 @@ class Viewers:
         for pod in self.since:
             if pod.place >= 0:
                 one = self.plan.breaks[pod.place]
-                if one.start - self.plan.target // 2 - NEAR <= begin < self.end_of(one, pod) - TOLERANCE + NEAR:
+                if one.start - self.packager.length // 2 - NEAR <= begin < self.end_of(one, pod) + self.packager.length // 2 - self.plan.target // 2 - TOLERANCE + NEAR:
                     return True
         return False
 

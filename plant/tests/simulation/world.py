@@ -106,6 +106,7 @@ class World:
         self.spoil: deque[Fault] = deque()  # what happens to the decisions that come next
         self.decided: dict[str, str] = {}  # the ID of a break of the programme's, by its name
         self.asked: dict[str, str] = {}
+        self.vain: set[str] = set()  # the IDs of breaks that were answered without ads
         self.feed = Feed(plan, self, Log() if has_text else Copies())
 
     # ---- time
@@ -161,6 +162,8 @@ class World:
             self.at((it.start - it.ahead) / 1000, self.decide, it.name, it.name)
         for fault in self.plan.faults:
             self.at(fault.at, self.happen, fault)
+        for name, when in self.plan.later:
+            self.at(when, self.feed.join, name)
         self.feed.start()
         self.go_on(self.plan.length)
         if not self.breaches and self.apart():
@@ -183,13 +186,15 @@ class World:
 
     def apart(self) -> list[Breach]:
         """Whether the renditions' numbers of the newest cut that all have aren't equal."""
-        known = [it.numbers() for it in self.viewers.values()]
-        common = set.intersection(*(set(it) for it in known))
-        last = [it[max(common)] for it in known] if common else []
-        kinds = [kind for place, kind in enumerate(("media numbers apart", "discontinuity numbers apart")) if len({it[place] for it in last}) > 1]
+        known = {name: it.numbers() for name, it in self.viewers.items()}
+        common = set.intersection(*(set(it) for it in known.values()))
+        last = {name: it[max(common)] for name, it in known.items()} if common else {}
+        alike = [{last[name][0] for name in last if (name in self.plan.long) == is_long} for is_long in (False, True)]
+        kinds = ["media numbers apart"] if any(len(it) > 1 for it in alike) else []
+        kinds += ["discontinuity numbers apart"] if len({it[1] for it in last.values()}) > 1 else []
         if kinds and kinds[0].startswith("media") and any(self.lacks_cut(it) for it in self.viewers.values()):
             kinds.pop(0)  # (nobody had what lacks there, so that its numbers are fewer)
-        return [Breach(kinds[0], self.now, "", f"of the cut {max(common)}: {last}")] if kinds else []
+        return [Breach(kinds[0], self.now, "", f"of the cut {max(common)}: {[*last.values()]}")] if kinds else []
 
     def lacks_cut(self, viewers: Viewers) -> bool:
         """Whether a rendition lacks a cut that the feed never read in its lists, and in those of no other rendition until its viewers came past it."""
@@ -219,14 +224,17 @@ class World:
         return found
 
     def came_in_time(self, one: Span) -> bool:
-        """Whether the feed read the begin of a break in all renditions within 2 target durations."""
-        begins = []
+        """Whether the feed read the begin of a break in all renditions within 2 target durations. One that came later than the others begins after a break
+        that they show."""
+        begins: list[float] = []
+        if any(when * 1000 >= one.start for _, when in self.plan.later):
+            return False
         for name, it in self.packagers.items():
-            near = next((cut for cut in it.all if -self.plan.target // 2 < cut.begin - one.start <= self.plan.target // 2), None)
+            near = next((cut for cut in it.all if -it.length // 2 < cut.begin - one.start <= it.length // 2), None)
             if near is None or (at := self.read[name].get(f"{BASE}/{name}/{near.uri}")) is None:
                 return False
             begins.append(at)
-        return max(begins) - min(begins) <= 1.5 * self.plan.target / 1000
+        return max(begins) - min(begins) <= 1.5 * self.plan.target * max(map(self.plan.times, self.plan.names)) / 1000
 
     # ---- origins
 
@@ -267,8 +275,9 @@ class World:
     def kept(self, state: State) -> None:
         """The store has the `state`: what its lists have of what was read so far stays read, whatever happens to the feed."""
         if self.unkept:
-            there = {name: {plain(it.uri, name) for it in state.renditions[self.plan.channel(name)].stands.repairer.last} for name in self.plan.names}
-            self.unkept = [(name, uri) for name, uri in self.unkept if uri not in there[name]]
+            there = {name: {plain(it.uri, name) for it in state.renditions[channel].stands.repairer.last}
+                     for name in self.plan.names if (channel := self.plan.channel(name)) in state.renditions}
+            self.unkept = [(name, uri) for name, uri in self.unkept if uri not in there.get(name, ())]
 
     def ended(self) -> None:
         """The feed ended: what it read since it kept something is forgotten."""
@@ -363,6 +372,13 @@ class World:
                 self.asked[one.id] = name
                 self.say(f"asked for {one.id} ({name})")
                 self.later(self.dice("answer", one.id).uniform(0.02, 0.4), self.decide, name or "none", one.id)
+            elif one.id in self.vain:  # (it was answered so, and isn't asked again)
+                self.later(0.01, self.in_vain, one.id)
+
+    def in_vain(self, id_: str) -> None:
+        """There are no ads for the break that the feed knows as `id_`."""
+        self.vain.add(id_)
+        self.feed.give(AskedInVain(id_))
 
     def name_of(self, one: Any) -> str:
         """Which break of the programme a break of the feed's is."""
@@ -377,7 +393,7 @@ class World:
     def decide(self, name: str, id_: str, version: int = 0) -> None:
         """The break `name`, which the feed knows as `id_`, is decided."""
         if not name or name == "none":
-            self.feed.give(AskedInVain(id_))
+            self.in_vain(id_)
             return
         spoil = self.spoil.popleft() if self.spoil and not version else None
         kind, size = (spoil.kind, spoil.size) if spoil else ("", 0.0)
@@ -385,7 +401,7 @@ class World:
             self.later(size, self.decide, name, id_, 1)
             return
         if kind == "no decision":
-            self.feed.give(AskedInVain(id_))
+            self.in_vain(id_)
             return
         bodies = {it: self.pod(it, name, id_, version, spoil.number if spoil and kind == "decision wrong" else -1) for it in self.plan.names}
         self.say(f"decides {id_} ({name}) {kind} {size or ''}")
@@ -424,7 +440,9 @@ class World:
         return {0: said.replace(b"http://", b"ftp://"), 1: said.replace(b'"duration": "', b'"duration": "x'), 2: said[:-3]}[wrong] if is_wrong else said
 
     def ads_of(self, rendition: str, name: str, version: str, lengths: list[list[int]]) -> list[dict[str, Any]]:
-        """The ads of a pod whose segments have these lengths in milliseconds."""
+        """The ads of a pod whose segments have these lengths in milliseconds; in a rendition with longer ones those of two and two together."""
+        times = self.plan.times(rendition)
+        lengths = [[sum(ad[place:place + times]) for place in range(0, len(ad), times)] for ad in lengths]
         found = [{"segments": [{"uri": f"{ADS}{rendition}/{name}/{version}/{place}-{number}.ts", "duration": str(one / 1000)} for number, one in enumerate(ad)]}
                  for place, ad in enumerate(lengths)]
         key = rendition, name, version
