@@ -140,11 +140,7 @@ class Repairer:
         kinds |= {kind: "" for name, kind in NOTED.items() if name in found.others}
         said = growth.head_of(found)
         counted = (found.discontinuity_sequence, [it.discontinuities for it in found.segments])
-        drop_gaps(found, kinds)
-        drop_twice(found, kinds)
-        if self.grows and not found.is_ended and len(found.segments) > 1:
-            kinds["growing"] = ""
-            found.segments.pop()
+        self.drop(found, kinds)
         if not found.segments:
             return Repaired(why=repairs.EMPTY)
         is_timed = any(it.stated is not None for it in found.segments)
@@ -176,6 +172,14 @@ class Repairer:
         self.tell_numbers(found, counted, kinds)
         accepted = None if steps or lead or front else growth.accepted_of(body, said, found, counted[1], kinds)
         return Repaired(found, head, None if kinds else body, kinds, steps=steps, lead=lead, front=front, accepted=accepted)
+
+    def drop(self, found: PackagedList, kinds: dict[str, str]) -> None:
+        """Takes out of the list `found` what isn't pushed: gaps, a segment's second entry, and a newest segment that grows."""
+        drop_gaps(found, kinds)
+        drop_twice(found, kinds)
+        if self.grows and not found.is_ended and len(found.segments) > 1:
+            kinds["growing"] = ""
+            found.segments.pop()
 
     def grow(self, body: bytes) -> Repaired | None:
         """What is to be pushed of the list `body` if its text goes on from the last one's; none if it has to be read as a whole."""

@@ -210,35 +210,47 @@ def day_of(rng, count):
     return sold, items + [(f"t{k}.ts", 2.0, None) for k in range(20)]
 
 
-def test_a_thousand_breaks_of_a_day_are_reconciled_to_the_second(room):
-    rng = random.Random(11)
-    sold, items = day_of(rng, 1000)
-    kept, log = Kept(Path("none")), as_run.Log(Path(room.path) / "as-run.jsonl")
-    kept.pods = {name: pod_of(its) for name, its in sold.items()}
-    run = as_run.AsRun("news", log)
-    begins, at = [], 1_714_564_800.0
-    for _, length, _ in items:
+def begins_of(items):
+    """The instant at which each of `items` begins, in seconds, and that at which each break's first segment does."""
+    begins, starts, at = [], {}, 1_714_564_800.0
+    for _, length, name in items:
         begins.append(at)
-        at += length
-    starts = {}
-    for (_, _, name), begin in zip(items, begins):
         if name is not None:
-            starts.setdefault(name, begin)
-    skipped, seen, window = set(), set(), 6
-    for last in range(window, len(items) + 1):
+            starts.setdefault(name, at)
+        at += length
+    return begins, starts
+
+
+def looks(rng, count, window=6):
+    """The ends of the lists of `count` items at which a monitor looks; now and then it misses some."""
+    skipped = set()
+    for last in range(window, count + 1):
         if last % 97 == 0:
-            skipped = set(range(last, last + rng.randrange(0, 12)))  # (the monitor doesn't look for a while)
-        if last in skipped:
-            continue
+            skipped = set(range(last, last + rng.randrange(0, 12)))
+        if last not in skipped:
+            yield last
+
+
+def watched_day(room, rng, sold, items, window=6):
+    """The as-run log of a day, and the places of `items` that stood in a list at which the monitor looked."""
+    kept = Kept(Path("none"))
+    kept.pods = {name: pod_of(its) for name, its in sold.items()}
+    run, seen = as_run.AsRun("news", as_run.Log(Path(room.path) / "as-run.jsonl")), set()
+    begins, starts = begins_of(items)
+    for last in looks(rng, len(items), window):
         low = last - window
         its = [playlist.Segment(n, items[n][0], round(items[n][1] * 10**9), round(begins[n] * 10**9), items[n][2] is None) for n in range(low, last)]
         names = {items[n][2] for n in range(low, min(last + 3, len(items)))} - {None}
         kept.ranges = {it: playlist.DateRange(it, {"START-DATE": playlist.instant_text(round(starts[it] * 10**9))}) for it in names}
         run.look(playlist.Listed(6, low, False, its), dict.fromkeys(names, "Filled"), kept)
         seen |= set(range(low, last))
-    # what is owed, by what the lists had that were looked at
-    owed, whole = {}, 0
-    places = {}
+    return run, seen
+
+
+def owed_of(sold, items, seen):
+    """What the day owes for each ad (how often it was sold, its seconds, those shown, how often it was shown whole), and how many breaks were
+    shown whole, by the places that were `seen`."""
+    owed, whole, places = {}, 0, {}
     for n, it in enumerate(items):
         places.setdefault(it[2], []).append(n)
     for name, its in sold.items():
@@ -246,17 +258,23 @@ def test_a_thousand_breaks_of_a_day_are_reconciled_to_the_second(room):
         for one in its:
             numbers = places[name][place:place + len(one["segments"])]
             place += len(numbers)
-            ad = owed.setdefault(one["id"], [0, 0.0, 0.0, 0])
-            ad[0], ad[1], ad[2] = ad[0] + 1, ad[1] + sum(items[n][1] for n in numbers), ad[2] + sum(items[n][1] for n in numbers if n in seen)
-            ad[3] += all(n in seen for n in numbers)
-            is_whole = is_whole and all(n in seen for n in numbers)
+            shown = [n for n in numbers if n in seen]
+            count, lasts, seconds, wholly = owed.get(one["id"], (0, 0.0, 0.0, 0))
+            owed[one["id"]] = (count + 1, lasts + sum(items[n][1] for n in numbers), seconds + sum(items[n][1] for n in shown), wholly + (shown == numbers))
+            is_whole = is_whole and shown == numbers
         whole += is_whole
-    folder = Path(room.path) / "orders"
-    folder.mkdir()
-    for name, its in sold.items():
-        (folder / f"{name}.json").write_text(json.dumps({"breaks": [{"id": name, "ads": its}]}), encoding="utf-8")
+    return owed, whole
+
+
+def test_a_thousand_breaks_of_a_day_are_reconciled_to_the_second(room):
     from adsplice_plant import reconcile
-    lines, is_well = reconcile.report(folder, [Path(room.path) / "as-run.jsonl"], ["news"])
+    rng = random.Random(11)
+    sold, items = day_of(rng, 1000)
+    run, seen = watched_day(room, rng, sold, items)
+    owed, whole = owed_of(sold, items, seen)
+    for name, its in sold.items():
+        room.write(f"orders/{name}.json", json.dumps({"breaks": [{"id": name, "ads": its}]}))
+    lines, is_well = reconcile.report(Path(room.path) / "orders", [Path(room.path) / "as-run.jsonl"], ["news"])
     assert not is_well and whole < 1000
     said = {line.split()[1].rstrip(":"): line for line in lines if line.startswith("ad ")}
     for name, (count, lasts, shown, wholly) in owed.items():
