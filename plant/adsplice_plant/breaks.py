@@ -176,6 +176,25 @@ class Timeline:
         is_past = self.low_number > one.clock + 1 or self.low_number > one.clock and abs(newest - one.start) <= abs(newest - one.said)
         return is_past or any(abs(jump.by - by) <= self.segments[-1].duration // 2 for jump in self.jumps(1))
 
+    def end_before(self, one: Break) -> int | None:
+        """Where the break `one`, which begins and ends by a clock that changed since, ended by the clock before: at one of the listed segments from before
+        that; none if it ended at none of them."""
+        if one.until is None or one.said is None or one.clock is None:
+            return None
+        end = one.until + one.said - one.start
+        begins = (begin for begin, it in zip(self.begins, self.segments) if self.numbering.of(it.number) <= one.clock)
+        return end if any(abs(it - end) <= TOLERANCE for it in begins) else None
+
+    def begin_by_number(self, one: Break, instant: int, clock: int | None) -> int | None:
+        """Where the break `one` begins that is said to begin at the `instant`, if no segment begins near it: with the one that has the number of its first
+        segment, if that begins less than a segment away, or the packager's clock changed there (`clock`: after the segment of this number). None if there
+        is none."""
+        it = next((it for it in reversed(self.segments) if self.numbering.of(it.number) == one.number), None)
+        if not self.aligns or it is None or it.begins is None or self.nearest(instant) is not None:
+            return None
+        is_there = abs(it.begins - instant) < it.duration or clock is not None and abs(clock - one.number) <= NEAR_JUMPS
+        return it.begins if is_there else None
+
     def half(self, instant: int) -> int:
         """Half the duration of the segment in which the `instant` is, or of the one nearest to it."""
         place = min(max(bisect_left(self.begins, instant + 1, self.low) - 1, self.low), len(self.segments) - 1)
@@ -356,6 +375,8 @@ class Breaks:
         half, begins = line.half(one.start), line.begins[low:fresh]
         if not begins or one.start < begins[0] - half or any(abs(it - one.start) <= half for it in begins) or start < line.begins[-1] - half:
             return False
+        if line.nearest(start) is None and line.nearest(one.start) is not None:
+            return False  # (it begins here by the clock of before)
         found, by = line.nearest(start), line.aligned(start) - one.start
         one.is_settled = found is not None or not line.aligns
         one.number = found.number if found else one.number
@@ -405,8 +426,8 @@ class Breaks:
             return
         if own is not None and it.is_stated and not own.is_told:
             own.extend(it.at, half)
-        for one in [own] if own else reversed(self.known):
-            if one.is_ended or at - one.start <= half or one.is_over(at - half):
+        for one in [own] if own else reversed(self.known):  # (the end of one that the packager's clock changed within is known, and may still come earlier)
+            if one.is_ended and (one.said is None or one.is_told) or at - one.start <= half or one.is_over(at - half):
                 continue
             is_its = one.type == message.type and (0 in (one.event, message.event) or one.event == message.event)
             if own or it.signal.is_cue or is_its:
@@ -445,8 +466,9 @@ class Breaks:
         self.known.sort(key=lambda it: it.start)
 
     def forget(self, first: int, number: int) -> None:
-        """Forgets the breaks that were over at the instant `first`, since which segments are listed, the first one of them with the media `number`."""
-        self.known = [it for it in self.known if not it.is_over(first) or it.is_on_new_clock(number)]
+        """Forgets the breaks that were over at the instant `first`, since which segments are listed, the first one of them with the media `number`. Once
+        the packager's clock has changed, renditions are known by numbers alone to have come so far."""
+        self.known = [it for it in self.known if not it.is_over(first) or it.is_on_new_clock(number) or it.clock is not None and it.number >= number]
 
     def kept(self) -> list[dict[str, Any]]:
         """The breaks as JSON."""

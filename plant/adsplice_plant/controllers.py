@@ -8,7 +8,7 @@ from __future__ import annotations
 import re
 from dataclasses import replace
 
-from . import apart, decided, faults, numbers, packaged, ranges, replay
+from . import apart, decided, faults, numbers, packaged, ranges, replay, spelling
 from .decisions import NO_FALLBACK, OVER
 from .events import Answered, Find, Found, Request, Send, What
 from .numbers import Viewed
@@ -205,10 +205,11 @@ def shifted(stands: Standing, text: bytes, ahead: Numbers) -> bytes:
     """The `text` of the newest list with numbers that are `ahead`. (A key whose IV is the media number states it then: RFC 8216, 5.2.)"""
     if ahead == (0, 0):
         return text
-    first = stands.repairer.last[0]
-    is_numbered = any(key.takes_number() for it in stands.repairer.last for key in it.keys)
-    if first.discontinuity + ahead[1] < first.discontinuities or is_numbered or b"\r" in text:
-        return listed_from(stands, len(stands.repairer.past), ahead)
+    text, first = text.replace(b"\r\n", b"\n"), stands.repairer.last[0]
+    if first.discontinuity + ahead[1] < first.discontinuities or any(key.takes_number() for it in stands.repairer.last for key in it.keys):
+        listed = packaged.as_listed(packaged.read(spelling.lines_of(text, set())))
+        listed.segments = moved(listed.segments, ahead)
+        return packaged.write(listed)
     front, rest = text[:text.find(EXTINF)], text[text.find(EXTINF):]
     for tag, by, name in zip(SEQUENCES, ahead, (b"MEDIA", b"DISCONTINUITY")):
         found = tag.search(front)
@@ -306,7 +307,7 @@ def looked(turn: Turn, event: Answered) -> None:
     if event.status == 404:
         begin_anew(turn, event.channel)
     else:
-        go_on(turn, event.channel)
+        go_on(turn, event.channel, event.body)
 
 
 def drop(turn: Turn, channel: str, why: str, is_missed: bool = False) -> None:
@@ -331,15 +332,22 @@ def may_drop(turn: Turn, it: Controller) -> bool:
     return bool(turn.state.life) and turn.at - it.dropped_at >= BETWEEN_DROPS
 
 
-def go_on(turn: Turn, channel: str) -> None:
-    """The channel has a list, of which the log may know nothing: then its numbers are to be seen."""
+def go_on(turn: Turn, channel: str, written: bytes) -> None:
+    """The channel has the list `written`, of which the log may know nothing: then its numbers are to be seen, and what it took follows from it."""
     controller = turn.put_controller(channel, way=Way.THERE)
     if controller.took < 0 and not controller.led:
         it = turn.state.renditions[channel]
         viewed = it.stands.viewed.copy()
         viewed.reckoned = None
         turn.put_standing(channel, viewed=viewed)
-        turn.put_controller(channel, took=it.stands.repairer.last[-1].number if it.stands.repairer.last else 0)
+        turn.put_controller(channel, took=newest_in(written, history_of(it.stands)))
+
+
+def newest_in(written: bytes, history: list[PackagedSegment]) -> int:
+    """The media number of the newest segment of the `history` that the playlist `written` has, by its instant. That of the newest of all if it has none:
+    then nothing tells what its controller lacks."""
+    instants = {it.instant for it in numbers.items_of(written) if it.instant is not None}
+    return max((it.number for it in history if it.begins in instants), default=history[-1].number if history else 0)
 
 
 def begin_anew(turn: Turn, channel: str) -> None:

@@ -333,6 +333,20 @@ def read(lines: Iterable[str]) -> PackagedList:
 
 # ---- writing
 
+def as_listed(found: PackagedList) -> PackagedList:
+    """The list `found` with the packager's own numbers and instants, for a feed that doesn't put lists right (RFC 8216, 4.3.2.6)."""
+    discontinuity, begins = found.discontinuity_sequence, None
+    for it in found.segments:
+        discontinuity += it.discontinuities
+        it.number, it.discontinuity = it.own, discontinuity
+        it.begins = begins = it.stated if it.stated is not None else begins
+        begins = None if begins is None else begins + it.duration
+    for it, later in zip(reversed(found.segments[:-1]), reversed(found.segments)):
+        if it.begins is None and later.begins is not None:
+            it.begins = later.begins - it.duration
+    return found
+
+
 def write(found: PackagedList, ranges: list[str] | None = None) -> bytes:
     """The list `found` as text, with the feed's numbers and instants. Its date ranges stand in its head; `ranges` are EXT-X-DATERANGE
     lines in place of them."""

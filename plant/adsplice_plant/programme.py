@@ -296,7 +296,7 @@ def righted(turn: Turn, channel: str, found: dict[str, Taken]) -> Taken:
     body = it.older[0] if it.older else it.came
     assert body is not None
     if not it.settings.repair:
-        return Taken(it.stands.repairer, Repaired(as_listed(read(body)), came=body), body, False)
+        return Taken(it.stands.repairer, Repaired(packaged.as_listed(read(body)), came=body), body, False)
     edge = edge_of(turn, channel) if len(turn.state.renditions) > 1 and not it.older else None
     text = up_to(body, edge) if edge is not None else body
     repairer = changed(it.stands.repairer)
@@ -362,13 +362,14 @@ def translate(turn: Turn, translator: Translator, found: dict[str, Taken], busy:
             told += translator.take(it, turn.state.renditions[channel].settings.rendition(), numberings.get(channel)).told
     for channel, it in lists.items():
         rendition = turn.state.renditions[channel]
-        said = translator.take(it, rendition.settings.rendition(), numberings.get(channel))
-        told += said.told
-        it.signals = said.ranges
+        name = rendition.settings.rendition()
+        said = translator.take(it, name, numberings.get(channel))
+        told, it.signals = told + said.told, said.ranges
         run = rendition.stands.viewed.reckoned.run if rendition.stands.viewed.reckoned is not None else None
-        if run is not None and put_past(rendition.stands, it, translator.ended(run.id, rendition.settings.rendition()), translator.tolerance):
+        if run is not None and (moved := put_past(rendition.stands, it, translator.ended(run.id, name), translator.tolerance)) is not None:
             found[channel].repaired.came = None
             found[channel].repaired.kinds["clock"] = ""
+            it.signals = translator.begin_at(name, said.ranges, *moved)
     return told
 
 
@@ -557,17 +558,3 @@ def read(body: bytes) -> PackagedList:
         return packaged.read(spelling.lines_of(body, set()))
     except spelling.Unread:
         return PackagedList()
-
-
-def as_listed(found: PackagedList) -> PackagedList:
-    """The list `found` with the packager's own numbers and instants, for a feed that doesn't put lists right (RFC 8216, 4.3.2.6)."""
-    discontinuity, begins = found.discontinuity_sequence, None
-    for it in found.segments:
-        discontinuity += it.discontinuities
-        it.number, it.discontinuity = it.own, discontinuity
-        it.begins = begins = it.stated if it.stated is not None else begins
-        begins = None if begins is None else begins + it.duration
-    for it, later in zip(reversed(found.segments[:-1]), reversed(found.segments)):
-        if it.begins is None and later.begins is not None:
-            it.begins = later.begins - it.duration
-    return found

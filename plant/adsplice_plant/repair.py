@@ -164,6 +164,8 @@ class Repairer:
         self.set_times(found, False)
         if is_timed:
             self.follow_clock(found.segments, kinds)
+        if is_timed and "began again" in kinds:
+            self.keep_clock(found.segments)
         if is_untimed:
             kinds["times"] = ""
             self.agree(found.segments)
@@ -280,6 +282,16 @@ class Repairer:
         found.segments = stays + found.segments
         return None if is_over else lead, len(stays)
 
+    def keep_clock(self, segments: list[PackagedSegment]) -> None:
+        """Puts those of the `segments` of a list that began again which other renditions have by another clock on that one: where a packager's clock
+        changes, and which breaks are open there, is the programme's."""
+        theirs, last = self.siblings.begins() if self.siblings is not None else {}, self.last[-1]
+        by = (last.begins or 0) - theirs.get(last.number, last.begins or 0)
+        for it in segments if abs(by) <= last.duration else []:
+            known = theirs.get(it.number) if it.number > last.number else None
+            if known is not None and it.begins is not None and abs(it.begins - known - by) > max(SECOND, it.duration):
+                it.begins = known + by
+
     def taken_meanwhile(self, found: PackagedList, siblings: Siblings) -> list[PackagedSegment]:
         """What other renditions have shown between the last list and `found`, which began again. Of that list what lies before the end of the
         last one is left out, since viewers have seen it."""
@@ -288,19 +300,14 @@ class Repairer:
             return []
         first = found.segments[0].begins
         if first is not None and first < last.begins and (taken := siblings.after_clock(last, first)):
-            return taken
+            return ahead_of(found.segments, last, taken)
         end = last.begins + last.duration
         newest = found.segments[-1]
         if newest.begins is not None and newest.begins + lasting(found.segments) < end - newest.duration:
             return []  # (by a clock that went back farther than the list lasts)
         found.segments = list(dropwhile(lambda it: it.begins is not None and middle_of(it) < end, found.segments)) or found.segments[-1:]
         first = found.segments[0].begins
-        taken = siblings.between(end, first) if first is not None else []
-        if found.segments[0].own <= last.own:
-            return taken
-        missed = missed_by(last, found.segments)
-        lasted = accumulate((it.duration for it in taken), initial=0)
-        return [it for it, before in zip(taken, lasted) if before + it.duration // 2 <= missed]
+        return ahead_of(found.segments, last, siblings.between(end, first) if first is not None else [])
 
     def go_on(self, found: PackagedList, place: Place, kinds: dict[str, str]) -> tuple[Lead | None, int]:
         """The list `found` goes on at `place`: what was listed stays what it was, and what is new is counted on. Answers the same as
@@ -447,6 +454,16 @@ def lasting(segments: list[PackagedSegment]) -> int:
 def missed_by(last: PackagedSegment, segments: list[PackagedSegment]) -> int:
     """The nanoseconds that those between the segment `last` and the listed `segments` last, by the packager's numbers."""
     return (segments[0].own - last.own - 1) * lasting(segments) // len(segments)
+
+
+def ahead_of(segments: list[PackagedSegment], last: PackagedSegment, taken: list[PackagedSegment]) -> list[PackagedSegment]:
+    """Those of the segments `taken` from another rendition, after the segment `last`, that come before the listed `segments` by the packager's numbers; all
+    if its numbers don't go on."""
+    if segments[0].own <= last.own:
+        return taken
+    missed = missed_by(last, segments)
+    lasted = accumulate((it.duration for it in taken), initial=0)
+    return [it for it, sofar in zip(taken, lasted) if sofar + it.duration // 2 <= missed]
 
 
 def without_ranges(it: PackagedSegment) -> PackagedSegment:

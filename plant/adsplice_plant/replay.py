@@ -74,18 +74,19 @@ def as_it_ran(stands: Standing, line: str) -> str:
 
 def as_elsewhere(stands: Standing, others: list[Standing], line: str) -> str:
     """The EXT-X-DATERANGE `line` of a break, with the end that it had in one of the `others`, if that has come farther than the rendition that
-    `stands` so: what says where it ends may have come after it had ended by its pod, and here both come at once."""
+    `stands` so: what says where it ends may have come after it had ended by its pod, or after segments that it ended before, and here both come at once."""
     name = packaged.id_in(line)
     for other in others:
         said = other.viewed.ranges.get(name)
         if said is None or name not in other.pods.entered or not is_behind(stands, other):
             continue
         run, found = run_of(other, history_of(other), said[0]), read_range(line)
-        if run is None or run.last is None or run.is_turned() or run.end <= end_of(stands):
+        if run is None or run.is_turned() or (end := run.end if run.last is not None else end_of(other)) <= end_of(stands):
             continue
-        length = length_of(found)
-        if length is None or abs(length - (run.end - run.start)) > stands.repairer.last[-1].duration // 2:
-            return f"{without(line, ENDS)},DURATION={seconds_text(run.end - run.start)}"
+        length, half = length_of(found), stands.repairer.last[-1].duration // 2
+        is_other = length is None or abs(length - (end - run.start)) > half
+        if is_other if run.last is not None else length is not None and length < end - run.start - half:
+            return f"{without(line, ENDS)},DURATION={seconds_text(end - run.start)}"
     return line
 
 
@@ -100,9 +101,11 @@ def as_it_runs(stands: Standing, line: str, one: Break | None) -> str:
         return line if one.end() is not None else f'{without(line, ENDS)},END-DATE="{instant_text(one.start + reckoned.run.shape.total())}"'
     known = next((it for it in reckoned.breaks if it.id == found.id), None)
     length, total = length_of(found), reckoned.run.shape.total()
-    if known is None or [name for name, _ in rules.ends_of(known, total)] != [BY_POD] or length is None or length <= total + TOLERANCE:
+    by_pod, given = f"DURATION={seconds_text(total)}", stands.viewed.ranges.get(found.id, ("", 0))[0]
+    is_by_pod = known is not None and [name for name, _ in rules.ends_of(known, total)] == [BY_POD]
+    if length is None or length <= total + TOLERANCE or not (is_by_pod or given.endswith(f",{by_pod}")):
         return line
-    return f"{without(line, ENDS)},DURATION={seconds_text(total)}"
+    return f"{without(line, ENDS)},{by_pod}"
 
 
 def length_of(found: DateRange) -> int | None:
@@ -110,19 +113,19 @@ def length_of(found: DateRange) -> int | None:
     return found.length(found.start()) or duration_of(found.said.get("PLANNED-DURATION", ""))
 
 
-def put_past(stands: Standing, found: PackagedList, ended: int | None, tolerance: int) -> bool:
+def put_past(stands: Standing, found: PackagedList, ended: int | None, tolerance: int) -> tuple[int, int] | None:
     """Puts the first new segment of the list `found` at the end that adsplice knows of the open break, if it begins before that: the packager's
-    clock went back, and by its segments the break has `ended` there. Whether it did."""
+    clock went back, and by its segments the break has `ended` there. The instants at which it began and begins; none if it stays."""
     reckoned = stands.viewed.reckoned
     if ended is None or reckoned is None or reckoned.run is None or not stands.repairer.last:
-        return False
+        return None
     known = next((it for it in known_after(reckoned, found.date_ranges()) if it.id == reckoned.run.id), None)
     end = None if known is None else ends_at(known, reckoned.run.shape.total())
     it = next((it for it in found.segments if it.number > stands.repairer.last[-1].number), None)
     if end is None or it is None or it.begins is None or not ended - tolerance <= it.begins < end - tolerance:
-        return False
-    it.begins, found.pieces, found.timed = end, None, None
-    return True
+        return None
+    began, it.begins, found.pieces, found.timed = it.begins, end, None, None
+    return began, end
 
 
 def ends_at(known: rules.Break, total: int) -> int | None:

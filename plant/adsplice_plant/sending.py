@@ -72,7 +72,7 @@ class Sending:
         if what in KEPT and not is_in_vain(request, answer):
             waits = what is What.PUSH and request.is_ahead and answer.status == 204
             self.noting.note(Note(self.settings.name, KEPT[what], answer.status, answer.why or request.why or answer.line(), request.body), waits)
-        return Answered(self.settings.name, request, answer.status, answer.line(), answer.why, answer.body if what is What.CHECK else b"")
+        return Answered(self.settings.name, request, answer.status, answer.line(), answer.why, answer.body if what in (What.LOOK, What.CHECK) else b"")
 
     def found(self, it: PackagedList) -> Found:
         """Finds the numbers by which the list `it` goes on after what the controller has, and gives it so."""

@@ -89,7 +89,7 @@ class Translator:
             self.done[rendition] = Mark(newest.number, newest.uri, line.begins[-1], None if last is None else last.begins)
         self.firsts[rendition], self.lows[rendition] = self.done[rendition].since(line.first), line.low_number
         self.breaks.is_first = False
-        near = [name for name, first in self.firsts.items() if first >= line.first - STALE]  # (one that stands still for long holds nothing)
+        near = [name for name in self.firsts if self.is_near(name, line)]
         self.breaks.forget(min((self.firsts[name] for name in near), default=line.first), min(self.lows.get(name, line.low_number) for name in (*near, rendition)))
         self.cut(line, rendition)
         listed = [it for it in self.breaks.known if self.is_listed(it, line, rendition)]
@@ -97,6 +97,12 @@ class Translator:
         others = [it.line for it in ranges if not it.is_translated() and self.breaks.named(it.id) is None]
         lines = None if is_known else others + [self.written(it, line, rendition) for it in listed]
         return Translated(lines, self.tellings(), [it for it in self.breaks.known if it.id not in before])
+
+    def is_near(self, rendition: str, line: Timeline) -> bool:
+        """Whether the `rendition` isn't long behind the list of `line`: by its instants, or by its numbers if the packager's clock went on meanwhile. One
+        that stands still for long holds nothing."""
+        behind = (line.low_number - self.lows.get(rendition, line.low_number)) * line.segments[-1].duration
+        return self.firsts[rendition] >= line.first - STALE or self.breaks.clock is not None and behind <= STALE
 
     def restate(self, ranges: list[DateRange], line: Timeline, fresh: int, rendition: str) -> None:
         """A packager whose clock was put right states another START-DATE of a break: one that hasn't begun in a segment before the place
@@ -224,8 +230,18 @@ class Translator:
             found = self.cuts[rendition][it.id]
             for place, instant in enumerate((it.start if it.said is None else it.said, it.until)):
                 if instant is not None and found[place] is None and line.is_reached(instant) and (not place or line.has_turned(it)):
-                    own = line.aligned(instant) if line.has_turned(it) else instant
+                    known = line.end_before(it) if place else line.begin_by_number(it, instant, self.breaks.clock)
+                    own = known if known is not None else line.aligned(instant) if line.has_turned(it) else instant
                     found[place] = own if abs(own - instant) > self.tolerance else instant
+
+    def begin_at(self, rendition: str, lines: list[str] | None, began: int, begins: int) -> list[str] | None:
+        """A segment of the `rendition`, which began at the instant `began`, has the instant `begins`: so have the breaks that begin with it. The
+        EXT-X-DATERANGE `lines` of its list say so then."""
+        for cut in self.cuts[rendition].values():
+            if cut[0] is not None and abs(cut[0] - began) <= self.tolerance:
+                cut[0] = begins
+        was, now = (f'START-DATE="{instant_text(it)}"' for it in (began, begins))
+        return None if lines is None else [line.replace(was, now) for line in lines]
 
     def is_cut_elsewhere(self, one: Break, rendition: str) -> bool:
         """Whether the break `one` begins or ends elsewhere in the `rendition` than where its signal was shown."""

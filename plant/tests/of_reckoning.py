@@ -9,7 +9,7 @@ from tools import OUT, PLANT, apart, instant
 sys.path.insert(0, PLANT)
 from adsplice_plant import packaged, spelling  # noqa: E402
 from adsplice_plant.pods import Pods  # noqa: E402
-from adsplice_plant.programme import as_listed  # noqa: E402
+from adsplice_plant.packaged import as_listed  # noqa: E402
 from adsplice_plant.reckoning import Moment, Reckoned, Store, kept_break, known_after, reckoned  # noqa: E402
 from adsplice_rules.channel import Channel, decide, refreshed  # noqa: E402
 from adsplice_rules.values import Fault  # noqa: E402
