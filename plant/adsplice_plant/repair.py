@@ -284,11 +284,11 @@ class Repairer:
 
     def keep_clock(self, segments: list[PackagedSegment]) -> None:
         """Puts those of the `segments` of a list that began again which other renditions have by another clock on that one: where a packager's clock
-        changes, and which breaks are open there, is the programme's."""
+        changes, and which breaks are open there, is the programme's. The packager's numbers say which ones they are: so these have to go on."""
         theirs, last = self.siblings.begins() if self.siblings is not None else {}, self.last[-1]
         by = (last.begins or 0) - theirs.get(last.number, last.begins or 0)
         for it in segments if abs(by) <= last.duration else []:
-            known = theirs.get(it.number) if it.number > last.number else None
+            known = theirs.get(it.number) if it.number > last.number and it.number - last.number == it.own - last.own else None
             if known is not None and it.begins is not None and abs(it.begins - known - by) > max(SECOND, it.duration):
                 it.begins = known + by
 
