@@ -1,8 +1,8 @@
 """Which sentences of the pages are longer than LIMIT words. tests/rules calls `lacking`.
 
 A sentence ends at a full stop, a question mark or an exclamation mark before a space. A paragraph, an item of a list and a
-cell of a table are read by themselves. Text in backticks counts as one word, a link as its own text. Blocks of code and
-headings are passed over.
+cell of a table are read by themselves. Text in backticks counts as one word, a link as its own text. Blocks of code,
+headings and lists of a page's headings are passed over.
 """
 from __future__ import annotations
 
@@ -11,8 +11,9 @@ import re
 from collections.abc import Iterator
 
 LIMIT = 30
+OPERATING = tuple(f"docs/operating/{it}.md" for it in ("README", "ads", "capacity", "channel", "faults", "install", "ladder", "machines", "monitoring", "security", "trials", "upgrade"))
 PAGES = ("README.md", "CHANGELOG.md", "CONTRIBUTING.md", "bench/HISTORY.md", "bench/README.md", "crates/README.md", "docs/ADS.md", "docs/ARCHITECTURE.md",
-         "docs/CONFORMANCE.md", "docs/DECISIONS.md", "docs/DECISION_FILES.md", "docs/LIBRARY.md", "docs/OPERATING.md", "docs/PACKAGERS.md",
+         "docs/CONFORMANCE.md", "docs/DECISIONS.md", "docs/DECISION_FILES.md", "docs/LIBRARY.md", "docs/PACKAGERS.md", *OPERATING,
          "docs/PERFORMANCE.md", "docs/PROOF.md", "docs/REPLICAS.md", "docs/SIGNALS.md", "docs/TESTING.md", "plant/README.md")
 ITEM = re.compile(r"^\s*(?:- |\d+\. )")
 END = re.compile(r"(?<=[\w)`*\"%'\]][.!?])(?:\*\*|\))?\s+")
@@ -22,7 +23,7 @@ def blocks_in(text: str) -> Iterator[tuple[int, str]]:
     """Each paragraph, item and cell of a page, with the line on which it begins."""
     begin, held = 0, ""
     for number, line in enumerate([*text.split("\n"), ""], 1):
-        is_apart = not line.strip() or line.startswith(("    ", "#", "![", "|"))
+        is_apart = not line.strip() or line.startswith(("    ", "#", "![", "|", "On this page: "))
         if held and (is_apart or ITEM.match(line)):
             yield begin, held
             held = ""
