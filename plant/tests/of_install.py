@@ -59,7 +59,7 @@ def test_package(room):
     for name in ("./usr/bin/adsplice ->", "./usr/bin/adsplice-feed ->", "./lib/systemd/system/adsplice@.service", "./lib/systemd/system/adsplice-feed.service",
                  "./usr/lib/adsplice/adsplice.build", "./usr/share/adsplice/nginx.conf", "./usr/share/adsplice/nginx-viewers.conf", "./usr/bin/adsplice-decide ->", "./usr/bin/adsplice-condition ->", "./etc/adsplice/decide.ini", "./etc/logrotate.d/adsplice", "./lib/systemd/system/adsplice-decide.service", "./usr/share/man/man1/adsplice-decide.1.gz",
                  "./usr/share/doc/adsplice/ADS.md", "./usr/share/man/man1/adsplice.1.gz", "./etc/adsplice/feed.ini",
-                 "./usr/share/doc/adsplice/DECISION_FILES.md", "./usr/lib/adsplice/adsplice_plant/programme.py", "./usr/lib/adsplice/adsplice_rules/channel.py"):
+                 "./usr/share/doc/adsplice/DECISION_FILES.md", "./usr/share/doc/adsplice/operating/faults.md", "./usr/lib/adsplice/adsplice_plant/programme.py", "./usr/lib/adsplice/adsplice_rules/channel.py"):
         assert name in listed, name
     subprocess.run(["dpkg-deb", "-x", path.rstrip(), f"{room.path}/out"], check=True)
     with open(f"{room.path}/out/lib/systemd/system/adsplice@.service", encoding="utf-8") as it:
