@@ -119,6 +119,7 @@ def read_words(arguments: list[str]) -> argparse.Namespace:
     it.add_argument("--times", choices=yes_or_no, help="adds EXT-X-PROGRAM-DATE-TIME by this machine's clock if none is stated (yes)")
     it.add_argument("--signals", metavar="TYPES", help="auto (the usual), no, or the segmentation types that begin a break, such as '0x34 0x36'")
     it.add_argument("--nearest", choices=("yes", "no"), help="puts a break's start on the begin of a segment that is near (yes)")
+    it.add_argument("--fill", choices=(told.ALL, told.OTHERS), help="of a ladder, a break that a rendition can't begin: in none, or in the others (all)")
     it.add_argument("--ask", metavar="URL", help="where each break's decision is asked for: an ad server, or the word folder")
     it.add_argument("--hold", metavar="SECONDS", help="that a list may wait for an answer (1, and below half a target duration)")
     it.add_argument("--verify", choices=yes_or_no, help="looks whether a decision's ads are there before it is given (no)")
