@@ -119,6 +119,7 @@ def of_a_ladder(it: argparse._ArgumentGroup) -> None:
     it.add_argument("--renditions", metavar="NAMES", help="a channel NAME-R for each rendition R, such as '1080 720 360'")
     it.add_argument("--master", metavar="FILE", help="the origin is a master playlist, whose renditions are channels; FILE is the master playlist for players")
     it.add_argument("--viewers", metavar="URL", help="with --master: where players read channels, such as http://viewers.example (the host of FILE's URL)")
+    it.add_argument("--fill", choices=(told.ALL, told.OTHERS), help="fill a break that one rendition can't begin in none, or in the others (all)")
     it.add_argument("--empty-subtitles", metavar="URL", help="with --master: an empty WebVTT piece for subtitles during ads (/empty.vtt at --viewers)")
 
 
