@@ -129,6 +129,11 @@ class Replica:
             return False
         return not self.lines and following.has_all(own) or self.now() - self.won_at >= LONGEST
 
+    def is_next(self, own: State) -> bool:
+        """Whether something of the log is to be taken up at once: it is to be read, this machine begins to lead by it, or its controllers get its next
+        line."""
+        return self.is_due or self.may_lead(own) or not self.leads and bool(self.lines) and following.has_all(own)
+
     def look_after(self, own: State) -> None:
         """Learns from the state whether this machine's controllers answer: they don't if one hasn't for some trials, and do again once all have for a while."""
         its = [it.controller for it in own.renditions.values()]

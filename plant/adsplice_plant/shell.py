@@ -252,6 +252,8 @@ class Feeding:
     def pause(self) -> float:
         """The seconds until the next turn, if nothing happens."""
         now = time.monotonic()
+        if now >= self.rests_until and self.replica is not None and self.replica.is_next(self.state):
+            return LEAST
         until = [self.rests_until] if now < self.rests_until else [it for it in (self.looks_at(), self.due) if it is not None]
         return min(BETWEEN / 2, max(LEAST, min(until) - now))
 

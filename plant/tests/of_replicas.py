@@ -48,6 +48,22 @@ def test_a_machine_that_leads_is_lost_and_comes_back(room):
 
 
 @needs("httpx", "etcd")
+def test_a_machine_that_was_away_catches_up_at_once(room):
+    etcds = Etcds(room, 1)
+    group = Group(room, etcds.text(), 2)
+    group.settled()
+    follower = 1 - group.leader()
+    group.step(3)
+    group.kill(follower)
+    group.step(24, 0.5)
+    group.start(follower)
+    group.feeds[follower].sees("goes on with it")
+    begun = time.monotonic()
+    group.settled(follower)
+    assert time.monotonic() - begun < 4, "24 lists that it missed wait for nothing but its controller"
+
+
+@needs("httpx", "etcd")
 def test_a_feed_that_ends_gives_its_leads_up_at_once(room):
     etcds = Etcds(room, 1)
     group = Group(room, etcds.text())
