@@ -62,8 +62,9 @@ def with_controllers(state: State, own: State) -> State:
 
 
 def led(state: State) -> State:
-    """The `state` of a machine that begins to lead. What its controllers refused while another one led is given once more, so that it is known what
-    becomes of it."""
+    """The `state` of a machine that begins to lead: the log has no more. What its controllers refused while another one led is given once more, so that it
+    is known what becomes of it."""
+    state = replace(state, is_behind=False)
     for name, it in state.renditions.items():
         if it.controller.refused and it.controller.refused == it.stands.entry and it.before is not None:
             again = replace(it.controller, listed=it.stands.after, refused=0)

@@ -98,8 +98,10 @@ class Replica:
             self.due_at = self.now() if self.due_at is None else self.due_at
             return self.now() - self.due_at
         self.due_at = None
-        oldest = next(iter(self.lines), None)
-        return 0.0 if oldest is None else max(0.0, self.now() - oldest[0])
+        try:
+            return max(0.0, self.now() - self.lines[0][0])
+        except IndexError:  # (its feed has just taken the last one)
+            return 0.0
 
     # ---- for its feed
 
@@ -169,7 +171,13 @@ class Replica:
             except Outrun:
                 self.is_due = True
                 return None
-        return Given(self.log.state(), bool(self.lines)) if is_new else None
+        return Given(self.log.state(), self.has_more()) if is_new else None
+
+    def has_more(self) -> bool:
+        """Whether a line waits that isn't taken in yet. (One that came while the log was read waits twice.)"""
+        while self.lines and self.log.has(self.lines[0][1]):
+            self.lines.popleft()
+        return bool(self.lines)
 
     def write(self, state: State) -> None:
         """As SharedLog.write; if it isn't the one that leads any more, the log is to be read."""

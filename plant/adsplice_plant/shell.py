@@ -8,9 +8,8 @@ from __future__ import annotations
 import json
 import threading
 import time
-import traceback
+from collections import deque
 from collections.abc import Callable
-from pathlib import Path
 
 from . import following, playlist, programme, state
 from .asking import Asker
@@ -31,7 +30,7 @@ from .settings import FOLDER, Settings, hash_of
 from .shared_log import Outrun
 from .state import FileState, State
 from .store import FolderStore, Store
-from .telling import Say, Telling
+from .telling import Say, Telling, place_of
 from .web import Client
 
 LOOKS = 0.02  # seconds between two looks at the files while lists wait for an answer
@@ -40,7 +39,6 @@ LEAST = 0.005  # seconds from one turn to the next if nothing happens
 WELL = 10.0  # seconds without a fault after which the next one is a first one
 FILES = (FolderRead, FallbackRead, SlateRead)  # the events of a look at the files
 DIFFERS = "Differs"  # the word of a channel that isn't as the log says
-HERE = str(Path(__file__).parent)
 
 Step = Callable[[State, Event, float, int], tuple[State, list[Action]]]
 Wake = Callable[[State, float], float | None]
@@ -437,9 +435,3 @@ def store_of(channels: list[Settings]) -> Store | None:
     """Where the state of the programme of these `channels` is kept; none if nothing is to be kept."""
     first = channels[0]
     return FolderStore(first.keep, first.programme or first.name) if first.keep is not None else None
-
-
-def place_of(fault: Exception) -> str:
-    """Where in the plant the `fault` came."""
-    places = [it for it in traceback.extract_tb(fault.__traceback__) if it.filename.startswith(HERE)]
-    return f"{Path(places[-1].filename).name}:{places[-1].lineno}" if places else "an unknown place"

@@ -5,13 +5,14 @@ import sys
 from pathlib import Path
 
 from of_lists import URL
-from tools import PLANT, FakeServer, decided
+from tools import PLANT, FakeServer, decided, free_port, until
 
 sys.path.insert(0, PLANT)
-from adsplice_plant import reconcile, status  # noqa: E402
+from adsplice_plant import machines, reconcile, status  # noqa: E402
 from adsplice_plant.etcd import Away, Compacted, Etcd, Is, Put, Refused  # noqa: E402
 from adsplice_plant.members import Feed  # noqa: E402
 from adsplice_plant.settings import hash_of, ladder_of  # noqa: E402
+from adsplice_plant.store_settings import StoreAt  # noqa: E402
 from adsplice_plant.words import Fault as Wrong  # noqa: E402
 
 NEEDS = ("httpx",)
@@ -117,3 +118,16 @@ def test_figures_of_a_machine(room):
 
 
 test_figures_of_a_machine.needs = ("httpx", "prometheus_client")
+
+
+def test_a_fault_that_nobody_foresaw_ends_no_thread_of_the_store(room):
+    lines = []
+    it = machines.Machines(StoreAt((f"http://127.0.0.1:{free_port()}",)), "m1", lines.append)
+    it.has_begun, it.member.tick = True, lambda _: {}["x"]
+    it.watched.watch = lambda *_: [(1, [None])]
+    it.begin = lambda: 1
+    for one in it.threads:
+        one.start()
+    until(lambda: any("KeyError" in line for line in lines) and any("AttributeError" in line for line in lines), 10, "both lines")
+    assert all(one.is_alive() for one in it.threads)
+    it.ending.set()

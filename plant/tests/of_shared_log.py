@@ -3,6 +3,7 @@ import dataclasses
 import os
 import re
 import sys
+import threading
 import zlib
 from pathlib import Path
 
@@ -11,8 +12,9 @@ from stepped import TOLERANCE, Stepped
 from tools import PLANT, decided, listed
 
 sys.path.insert(0, PLANT)
-from adsplice_plant import shared_log  # noqa: E402
-from adsplice_plant.etcd import Away, Pair, Put  # noqa: E402
+from adsplice_plant import following, shared_log  # noqa: E402
+from adsplice_plant.etcd import Away, Delete, Pair, Put  # noqa: E402
+from adsplice_plant.events import Began  # noqa: E402
 from adsplice_plant.folders import DecisionFolder  # noqa: E402
 from adsplice_plant.location import Url  # noqa: E402
 from adsplice_plant.replica import Replica  # noqa: E402
@@ -215,6 +217,48 @@ def test_a_replica_that_has_not_read_the_log_is_behind(room):
     it.take(Pair(line_key("news", 1), b"{}"))
     clock.now += 3.0
     assert it.behind() == 3.0
+
+
+def test_a_line_that_comes_while_the_log_is_read_is_taken_once(room):
+    clock = Clock()
+    keys, states = Keys(clock), [dataclasses.replace(it, life="x") for it in stood(8)]
+    log, _ = opened(keys)
+    for it in states:
+        log.write(it)
+    one = replica(keys, clock)
+    own = following.step(one.load(states[3]), Began(), 0.0, 0)[0]
+    one.take(keys.pairs[line_key("news", len(states))])  # (the watch tells it, too)
+    assert own.is_behind and own.entry < states[-1].entry
+    while (given := one.next()) is not None:
+        own = following.step(own, given, 0.0, 0)[0]
+    assert own.entry == states[-1].entry and not own.is_behind, "a channel without a list is filled"
+    assert not following.led(dataclasses.replace(own, is_behind=True)).is_behind, "the machine that leads lacks nothing"
+
+
+def test_how_long_a_machine_is_behind_is_known_while_lines_come(room):
+    clock = Clock()
+    it = replica(Keys(clock), clock)
+    it.load(stood(1)[0])
+    is_over = threading.Event()
+
+    def come_and_go():
+        while not is_over.is_set():
+            it.take(Pair(line_key("news", 1), b"{}"))
+            it.lines.popleft()
+
+    others = [threading.Thread(target=come_and_go) for _ in range(2)]
+    interval = sys.getswitchinterval()
+    sys.setswitchinterval(1e-6)
+    try:
+        for one in others:
+            one.start()
+        for _ in range(200_000):
+            it.behind()
+    finally:
+        is_over.set()
+        for one in others:
+            one.join()
+        sys.setswitchinterval(interval)
 
 
 def test_decision_files_of_all_machines(room):
