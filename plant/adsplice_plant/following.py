@@ -82,8 +82,6 @@ def adopt(turn: Turn, state: State, is_behind: bool) -> None:
     for channel, it in turn.renditions():
         if not is_behind and it.controller.way is Way.THERE and it.controller.took < 0:
             controllers.begin_anew(turn, channel)
-            if old.is_behind:
-                turn.put_controller(channel, reached=-1)  # (other machines have shown what it lacks)
     for name, file in new.files.items():
         was = old.files.get(name)
         late = [it for it in file.ids if it in file.late and (was is None or it not in was.late)]
