@@ -39,9 +39,10 @@ class Machines:
         self.shown_at = float("-inf")  # when that was shown last
         self.keys = Etcd(at.addresses, at.user, at.password, at.limit())
         self.watched = Etcd(at.addresses, at.user, at.password, at.limit())  # (what changes leads waits for no watch)
+        leases = Etcd(at.addresses, at.user, at.password, at.lease_limit())
         self.replicas: dict[str, Replica] = {}
         self.hashes: dict[str, str] = {}
-        self.member = Member(f"{machine}/{secrets.token_hex(4)}", self.keys, at.lease, self.replicas, self.hashes)
+        self.member = Member(f"{machine}/{secrets.token_hex(4)}", leases, at.lease, self.replicas, self.hashes)
         self.lock, self.ending = threading.RLock(), threading.Event()
         self.has_begun = False
         self.why = ""  # what is wrong, as it was told last
@@ -119,6 +120,8 @@ class Machines:
                         with self.lock:
                             self.member.see(others, time.monotonic())
                     revision = max([revision, *(it.pair.revision + 1 for it in changes)])
+                    if self.watched.may_return():
+                        break
             except Compacted:
                 revision = None
             except OSError as fault:

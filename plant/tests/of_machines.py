@@ -9,7 +9,7 @@ from tools import PLANT, FakeServer, decided, free_port, until
 
 sys.path.insert(0, PLANT)
 from adsplice_plant import machines, reconcile, status  # noqa: E402
-from adsplice_plant.etcd import Away, Compacted, Etcd, Is, Put, Refused  # noqa: E402
+from adsplice_plant.etcd import RETURN, Away, Compacted, Etcd, Is, Put, Refused  # noqa: E402
 from adsplice_plant.members import Feed  # noqa: E402
 from adsplice_plant.settings import hash_of, ladder_of  # noqa: E402
 from adsplice_plant.store_settings import StoreAt  # noqa: E402
@@ -131,3 +131,14 @@ def test_a_fault_that_nobody_foresaw_ends_no_thread_of_the_store(room):
     until(lambda: any("KeyError" in line for line in lines) and any("AttributeError" in line for line in lines), 10, "both lines")
     assert all(one.is_alive() for one in it.threads)
     it.ending.set()
+
+
+def test_the_member_of_this_machine_is_asked_first(room):
+    gone, other = free_port(), room.server(Stranger())
+    other.body = b'{"header":{"revision":"7"}}'
+    keys = Etcd(("http://192.0.2.1:2379", f"http://127.0.0.1:{gone}", f"http://127.0.0.1:{other.port}"))
+    assert keys.first == keys.own == 1, "192.0.2.1 isn't this machine's (RFC 5737)"
+    assert keys.read("/a")[0] == 7 and keys.first == 2 and not keys.may_return(), "another one answers"
+    keys.left_at -= RETURN
+    assert keys.may_return() and keys.begin() == 1, "after a while it is tried again"
+    assert Etcd(("http://192.0.2.1:2379", "http://nowhere.invalid:2379")).first == 0
