@@ -55,7 +55,7 @@ class Machines:
 
     def replica(self, name: str, fresh: State, channels: list[str], text: str) -> Replica:
         """The programme `name` on this machine, whose settings have the hash `text`; the rest as in Replica."""
-        found = Replica(self.keys, name, self.machine, fresh, channels, lambda: secrets.token_hex(8))
+        found = Replica(self.keys, name, self.machine, fresh, channels, lambda: secrets.token_hex(8), me=self.member.me)
         with self.lock:
             self.replicas[name], self.hashes[name] = found, text
             if name not in self.member.leads:

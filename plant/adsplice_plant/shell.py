@@ -38,6 +38,7 @@ SELDOM = 1.0  # seconds between two looks at the files of a machine that doesn't
 LEAST = 0.005  # seconds from one turn to the next if nothing happens
 WELL = 10.0  # seconds without a fault after which the next one is a first one
 FILES = (FolderRead, FallbackRead, SlateRead)  # the events of a look at the files
+MOST_QUESTIONS = 256
 DIFFERS = "Differs"  # the word of a channel that isn't as the log says
 
 Step = Callable[[State, Event, float, int], tuple[State, list[Action]]]
@@ -72,6 +73,7 @@ class Feeding:
         self.has_begun = self.role_has_begun = False
         self.rests_until = float("-inf")  # no event is taken before, since a fault
         self.failed_at = self.looked_at = float("-inf")
+        self.questions: deque[str] = deque(maxlen=MOST_QUESTIONS)  # breaks about which they are over, which other machines are to know
 
     def fresh(self) -> State:
         """The state of which nothing is known but the settings."""
@@ -103,7 +105,7 @@ class Feeding:
         subtitles_first = sorted(self.settings, key=lambda it: not it.empty_subtitles)  # (the others wait for no file of theirs)
         folders = {it.rendition(): it.decisions for it in subtitles_first if it.decisions is not None}
         return Asker(self.name, first.ask, first.hold, Client(self.limits.timeout, reach=Reach(frozenset({Url(first.ask).host()}))), folders, self.tell_asked, self.is_decided,
-                     lambda _: self.look_soon(), lambda name: self.inbox.post(AskedInVain(name)), {it.rendition(): it.traits for it in self.settings}, self.note_asked)
+                     self.look_soon, self.asked_in_vain, {it.rendition(): it.traits for it in self.settings}, self.note_asked)
 
     def looker_of(self, first: Settings) -> Looker:
         """Who looks whether ads are there, by the settings of the `first` channel: at public addresses, those of `networks`, and those of the hosts that a
@@ -242,10 +244,21 @@ class Feeding:
         follows = self.replica is not None and not self.replica.leads
         return self.looked_at + (LOOKS if time.monotonic() < self.state.waits_until else SELDOM if follows else OFTEN)
 
-    def look_soon(self) -> None:
-        """The files are looked at at once."""
+    def look_soon(self, answered: str) -> None:
+        """The files are looked at at once: the question about a break is `answered`."""
+        self.question_over(answered)
         self.looked_at = float("-inf")
         self.inbox.wake()
+
+    def asked_in_vain(self, name: str) -> None:
+        """No decision of the break `name` comes any more."""
+        self.question_over(name)
+        self.inbox.post(AskedInVain(name))
+
+    def question_over(self, name: str) -> None:
+        """The question about the break `name` is over: other machines are to know, once they have the answer."""
+        if self.replica is not None:
+            self.questions.append(name)
 
     def pause(self) -> float:
         """The seconds until the next turn, if nothing happens."""
@@ -381,6 +394,9 @@ class Feeding:
             for it in self.channels.values():
                 if it.shared is not None:
                     it.shared.look()
+            while self.questions:  # (the answers are in the store by now)
+                replica.finish_question(self.questions[0])
+                self.questions.popleft()
             changed = replica.see_files()
         except OSError as fault:
             self.role_has_begun = not is_first

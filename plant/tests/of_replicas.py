@@ -1,5 +1,6 @@
 """Tests of feeds on several machines with real etcd, if that is installed, and days of several machines."""
 import dataclasses
+import json
 import os
 import shutil
 import signal
@@ -9,7 +10,7 @@ import time
 
 from etcds import Etcds, Group, needs
 from of_lists import URL
-from tools import FALLBACK, PLANT, RulesController, apart, decided, until
+from tools import FALLBACK, PLANT, FakeServer, RulesController, apart, decided, until
 
 sys.path.insert(0, PLANT)
 import simulated  # noqa: E402
@@ -156,6 +157,31 @@ def test_a_decision_comes_by_the_folder_of_any_machine(room):
     group.settled()
     until(lambda: not os.path.exists(path), 10, "the file's way to done")
     assert os.path.exists(f"{room.path}/m{follower}/decisions/done/b1.json")
+
+
+class AdServer(FakeServer):
+    """An ad server that answers no question until it `is_there`."""
+
+    is_there = False
+
+    def answer(self, method, path, body, fields):
+        return (200, {}, decided((json.loads(body)["id"], 4), seconds="1").encode()) if self.is_there else None
+
+
+@needs("httpx", "etcd")
+def test_a_question_that_is_open_when_a_machine_is_lost_is_asked_again(room):
+    etcds, ads = Etcds(room, 1), room.server(AdServer())
+    group = Group(room, etcds.text(), more=f"ask = http://127.0.0.1:{ads.port}/\n")
+    group.settled()
+    group.breaks = (("b1", 24, 4),)
+    group.step(2)
+    first = group.leader()
+    until(lambda: ads.asked, 10, "the question")
+    group.kill(first)
+    ads.is_there, others = True, [it for it in range(3) if it != first]
+    group.step(18)
+    group.settled(*others)
+    assert all("ads.example/b1-3.ts" in group.controllers[it].shown("news") for it in others), group.controllers[others[0]].shown("news")
 
 
 @needs("httpx", "etcd")

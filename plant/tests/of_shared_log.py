@@ -17,6 +17,7 @@ from adsplice_plant.etcd import Away, Delete, Pair, Put  # noqa: E402
 from adsplice_plant.events import Began  # noqa: E402
 from adsplice_plant.folders import DecisionFolder  # noqa: E402
 from adsplice_plant.location import Url  # noqa: E402
+from adsplice_plant.members import FEEDS  # noqa: E402
 from adsplice_plant.replica import Replica  # noqa: E402
 from adsplice_plant.settings import Settings  # noqa: E402
 from adsplice_plant.shared_files import SharedFolder  # noqa: E402
@@ -299,4 +300,19 @@ def test_decision_files_of_all_machines(room):
     folders[1].look()
     one.read_files()
     assert [*folders[0].read().files] == ["b5.json"], "it keeps no other file away"
+
+
+def test_a_question_is_asked_by_one_machine_and_again_once_that_is_gone(room):
+    clock = Clock()
+    keys = Keys(clock)
+    one, two = replica(keys, clock, "m1"), replica(keys, clock, "m2")
+    for it in (one, two):
+        keys.change([], [Put(FEEDS + it.me, b"")])
     assert one.may_ask("b3", 5) and not two.may_ask("b3", 5) and two.may_ask("b3", 6)
+    assert one.may_ask("b3", 5), "the machine that asked has the lead again"
+    keys.change([], [Delete(FEEDS + one.me)])
+    assert two.may_ask("b3", 5) and not one.may_ask("b3", 5), "it was open when the machine that asked went"
+    two.finish_question("b3")
+    keys.change([], [Delete(FEEDS + two.me)])
+    assert not one.may_ask("b3", 5) and not two.may_ask("b3", 5), "it is over"
+    two.finish_question("b9")
