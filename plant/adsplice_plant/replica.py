@@ -107,6 +107,12 @@ class Replica:
 
     # ---- for its feed
 
+    def lacks(self, own: State, channel: str) -> bool:
+        """Whether the log has what this machine's controller of the `channel` hasn't, as far as that is known."""
+        it = own.renditions[channel]
+        is_given = it.controller.way is Way.THERE and it.controller.listed >= it.stands.entry
+        return self.is_due or not is_given or not self.leads and bool(self.lines)
+
     def load(self, own: State) -> State:
         """Reads the log: the state with which its feed goes on, of which `own` is what this machine knew. If its controllers lack lines of the log, they
         are given these first, in order. Raises OSError."""

@@ -182,6 +182,8 @@ class Feeding:
             except Exception as fault:  # noqa: BLE001  (a programme's fault isn't to end the others)
                 self.begin_anew(fault)
             self.inbox.wait(self.pause(), time.monotonic() < self.rests_until)
+        for it in self.channels.values():
+            it.show_behind(self.replica is not None)
 
     def begin(self) -> None:
         """The first event is that it begins, and the next ones what its files are. The origins are read from now on."""
@@ -189,6 +191,7 @@ class Feeding:
             self.inbox.post_first(Began())
         for it in self.channels.values():
             it.begin()
+            it.show_behind(self.replica is not None)
         if self.replica is None:
             self.look()
         self.has_begun = True
@@ -219,6 +222,7 @@ class Feeding:
                 event = Ticked()
             if event is not None:  # (an event without members is an empty tuple)
                 self.take(event)
+            self.show_lacks()
             if self.away.count and now - self.failed_at > WELL:
                 self.away.reset()
                 self.telling.forget(self.name, "feed")
@@ -343,6 +347,12 @@ class Feeding:
             it.beat(now)
 
     # ---- on one of several machines
+
+    def show_lacks(self) -> None:
+        """Shows of which channels other machines have newer lists."""
+        if self.replica is not None:
+            for name, it in self.channels.items():
+                it.show_lack(self.replica.lacks(self.state, name), time.monotonic())
 
     def take_role(self, replica: Replica) -> None:
         """Takes up what the log of all machines has, and who leads by it."""

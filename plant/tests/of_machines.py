@@ -1,11 +1,12 @@
 """Tests of what is set, told and counted of several machines, and of what answers in place of etcd."""
 import json
 import os
+import subprocess
 import sys
 from pathlib import Path
 
 from of_lists import URL
-from tools import PLANT, FakeServer, decided, free_port, until
+from tools import PLANT, FakeServer, decided, free_port, get, until
 
 sys.path.insert(0, PLANT)
 from adsplice_plant import machines, reconcile, status  # noqa: E402
@@ -142,3 +143,59 @@ def test_the_member_of_this_machine_is_asked_first(room):
     keys.left_at -= RETURN
     assert keys.may_return() and keys.begin() == 1, "after a while it is tried again"
     assert Etcd(("http://192.0.2.1:2379", "http://nowhere.invalid:2379")).first == 0
+
+
+# ---- nginx on a machine
+
+class Lists(FakeServer):
+    """A machine's adsplice, or another machine's nginx: it answers by its `name`, or by a status."""
+
+    name, status = "", 200
+
+    def answer(self, method, path, body, fields):
+        return self.status, {}, self.name.encode()
+
+
+def nginx_of_a_machine(room, own, second, third):
+    """Starts nginx by examples/replicas/nginx.conf, before an own adsplice and two other machines; answers its ports for viewers and for other machines."""
+    viewers, machines = free_port(), free_port()
+    with open(f"{PLANT}/../examples/replicas/nginx.conf", encoding="utf-8") as it:
+        text = it.read()
+    paths = "".join(f"    {it}_temp_path {room.path}/{it};\n" for it in ("client_body", "proxy", "fastcgi", "uwsgi", "scgi"))
+    for old, new in (("127.0.0.1:8090", f"127.0.0.1:{own.port}"), ("10.0.0.2:8082", f"127.0.0.1:{second.port}"), ("10.0.0.3:8082", f"127.0.0.1:{third.port}"), ("listen 8080", f"listen 127.0.0.1:{viewers}"),
+                     ("listen 10.0.0.1:8082", f"listen 127.0.0.1:{machines}"), ("allow 10.0.0.0/24", "allow 127.0.0.1"), ("/var/cache/nginx/adsplice", f"{room.path}/cache"),
+                     ("/var/lib/adsplice/kept", room.path), ("worker_rlimit_nofile 65536;\n", ""), ("worker_connections 16384", "worker_connections 512"),
+                     ("http {\n", f"error_log {room.path}/error.log;\npid {room.path}/nginx.pid;\nhttp {{\n{paths}"), ("proxy_cache_valid 200 1s", "proxy_cache_valid 200 0s")):
+        assert old in text, old
+        text = text.replace(old, new)
+    os.chmod(room.path, 0o755)
+    room.running.append(subprocess.Popen(["nginx", "-c", room.write("nginx.conf", text), "-g", "daemon off; master_process off;"], stdout=subprocess.DEVNULL, stderr=subprocess.DEVNULL))
+    until(lambda: get(f"http://127.0.0.1:{viewers}/")[0] == 404, 10, "nginx")
+    return viewers, machines
+
+
+def test_nginx_reads_no_list_of_a_machine_that_is_behind(room):
+    servers = [room.server(Lists()) for _ in range(3)]
+    for it, name in zip(servers, ("own", "second", "third")):
+        it.name = name
+    viewers, machines = nginx_of_a_machine(room, *servers)
+
+    def read(count=1, port=viewers):
+        return {get(f"http://127.0.0.1:{port}/channels/news/live.m3u8") for _ in range(count)}
+
+    assert read(9) == {(200, "own")} == read(1, machines)
+    flag = room.write("news.behind", "")
+    assert read(9) == {(200, "second")} and get(f"http://127.0.0.1:{machines}/channels/news/live.m3u8")[0] == 404
+    assert get(f"http://127.0.0.1:{viewers}/channels/sport/live.m3u8") == (200, "own"), "another channel isn't behind"
+    servers[1].status = 404
+    assert read(9) == {(200, "third")}
+    servers[2].status = 404
+    assert read() == {(200, "own")}, "an old list is better than none"
+    os.unlink(flag)
+    servers[0].status = servers[1].status = servers[2].status = 200
+    assert read(9) == {(200, "own")}
+    servers[0].status = 404
+    assert read(9) == {(200, "second")}, "of the others one is read as long as it answers"
+
+
+test_nginx_reads_no_list_of_a_machine_that_is_behind.needs = ("httpx", "nginx")

@@ -65,6 +65,31 @@ def test_a_machine_that_was_away_catches_up_at_once(room):
 
 
 @needs("httpx", "etcd")
+def test_a_machine_shows_that_a_channel_of_it_is_behind(room):
+    etcds = Etcds(room, 1)
+    group = Group(room, etcds.text(), 2)
+    group.settled()
+    flags = [f"{room.path}/m{place}/kept/news.behind" for place in range(2)]
+    until(lambda: not any(map(os.path.exists, flags)), 5, "both machines without the file")
+    for place in range(2):  # (one of them leads)
+        group.controllers[place].away.add("news")
+        group.step(4)
+        assert os.path.exists(flags[place]) and not os.path.exists(flags[1 - place]), "its controller doesn't answer"
+        group.controllers[place].away.clear()
+        group.settled()
+        until(lambda it=flags[place]: not os.path.exists(it), 5, f"no file {flags[place]}")
+    group.kill(1, signal.SIGTERM)
+    assert os.path.exists(flags[1]), "nobody gives it lists any more"
+    group.kill(0)
+    with open(f"{room.path}/m0/feed.ini", encoding="utf-8") as it:
+        text = it.read()
+    room.write("m0/feed.ini", text.replace(f"store = {group.store}\nmachine = m0\n", ""))
+    open(flags[0], "wb").close()
+    group.feeds[0] = room.feed("--config", f"{room.path}/m0/feed.ini")
+    until(lambda: not os.path.exists(flags[0]), 10, "a machine by itself without the file")
+
+
+@needs("httpx", "etcd")
 def test_a_feed_that_ends_gives_its_leads_up_at_once(room):
     etcds = Etcds(room, 1)
     group = Group(room, etcds.text())
