@@ -48,8 +48,8 @@ DECIDED_BREAKS = Limit("the breaks that have pods by decisions", ("crates/pod_st
     ("tests/model_faults", '"MOST_DECIDED = {n:_}", "MOST_DECIDED = {less:_}"'),
     ("docs/decisions.schema.json", '"maxItems": {n}, "items": {{ "$ref": "#/definitions/break" }}'),
     ("docs/DECISION_FILES.md", "at most {n:,} in one file"),
-    ("docs/OPERATING.md", "than adsplice has room for ({n:,} breaks)"),
-    ("docs/OPERATING.md", "more than {n:,} breaks that are still to come"),
+    ("docs/operating/ads.md", "than adsplice has room for ({n:,} breaks)"),
+    ("docs/operating/faults.md", "more than {n:,} breaks that are still to come"),
     ("docs/SIGNALS.md", "more than {n:,} breaks that aren't over"),
     ("README.md", "at most {n:,} decided breaks"),
 ))
@@ -63,7 +63,7 @@ PLAYLIST_BYTES = Limit("the bytes of a playlist", ("crates/playlist_model/specs/
     ("plant/adsplice_rules/reading.py", "MOST_BYTES = {n:_} "),
     ("plant/adsplice_plant/faults.py", '"P2": "it is longer than {n:,} bytes"'),
     ("docs/CONFORMANCE.md", "at most {n:,} bytes and"),
-    ("docs/OPERATING.md", "| `P2 TooLong` | it is longer than {n:,} bytes"),
+    ("docs/operating/faults.md", "| `P2 TooLong` | it is longer than {n:,} bytes"),
     ("docs/PROOF.md", "These are {n:,} bytes"),
     ("README.md", "| A media playlist | at most {n:,} bytes"),
 ))
@@ -77,8 +77,8 @@ PLAYLIST_SEGMENTS = Limit("the segments of a playlist", ("crates/playlist_model/
     ("plant/adsplice_plant/origin.py", "adsplice takes {n:,} segments"),
     ("plant/adsplice_plant/faults.py", '"P24": "more than {n:,} segments'),
     ("docs/CONFORMANCE.md", "bytes and {n:,} segments"),
-    ("docs/OPERATING.md", "lines or {n:,} segments isn't put right"),
-    ("docs/OPERATING.md", "| `P24 TooMany` | more than {n:,} segments"),
+    ("docs/operating/channel.md", "60,000 lines or {n:,} segments. It pushes"),
+    ("docs/operating/faults.md", "| `P24 TooMany` | more than {n:,} segments"),
     ("docs/PROOF.md", "bytes, {n:,} segments, 64"),
     ("README.md", "bytes, {n:,} segments"),
 ))
@@ -91,7 +91,7 @@ OTHERS = (
         ("plant/adsplice_rules/attributes.py", "MOST_ATTRIBUTES = {n} "),
         ("plant/adsplice_plant/spelling.py", "MOST_ATTRIBUTES = {n} "),
         ("docs/CONFORMANCE.md", "at most {n} attributes in a tag"),
-        ("docs/OPERATING.md", "the attribute list doesn't read, or has more than {n} "),
+        ("docs/operating/faults.md", "the attribute list doesn't read, or has more than {n} "),
         ("README.md", "{n} attributes a tag"))),
     Limit("the key formats in force", (READING, "  formats = Some {n};"), (
         ("crates/playlist_model/src/limits.rt", "MAX_FORMATS: usize = {n};"),
@@ -99,7 +99,7 @@ OTHERS = (
         ("plant/adsplice_rules/keys.py", "MOST_FORMATS = {n} "),
         ("plant/adsplice_plant/faults.py", "keys of more than {n} formats at a time"),
         ("docs/CONFORMANCE.md", "of at most {n} formats"),
-        ("docs/OPERATING.md", "keys of more than {n} formats in force"),
+        ("docs/operating/faults.md", "keys of more than {n} formats in force"),
         ("README.md", "{n} key formats in force"))),
     Limit("the channels of a process", ("crates/http_edge/specs/Table.antt", "nat_le {n} (length table)"), (
         ("crates/http_edge/src/channels.rt", "MAX_CHANNELS: usize = {n};"),
@@ -107,37 +107,37 @@ OTHERS = (
         ("plant/adsplice_plant/settings.py", "MOST_CHANNELS = {n} "),
         ("plant/adsplice_plant/faults.py", "no room: {n} channels are there"),
         ("docs/DECISIONS.md", "a PUT of the {more}th is 503"),
-        ("docs/OPERATING.md", "| 503 | nothing | {n} channels are there"),
-        ("docs/OPERATING.md", "**How many.** A process has {n} channels"),
+        ("docs/operating/faults.md", "| 503 | nothing | {n} channels are there"),
+        ("docs/operating/capacity.md", "A process has {n} channels"),
         ("README.md", "it would be the {more}th channel"),
         ("README.md", "| A process | at most {n} channels"))),
     Limit("the connections at a time", (CONNECTIONS, "place_count = {n}\n"), (
         ("crates/connections/src/table.rt", "PLACES: usize = {n};"),
         ("docs/ARCHITECTURE.md", "which of the {n} it has"),
         ("docs/DECISIONS.md", "There are {n} places"),
-        ("docs/OPERATING.md", "{n} connections at once"),
+        ("docs/operating/security.md", "{n} connections at a time"),
         ("docs/PROOF.md", "each of the {n} places"),
         ("README.md", "{n} connections at a time"))),
     Limit("the bytes of unfinished requests", (CONNECTIONS, "most_held = {n}\n"), (
         ("crates/connections/src/table.rt", "MAX_HELD: usize = {n:_};"),
         ("docs/DECISIONS.md", "{mib} MiB for unfinished requests"),
-        ("docs/OPERATING.md", "{mib} MiB over all connections"),
+        ("docs/operating/security.md", "{mib} MiB over all connections"),
         ("docs/PROOF.md", "would pass {mib} MiB: nothing"),
         ("README.md", "{mib} MiB of unfinished requests"))),
     Limit("the time of a connection", (CONNECTIONS, "serving_nanos = {n}\n"), (
         ("crates/connections/src/deadlines.rt", "SERVING_MILLIS: u64 = {ms:_};"),
         ("docs/DECISIONS.md", "\n{s} seconds for the request, from its accept on, and {s} for the reply"),
-        ("docs/OPERATING.md", "{s} seconds for a request, from its connection's begin, and {s} seconds for its reply"),
+        ("docs/operating/security.md", "{s} seconds for a request, from its connection's begin, and {s} seconds for its reply"),
         ("README.md", "{s} seconds for a request, and {s} for its reply"))),
     Limit("the bytes of a request's head", (MESSAGES, "head_limit = {n}\n"), (
         ("crates/http_messages/src/head.rt", "MAX_HEAD_BYTES: usize = {n:_};"),
         ("plant/adsplice_rules/edge.py", "MOST_HEAD = {n:_}\n"),
         ("docs/CONFORMANCE.md", "within the {n:,} bytes of a head"),
-        ("docs/OPERATING.md", "is longer than {n:,} bytes or"))),
+        ("docs/operating/faults.md", "is longer than {n:,} bytes or"))),
     Limit("the fields of a request", (MESSAGES, "field_limit = {n}\n"), (
         ("crates/http_messages/src/head.rt", "MAX_FIELDS: usize = {n};"),
         ("plant/adsplice_rules/edge.py", "MOST_FIELDS = {n}\n"),
-        ("docs/OPERATING.md", "or has more than {n} fields"))),
+        ("docs/operating/faults.md", "or has more than {n} fields"))),
     Limit("the bytes of a request's body", (MESSAGES, "body_limit = {n}\n"), (
         ("crates/http_messages/src/head.rt", "MAX_BODY_BYTES: u64 = {n:_};"),
         ("plant/adsplice_rules/edge.py", "MOST_BODY = {n:_}\n"))),
@@ -145,8 +145,8 @@ OTHERS = (
         ("crates/byte_streams/src/device.rt", "MAX_READS: u64 = {n:_};"),
         ("tests/run_devices", "MAX_READS = {n:_} "),
         ("docs/DECISIONS.md", "(at most {n:,} reads of"),
-        ("docs/OPERATING.md", "{n:,} reads of its input, and no end"),
-        ("docs/OPERATING.md", "{n:,} reads and no whole request"),
+        ("docs/operating/faults.md", "{n:,} reads of its input, and no end"),
+        ("docs/operating/faults.md", "{n:,} reads and no whole request"),
         ("docs/PROOF.md", "each of {n:,} reads gave bytes"),
         ("docs/PROOF.md", "with its {n:,}th piece"))),
     Limit("the bytes of a break's ID", ("crates/pod_store/specs/Pods.antt", "nat_le (length text) {n} && value_fits"), (
@@ -158,7 +158,7 @@ OTHERS = (
     Limit("a channel's tolerance", ("crates/channel_spec/specs/Limits.antt", "max_tolerance = {n}\n"), (
         ("crates/channel_spec/src/lib.rt", "MAX_TOLERANCE: u64 = {n:_};"),
         ("plant/adsplice_plant/faults.py", "a duration of at most {s} s"),
-        ("docs/OPERATING.md", "`tolerance` is no duration, or is over {s} s"),
+        ("docs/operating/faults.md", "`tolerance` is no duration, or is over {s} s"),
         ("docs/PROOF.md", "The tolerance is at most {s} s"))),
 )
 LIMITS = (POD_SEGMENTS, DECIDED_BREAKS, PLAYLIST_BYTES, PLAYLIST_SEGMENTS, *OTHERS)

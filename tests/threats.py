@@ -1,4 +1,4 @@
-"""Whether each line of the threat model in docs/OPERATING.md names what tries it, and that is there. tests/rules calls `lacking`.
+"""Whether each line of the threat model in docs/operating/security.md names what tries it, and that is there. tests/rules calls `lacking`.
 
 A name in backticks in a row's last cell is a test, a function of plant/tests/of_*.py, or the path of a script.
 """
@@ -8,7 +8,7 @@ import glob
 import os
 import re
 
-PAGE, TITLE = "docs/OPERATING.md", "## Who can do what"
+PAGE, TITLE = "docs/operating/security.md", "## The threat model"
 ACTORS = ("origin", "ad server", "viewer", "local user", "network")  # each has a row at least
 
 

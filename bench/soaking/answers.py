@@ -1,4 +1,4 @@
-"""The answers that may be given, by name (docs/OPERATING.md has them all), and what has to hold between the answers of an
+"""The answers that may be given, by name (docs/operating/faults.md has them all), and what has to hold between the answers of an
 input.
 
 Out of memory is none of them: nothing refuses memory here.

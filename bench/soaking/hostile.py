@@ -1,5 +1,5 @@
 """What a hostile origin costs a server: texts that are small or large, each pushed to a server of its own, with a limit on its
-address space and with none. Prints a row for each, as docs/OPERATING.md has them."""
+address space and with none. Prints a row for each, as docs/operating/security.md has some."""
 import json
 from random import Random
 

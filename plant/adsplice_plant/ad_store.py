@@ -13,7 +13,6 @@ import shutil
 import tempfile
 import threading
 import time
-from collections import deque
 from collections.abc import Callable
 from dataclasses import dataclass, field, replace
 from pathlib import Path
@@ -36,10 +35,12 @@ MOST_KNOWN = 20_000  # URLs that are known
 AGAIN = 3600.0  # seconds after which the server of a file is asked whether it has changed
 FIRST_PAUSE, LONGEST_PAUSE = 10.0, 3600.0  # seconds until an ad that couldn't be made is tried again
 RECENT = 3600.0  # seconds since its last use in which an ad doesn't go, for viewers may read it yet
+NOTED = 60.0  # seconds after which the use of an ad is noted again: a disk that is busy may take long for it
 CLEANED = 600.0  # seconds between two times that old ads are taken away
 DAY = 86_400.0
 FETCH = 300.0  # seconds for a file
 FILES = "files.json"
+UNREAD, UNMADE = "it isn't read", "it can't be made"  # how it begins why a file isn't ready of which another one may be
 PRIVATE = 0o750  # of what is kept: URLs of ads may have tokens
 
 
@@ -100,9 +101,10 @@ class Store:
     def __init__(self, store: Path, keep: Path, at: str, bounds: Bounds, say: Callable[[str, str], None]) -> None:
         self.store, self.keep, self.at, self.bounds, self.say = store, keep, at, bounds, say
         self.children, self.lock = Children(), threading.Lock()
+        self.writing = threading.Lock()  # held while the disk is written or looked through; questions don't wait for it
         self.known: dict[tuple[str, str], Known] = {}
         self.failed: dict[tuple[str, str], Failed] = {}
-        self.waiting: deque[Wanted] = deque()
+        self.waiting: dict[tuple[str, str], Wanted] = {}  # the first one is made first
         self.making: set[tuple[str, str]] = set()
         self.there: dict[tuple[str, str], Made] = {}  # by the folders
         self.sizes: dict[Path, int] = {}  # of the folders, which don't change
@@ -127,10 +129,20 @@ class Store:
         (self.keep / "files").mkdir()
         self.known = known_in(self.keep / FILES)
         self.clean()
-        for _ in range(self.bounds.processes):
-            thread = threading.Thread(target=self.run, daemon=True)
+        for target in (self.remember, *[self.run] * self.bounds.processes):
+            thread = threading.Thread(target=target, daemon=True)
             thread.start()
             self.threads.append(thread)
+
+    def remember(self) -> None:
+        """Reads what is there, those ads first that were noted last: a question needn't wait for the disk then."""
+        with self.lock:
+            keys = [(key[0], it.ad) for key, it in reversed(self.known.items())]
+        for ladder, ad in keys:
+            if self.is_over:
+                return
+            with self.lock:
+                self.at_hand(ladder, ad)
 
     def end(self) -> None:
         """Makes no more, and leaves no ad that isn't whole."""
@@ -146,24 +158,26 @@ class Store:
 
     # ---- what is there
 
-    def ready(self, it: Wanted, is_alone: bool) -> Ready | str:
-        """The ad `it` if it is made, or why it isn't; it is wanted from now on. `is_alone`: for a channel by itself, whose rendition has no name."""
-        key = it.key()
-        with self.work:
+    def ready(self, it: Wanted, is_alone: bool, strays: Callable[[str], str] = lambda url: "") -> Ready | str:
+        """The ad `it` if it is made, or why it isn't; it is wanted from now on. `is_alone`: for a channel by itself, whose rendition has no name.
+        `strays` says why a URL isn't asked, and nothing if it may be."""
+        key, now = it.key(), time.time()
+        with self.lock:
             known = self.known.get(key)
             made = None if known is None else self.at_hand(key[0], known.ad)
-            if known is None or made is None:
-                return self.want(it, key)
-            if time.time() - known.at > AGAIN:
-                self.want(it, key)
-        folder = self.store / key[0] / known.ad
+        if known is None or made is None:
+            return f"{UNREAD}: {why}" if (why := strays(it.url)) else self.want(it, key)
+        if now - known.at > AGAIN and not strays(it.url):
+            self.want(it, key)
+        facts = self.store / key[0] / known.ad / making.FACTS
         try:
-            os.utime(folder / making.FACTS)
+            if now - facts.stat().st_mtime > NOTED:
+                os.utime(facts)
         except OSError:
             return "it isn't there any more"
         at = f"{self.at}/{key[0]}/{known.ad}/{ALONE if is_alone else '{}'}"
         over = over_of(sum(made.pieces), it.ladder, it.is_other)
-        twin = self.ready(replace(it, is_other=True), is_alone) if over and not it.is_other else ""
+        twin = self.ready(replace(it, is_other=True), is_alone, strays) if over and not it.is_other else ""
         is_its = isinstance(twin, Ready) and f"/{known.ad}{making.OTHER}/" in twin.uri  # (and not that of the file before)
         return Ready(it.id, made.pieces, f"{at}/s{{n}}.{made.ending}", f"{at}/{SECTION}" if made.has_map else "", over, twin if isinstance(twin, Ready) and is_its else None)
 
@@ -174,19 +188,20 @@ class Store:
         return self.there.get((ladder, ad))
 
     def want(self, it: Wanted, key: tuple[str, str]) -> str:
-        """The ad `it` of this `key` is to be made, or looked at again; why it isn't ready. (The lock is held.)"""
-        if key in self.making:
-            return "it is being made"
-        failed = self.failed.get(key)
-        if failed is not None and time.monotonic() < failed.until:
-            return f"it can't be made: {failed.why}"
-        if any(one.key() == key for one in self.waiting):
-            return "it waits to be made"
-        if len(self.waiting) >= MOST_WAITING:
-            return f"it isn't made: {MOST_WAITING} ads wait to be made"
-        self.waiting.append(it)
-        self.work.notify()
-        return "it isn't made yet"
+        """The ad `it` of this `key` is to be made, or looked at again; why it isn't ready."""
+        with self.work:
+            if key in self.making:
+                return "it is being made"
+            failed = self.failed.get(key)
+            if failed is not None and time.monotonic() < failed.until:
+                return f"{UNMADE}: {failed.why}"
+            if key in self.waiting:
+                return "it waits to be made"
+            if len(self.waiting) >= MOST_WAITING:
+                return f"it isn't made: {MOST_WAITING} ads wait to be made"
+            self.waiting[key] = it
+            self.work.notify()
+            return "it isn't made yet"
 
     def counts(self) -> dict[str, int]:
         """How many ads are ready, wait or are being made, and couldn't be made of those that were wanted lately."""
@@ -198,7 +213,9 @@ class Store:
 
     def run(self) -> None:
         """Makes what is wanted, one after the other, until the end."""
-        while (it := self.next()) is not None:
+        while not self.is_over:
+            if (it := self.next()) is None:
+                continue
             key = it.key()
             try:
                 self.make(it, key)
@@ -211,18 +228,17 @@ class Store:
                     self.making.discard(key)
 
     def next(self) -> Wanted | None:
-        """The next ad that is to be made; none at the end."""
+        """The next ad that is to be made; none if none waits for a while, in which old ones are taken away, and none at the end."""
         with self.work:
-            while not self.waiting and not self.is_over:
+            if not self.waiting and not self.is_over:
                 self.work.wait(60)
-                if not self.waiting and time.monotonic() - self.cleaned > CLEANED:
-                    self.clean_held()
-            if self.is_over:
-                return None
-            it = next((one for one in self.waiting if not one.is_other), self.waiting[0])
-            self.waiting.remove(it)
-            self.making.add(it.key())
-            return it
+            if self.waiting and not self.is_over:
+                key = next((key for key, one in self.waiting.items() if not one.is_other), next(iter(self.waiting)))
+                self.making.add(key)
+                return self.waiting.pop(key)
+        if not self.is_over and time.monotonic() - self.cleaned > CLEANED:
+            self.clean()
+        return None
 
     def fail(self, it: Wanted, key: tuple[str, str], why: str) -> None:
         """The ad `it` of this `key` couldn't be made, for the reason `why`."""
@@ -269,13 +285,14 @@ class Store:
 
     def note(self, key: tuple[str, str], known: Known) -> None:
         """The ad of this `key` is `known`, which is kept. Raises OSError."""
-        with self.lock:
-            self.known.pop(key, None)
-            self.known[key] = known
-            while len(self.known) > MOST_KNOWN:
-                self.known.pop(next(iter(self.known)))
-            said = json.dumps([[*name, it.ad, it.tag, it.at] for name, it in self.known.items()]).encode()
-            write_aside(self.keep / FILES, said)
+        with self.writing:
+            with self.lock:
+                self.known.pop(key, None)
+                self.known[key] = known
+                while len(self.known) > MOST_KNOWN:
+                    self.known.pop(next(iter(self.known)))
+                its = list(self.known.items())
+            write_aside(self.keep / FILES, json.dumps([[*name, it.ad, it.tag, it.at] for name, it in its]).encode())
 
     # ---- room
 
@@ -286,29 +303,41 @@ class Store:
 
     def clean(self) -> None:
         """Takes ads away that weren't used for long, and the least used ones if there is no room."""
-        with self.lock:
-            self.clean_held()
+        with self.writing:
+            self.cleaned, now = time.monotonic(), time.time()
+            its = self.used()
+            self.sizes = {path: size for _, size, path in its}
+            self.bytes = sum(self.sizes.values())
+            for used, size, path in sorted(its):
+                is_old = now - used > self.bounds.days * DAY
+                if is_old or (self.bytes > self.bounds.room and now - used >= RECENT):
+                    self.take_away(path)
+                    self.bytes -= size
+            there = {(path.parent.name, path.name) for path in self.sizes if path.is_dir()}
+            with self.lock:
+                self.known = {key: it for key, it in self.known.items() if (key[0], it.ad) in there}
 
-    def clean_held(self) -> None:
-        """The same. (The lock is held.)"""
-        self.cleaned, now = time.monotonic(), time.time()
-        its = []
+    def used(self) -> list[tuple[float, int, Path]]:
+        """The ads on disk: when each was used last, in seconds since 1970, how many bytes it has, and its folder."""
+        found = []
         for path in self.store.glob("*/*"):
             try:
                 used = (path / making.FACTS).stat().st_mtime
             except OSError:
                 continue
-            its.append((used, self.sizes.get(path) or size_of(path), path))
-        self.sizes = {path: size for _, size, path in its}
-        self.bytes = sum(size for _, size, _ in its)
-        for used, size, path in sorted(its):
-            is_old = now - used > self.bounds.days * DAY
-            if not is_old and (self.bytes <= self.bounds.room or now - used < RECENT):
-                continue
+            if not path.name.startswith(making.ASIDE):
+                found.append((used, self.sizes.get(path) or size_of(path), path))
+        return found
+
+    def take_away(self, path: Path) -> None:
+        """Takes the ad in the folder `path` away: as a whole, whoever asks for it meanwhile."""
+        aside = path.with_name(f"{making.ASIDE}{path.name}")
+        with self.lock:
             self.there.pop((path.parent.name, path.name), None)
-            shutil.rmtree(path, ignore_errors=True)
-            self.bytes -= size
-        self.known = {key: it for key, it in self.known.items() if (self.store / key[0] / it.ad).is_dir()}
+            self.known = {key: it for key, it in self.known.items() if (key[0], it.ad) != (path.parent.name, path.name)}
+            with contextlib.suppress(OSError):
+                os.replace(path, aside)
+        shutil.rmtree(aside, ignore_errors=True)
 
 
 def known_in(path: Path) -> dict[tuple[str, str], Known]:

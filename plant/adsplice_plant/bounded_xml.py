@@ -17,7 +17,7 @@ class NoXml(Exception):
     """A text that isn't taken; it says why, and in which line."""
 
 
-@dataclass
+@dataclass(slots=True)
 class Element:
     """An element: its local `name`, its attributes by their local names, the text in it that no child holds, and its children in order."""
 
@@ -79,9 +79,11 @@ class Builder:
             raise self.refuse(f"it has over {MOST_ELEMENTS} elements")
         if len(self.open) >= DEEPEST:
             raise self.refuse(f"its elements are over {DEEPEST} levels deep")
-        if any(len(it) > LONGEST for it in attributes.values()):
-            raise self.refuse(f"an attribute has over {LONGEST} characters")
-        it = Element(local(name), {local(key): value for key, value in attributes.items()})
+        if attributes:
+            if max(map(len, attributes.values())) > LONGEST:
+                raise self.refuse(f"an attribute has over {LONGEST} characters")
+            attributes = {local(key): value for key, value in attributes.items()}
+        it = Element(local(name), attributes)
         if self.open:
             self.open[-1].children.append(it)
         else:

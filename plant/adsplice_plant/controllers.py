@@ -163,6 +163,17 @@ def least_of(stands: Standing, reached: int) -> int:
     return numbers.run_before(stands.viewed, history_of(stands), number) if number == reached + 1 else number
 
 
+def is_bare_since(turn: Turn, stands: Standing, reached: int) -> bool:
+    """Whether viewers have the programme's own segments alone between that of the media number `reached` and the newest list, and no break begins there."""
+    history, last = history_of(stands), stands.repairer.last
+    if reached < 0 or not last:
+        return False
+    since = max(reached, last[0].number - len(last))
+    between = [it for it in history if since <= it.number < last[0].number]
+    starts = [found[1] for line, _ in stands.viewed.ranges.values() if (found := ranges.start_in(line)) is not None]
+    return numbers.is_plain(stands.viewed, [*between, last[0]]) and not any(abs((it.begins or 0) - start) <= turn.state.translator.tolerance for it in between for start in starts)
+
+
 def reckoned_anew(turn: Turn, stands: Standing) -> Viewed:
     """What viewers have of a new channel whose first list is that of `stands`, if nothing is known of what they had."""
     viewed, last = Viewed(reckoned=Reckoned(), ranges=dict(stands.viewed.ranges)), stands.repairer.last
@@ -353,8 +364,9 @@ def newest_in(written: bytes, history: list[PackagedSegment]) -> int:
 def begin_anew(turn: Turn, channel: str) -> None:
     """The channel has no list: it is given all that is open, and begins where viewers' list stood."""
     it = turn.state.renditions[channel]
-    has_gone_on = bool(turn.state.life) and it.controller.listed < it.stands.after  # (other machines have shown what it lacks, and the log forgets that)
-    reached = -1 if has_gone_on else max(it.controller.took, it.controller.reached)
+    reached = max(it.controller.took, it.controller.reached)
+    if turn.state.life and it.controller.listed < it.stands.after and not is_bare_since(turn, it.stands, reached):
+        reached = -1  # (other machines have shown what it lacks, and the log forgets with what breaks began that aren't listed any more)
     turn.put(channel, controller=Controller(Way.THERE, reached=reached, anew=turn.state.entry, dropped_at=it.controller.dropped_at), before=None)
     stands = it.stands
     if it.is_blocked:

@@ -2,11 +2,13 @@
 from __future__ import annotations
 
 import argparse
+import gc
 import threading
+import time
 from collections.abc import Callable
 from pathlib import Path
 
-from . import answering, decide_check, decide_settings, tracking, words
+from . import answering, decide_check, decide_settings, tracking, web, words
 from .ad_store import Bounds, Store
 from .answering import Reply
 from .decide_figures import Figures
@@ -14,6 +16,8 @@ from .decide_ladders import Watch, text_of
 from .decide_settings import Section, Settings
 from .deciding import Channel, question_of
 from .words import Fault
+
+SELDOM = 100_000  # objects that are made until Python looks for garbage: the elements of the longest document are fewer
 
 HELP = """Answers the questions of adsplice-feed by a VAST ad server (IAB VAST 2.0 to 4.2), and makes its ads for the channels' ladders by ffmpeg.
 
@@ -66,7 +70,7 @@ class Decider:
         self.settings, self.say, self.ending = settings, say, threading.Event()
         bounds = Bounds(shop.processes, shop.threads, shop.patience, shop.largest, shop.room, shop.days)
         self.store = Store(shop.store, shop.keep, shop.at, bounds, lambda word, text: self.tell("store", "store", "-", word or "-", text))
-        self.channels = {it.name: Channel(it, self.store, self.teller(it.name), shop.keep / "answers" / it.name) for it in settings.sections}
+        self.channels = {it.name: Channel(it, self.store, self.teller(it.name), shop.keep / "answers" / it.name, shop.keep / "given" / it.name) for it in settings.sections}
         self.watches = [self.watch(it) for it in settings.sections]
         self.figures = Figures(self.channels, self.store)
         self.trackers = [self.tracker(it) for it in settings.sections if it.tracking]
@@ -124,6 +128,10 @@ class Decider:
         for it in self.watches:
             it.begin()
         self.store.begin()
+        for channel in self.channels.values():
+            channel.begin(time.time_ns())
+        if any(it.vast.startswith("https:") for it in self.settings.sections):
+            web.certificates()  # (reading them takes a tenth of a second, which the first question hasn't)
         for run in [*(it.run for it in self.watches), *(it.run for it in self.channels.values()), *(it.run for it in self.trackers)]:
             threading.Thread(target=run, args=(self.ending,), daemon=True).start()
 
@@ -163,12 +171,20 @@ def main(arguments: list[str]) -> int:
         words.fail("adsplice-decide", str(fault))
 
 
+def look_seldom() -> None:
+    """Python looks for garbage less often, and not in what lasts: a look through all objects took half the time of an answer's bound."""
+    gc.collect()
+    gc.freeze()
+    gc.set_threshold(SELDOM)
+
+
 def serve(settings: Settings, listen: str) -> int:
     """Answers questions by `settings` at the address `listen` until a signal ends it; answers the exit status."""
     ending = words.ends_by_signals()
     decider = Decider(settings, words.Teller().say)
     try:
         decider.begin()
+        look_seldom()
         server = answering.serving(listen, decider.decide, decider.figures.text)
         try:
             decider.tell("decide", "decide", "-", "-", f"answers questions on {listen} for {', '.join(decider.channels)}")

@@ -144,15 +144,24 @@ def starts_of(it: Rendition) -> dict[str, int]:
 
 
 def begun_of(turn: Turn, ids: Collection[str]) -> list[str]:
-    """Those of the breaks `ids` that have begun in a list which the log gives to a rendition: they stay as they are in all."""
-    begun: set[str] = set()
-    for _, it in turn.renditions():
-        pods, last = it.stands.pods, it.stands.repairer.last
-        begun |= {name for name in ids if name in pods.entered or name in pods.missed}
-        if last and not begun.issuperset(ids):
-            reached = (last[-1].begins or 0) + turn.state.translator.tolerance
-            begun |= {name for name, start in starts_of(it).items() if name in ids and start <= reached}
+    """Those of the breaks `ids` that have begun in a list which the log gives to a rendition: they stay as they are in all. If breaks are filled in the
+    others that a rendition can't begin, one that is empty there hasn't begun before it is so in all."""
+    if not ids:
+        return []
+    found = [empty_of(turn, it, ids) for _, it in turn.renditions()]
+    begun = set[str]().union(*(it.stands.pods.entered.keys() & set(ids) for _, it in turn.renditions()))
+    begun |= set.intersection(*found) if turn.fills_others() else set.union(*found)
     return [name for name in dict.fromkeys(ids) if name in begun]
+
+
+def empty_of(turn: Turn, it: Rendition, ids: Collection[str]) -> set[str]:
+    """Those of the breaks `ids` that have begun in the rendition, or would have, also if that was without a pod."""
+    pods, last = it.stands.pods, it.stands.repairer.last
+    begun = {name for name in ids if name in pods.entered or name in pods.missed}
+    if last and not begun.issuperset(ids):
+        reached = (last[-1].begins or 0) + turn.state.translator.tolerance
+        begun |= {name for name, start in starts_of(it).items() if name in ids and start <= reached}
+    return begun
 
 
 # ---- entries

@@ -7,15 +7,16 @@ import threading
 import time
 from collections import Counter
 from collections.abc import Callable
-from concurrent.futures import ThreadPoolExecutor
+from concurrent.futures import Future, ThreadPoolExecutor
 from dataclasses import dataclass, field
 from pathlib import Path
 
 from . import ad_server, filling, macros, playlist, tracking
 from .ad_server import Asking, Found, Lack
-from .ad_store import Store, Wanted
+from .ad_store import UNMADE, UNREAD, Store, Wanted
 from .decide_settings import Section, schedule_in
 from .filling import Pod, Ready
+from .given_ads import Given, GivenAds
 from .ladders import ALONE, Ladder
 from .playlist import SECOND, seconds_text
 from .vast import Ad
@@ -27,6 +28,7 @@ PREFETCH = 10.0  # seconds that the ad server has if nobody waits
 FILM = 30.0  # seconds for a piece of a file
 WITHIN = "2"  # BREAKPOSITION of a break within the programme
 SLATE = "slate"  # the ID of what fills up
+PREFETCHED = "ahead"  # how the key begins of what is asked for ahead
 BUCKETS = (0.05, 0.1, 0.25, 0.5, 1.0, 2.5)
 MOST_LACKS = 20  # lines for one break
 CLEANED = 3600.0  # seconds between two times that old answers are taken away
@@ -45,6 +47,10 @@ class Question:
     planned: int | None
     target: int
     renditions: tuple[str, ...]
+
+    def key(self) -> str:
+        """By what it is known if it comes again."""
+        return f"{self.id} {self.start} {self.planned} {self.target} {' '.join(self.renditions)}"
 
 
 def question_of(body: bytes) -> Question:
@@ -75,43 +81,74 @@ class Counts:
     tracked: Counter[str] = field(default_factory=Counter)
 
 
-@dataclass(frozen=True)
-class Held:
-    """What an ad server gave before the break: for the one that begins at `start`, if that is known; it came at a moment of the monotonic clock."""
-
-    found: Found
-    start: int | None
-    at: float
-
-
 class Channel:
-    """One channel's questions: by its `section`, and the `store` of ads that are made. `tell` prints a line, and `answers` is the folder in which
-    answers are kept. The ad server is asked by `client` while a list waits, and by `patient` before; `films` fetches the ads' files."""
+    """One channel's questions: by its `section`, and the `store` of ads that are made. `tell` prints a line. `answers` is the folder in which
+    answers are kept, and `given` the one of what the ad server gave. The ad server is asked by `client` while a list waits, and by `patient` before; `films`
+    fetches the ads' files."""
 
-    def __init__(self, section: Section, store: Store, tell: Tell, answers: Path) -> None:
+    def __init__(self, section: Section, store: Store, tell: Tell, answers: Path, given: Path) -> None:
         self.section, self.store, self.tell, self.outside = section, store, tell, section.outside()
         self.client, self.patient, self.films = (self.outside.client(it) for it in (section.timeout, PREFETCH, FILM))
         self.pool = ThreadPoolExecutor(ad_server.AT_ONCE, f"{section.name}-wrapper")
         self.ladder: Ladder | None = None
         self.answers, self.counts, self.lock = answers, Counts(), threading.Lock()
-        self.held: list[Held] = []
+        self.given = GivenAds(given)
+        self.open: dict[str, Future[tuple[int, bytes]]] = {}  # the questions that aren't answered yet
         self.asked_for: set[int] = set()  # breaks of the schedule that were asked for
-        self.asked_at = -1e9  # when it was asked last without a schedule
+        self.asked_at = 0  # when it was asked last without a schedule, in nanoseconds from 1970
         self.breaks: list[tuple[int, int | None]] = []  # of the schedule
         self.read: tuple[int, int] | None = None  # the time and the size of the file that has them
         self.cleaned = -1e9  # when old answers were taken away
         self.over = 0  # nanoseconds by which the sound of all its answers lasts longer than the pictures
 
+    def begin(self, now: int) -> None:
+        """Takes in what an earlier program kept that isn't over at the instant `now`, in nanoseconds from 1970."""
+        self.given.begin(now)
+        ahead = self.given.ahead()
+        self.asked_for = {it.start for it in ahead if it.start is not None}
+        self.asked_at = max((it.at for it in ahead if it.start is None), default=0)
+
     # ---- answers
 
     def answer(self, question: Question) -> tuple[int, bytes]:
-        """The status and the body of the answer to the `question`."""
-        begun = time.monotonic()
+        """The status and the body of the answer to the `question`. One that comes again while it is open waits for the same answer."""
+        key, mine = question.key(), Future[tuple[int, bytes]]()
+        with self.lock:
+            going = self.open.setdefault(key, mine)
+        if going is not mine:
+            return going.result()
         try:
-            pod = self.pod(question)
+            mine.set_result(self.again(question) or self.first_answer(question))
+        except BaseException as fault:
+            mine.set_exception(fault)
+            raise
+        finally:
+            with self.lock:
+                self.open.pop(key)
+        return mine.result()
+
+    def again(self, question: Question) -> tuple[int, bytes] | None:
+        """The answer that the `question` has got before; none if it hasn't got a pod."""
+        before = self.given.of(question.key()) if question.start is not None else None
+        if before is None or not before.body:
+            return None
+        with self.lock:
+            self.counts.answers["200"] += 1
+        self.tell(f"vast/{question.id}", "200", "Again", "the question came before, and gets the same answer")
+        return 200, before.body.encode()
+
+    def first_answer(self, question: Question) -> tuple[int, bytes]:
+        """The status and the body of the answer to the `question`, which has got no pod before."""
+        begun = time.monotonic()
+        found = Found()
+        try:
+            found = self.found(question)
+            pod = self.pod(question, found)
         except Exception as fault:  # noqa: BLE001  (the feed gets an answer in any case)
             pod = Pod(lacks=[Lack("Wrong", f"{type(fault).__name__}: {str(fault)[:200]}")])
         status = 200 if pod.ready else 204
+        body = json.dumps(pod.decision(question.id)) if pod.ready else ""
+        self.remember(question, found, body)
         took = time.monotonic() - begun
         self.count(pod, status, took)
         for it in pod.lacks[:MOST_LACKS]:
@@ -123,20 +160,30 @@ class Channel:
         slate = f", and {seconds_text(pod.length() - ads)} s of the slate" if ads < pod.length() else ""
         self.tell(f"vast/{question.id}", "200", "-", f"{', '.join(it.id for it in pod.ready if it.id != SLATE)}: {seconds_text(ads)} s{slate}, after {took:.2f} s")
         self.keep(question, pod)
-        return 200, json.dumps(pod.decision(question.id)).encode()
+        return 200, body.encode()
 
-    def pod(self, question: Question) -> Pod:
-        """What fills the break of the `question`."""
-        ladder = self.ladder
+    def found(self, question: Question) -> Found:
+        """What the ad server gives for the break of the `question`, or has given for it before; nothing if no ad can be made for it."""
+        if why := self.lacks_ladder(question):
+            return Found(lacks=[Lack("NoLadder", why)])
+        before = self.given.of(question.key()) if question.start is not None else None
+        ahead = None if before else self.take_ahead(question.start)
+        if (given := before or ahead) is not None:
+            return given.found
+        return self.search(self.client, question.planned or self.section.length, time.monotonic() + self.section.timeout)
+
+    def lacks_ladder(self, question: Question) -> str:
+        """Why no ad can be made for the renditions of the `question`; empty if some can."""
+        if self.ladder is None:
+            return "it isn't known yet what the channel's ladder is like"
+        missing = [it for it in question.renditions or (ALONE,) if it not in self.ladder.renditions]
+        return f"the ladder has no rendition {missing[0]}; it has {', '.join(self.ladder.renditions)}"[:200] if missing else ""
+
+    def pod(self, question: Question, found: Found) -> Pod:
+        """What fills the break of the `question`, by what was `found` for it."""
+        ladder, planned, is_alone = self.ladder, question.planned or self.section.length, not question.renditions
         if ladder is None:
-            return Pod(lacks=[Lack("NoLadder", "it isn't known yet what the channel's ladder is like")])
-        missing = [it for it in question.renditions or (ALONE,) if it not in ladder.renditions]
-        if missing:
-            return Pod(lacks=[Lack("NoLadder", f"the ladder has no rendition {missing[0]}; it has {', '.join(ladder.renditions)}"[:200])])
-        planned = question.planned or self.section.length
-        held = self.take_held(question.start)
-        found = held.found if held else self.search(self.client, planned, time.monotonic() + self.section.timeout)
-        is_alone = not question.renditions
+            return Pod(lacks=found.lacks)
         pod = filling.fill(found, planned, functools.partial(self.ready, ladder=ladder, is_alone=is_alone), self.slate(ladder, is_alone))
         with self.lock:
             pod, self.over = filling.balanced(pod, self.over)
@@ -151,14 +198,11 @@ class Channel:
         """The `ad` as it is made for `ladder`, or why it isn't: its best file that can be made counts. `is_alone`: for a channel by itself."""
         why = ""
         for file in ad.files:
-            if stray := self.outside.strays(file.url):
-                why = why or f"MediaFile {shown(file.url)} isn't read: {stray}"
-                continue
-            found = self.store.ready(Wanted(ladder, ad.id, file.url, ad.length, self.section.loudness, self.films), is_alone)
+            found = self.store.ready(Wanted(ladder, ad.id, file.url, ad.length, self.section.loudness, self.films), is_alone, self.outside.strays)
             if not isinstance(found, str):
                 return found
             why = why or f"MediaFile {shown(file.url)}: {found}"
-            if "can't be made" not in found:
+            if not found.startswith((UNREAD, UNMADE)):
                 break
         return why
 
@@ -187,23 +231,30 @@ class Channel:
         except OSError as fault:
             self.tell(f"vast/{question.id}", "200", "Unkept", f"what its ads call isn't kept: {fault.strerror}")
 
+    def remember(self, question: Question, found: Found, body: str) -> None:
+        """Keeps what was `found` for the `question`, and the `body` of its answer, if it had a pod: should it come again, the ad server isn't asked again. A
+        question without a start is asked by hand, and one without ads may have some the next time."""
+        if question.start is not None and found.ads():
+            self.note(Given(question.key(), question.start, time.time_ns(), Found(found.slots, found.buffet), False, body), f"vast/{question.id}")
+
+    def note(self, it: Given, who: str) -> None:
+        """Keeps what was given, `it`, of which a line of `who` tells if it can't be written."""
+        try:
+            self.given.put(it)
+        except OSError as fault:
+            self.tell(who, "-", "Unkept", f"what the ad server gave isn't kept: {fault.strerror}; after a new start it is asked again")
+
     # ---- before the break
 
-    def take_held(self, start: int | None) -> Held | None:
-        """What was given before for the break that begins at `start`; none if nothing was. It is taken once."""
-        with self.lock:
-            newest = None
-            for it in self.held:
-                if (it.start is None and start is not None) or (it.start is not None and start is not None and abs(it.start - start) <= NEAR):
-                    newest = it
-            if newest is not None:
-                self.held.remove(newest)
-            return newest
-
-    def hold(self, found: Found, start: int | None) -> None:
-        """What was `found` is held for the break that begins at `start`; without one it takes the place of what was held."""
-        with self.lock:
-            self.held = [it for it in self.held if it.start is not None and it.start != start] + [Held(found, start, time.monotonic())]
+    def take_ahead(self, start: int | None) -> Given | None:
+        """What was given ahead for the break that begins at `start`, the newest one; none if nothing was. It is taken once."""
+        if start is None:
+            return None
+        near = [it for it in self.given.ahead() if it.start is None or abs(it.start - start) <= NEAR]
+        found = next((it for it in reversed(near) if self.given.take(it)), None)
+        if found is not None and found.start is None:
+            self.asked_at = 0  # (the next one is asked for at once)
+        return found
 
     def prefetch(self, planned: int | None, start: int | None) -> None:
         """Asks for the ads of a break that will begin at `start`, of `planned` nanoseconds, and has them made."""
@@ -217,7 +268,7 @@ class Channel:
             for ad in found.ads():
                 self.ready(ad, ladder, not self.has_names(ladder))
         if found.ads():
-            self.hold(found, start)
+            self.note(Given(PREFETCHED if start is None else f"{PREFETCHED} {start}", start, time.time_ns(), Found(found.slots, found.buffet), True), "prefetch")
 
     @staticmethod
     def has_names(ladder: Ladder) -> bool:
@@ -226,19 +277,19 @@ class Channel:
 
     def look_ahead(self, now: int) -> None:
         """Asks for the ads of each break that will begin soon after `now`, in nanoseconds from 1970, and forgets what came to nothing."""
-        section = self.section
-        with self.lock:
-            age = 2 * (section.prefetch or AHEAD)
-            self.held = [it for it in self.held if (it.start is None and time.monotonic() - it.at <= age) or (it.start is not None and it.start + NEAR > now)]
-            has_one = any(it.start is None for it in self.held)
+        section, age = self.section, int(2 * (self.section.prefetch or AHEAD) * SECOND)
+        self.given.forget(now)
+        for it in self.given.ahead():
+            if now - it.at > age if it.start is None else it.start + NEAR <= now:
+                self.given.take(it)
         if section.schedule is not None:
             ahead = int((section.prefetch or AHEAD) * SECOND)
             coming = [(start, planned) for start, planned in self.schedule(section.schedule) if now - NEAR < start <= now + ahead and start not in self.asked_for]
             self.asked_for = {it for it in self.asked_for if it > now - NEAR} | {start for start, _ in coming}
             for start, planned in coming:
                 self.prefetch(planned or section.length, start)
-        elif section.prefetch is not None and (time.monotonic() - self.asked_at >= section.prefetch or (not has_one and time.monotonic() - self.asked_at >= 1)):
-            self.asked_at = time.monotonic()
+        elif section.prefetch is not None and not 0 <= now - self.asked_at < int(section.prefetch * SECOND):
+            self.asked_at = now
             self.prefetch(section.length, None)
 
     def schedule(self, path: Path) -> list[tuple[int, int | None]]:

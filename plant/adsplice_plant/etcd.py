@@ -1,6 +1,7 @@
 """The keys of an etcd, read and changed by its JSON gateway (etcd 3.4, POST /v3/.., keys and values in Base64).
 
-A read goes to any member that answers. A change goes to one: whether it was made isn't known if no answer comes, so it isn't sent again here.
+The member of this machine is asked first: so the loss of another machine isn't waited for. A read goes to any member that answers. A change goes
+to one: whether it was made isn't known if no answer comes, so it isn't sent again here.
 Whatever a member answers is judged before it is used.
 """
 from __future__ import annotations
@@ -9,7 +10,10 @@ import base64
 import binascii
 import http.client
 import json
+import socket
 import threading
+import time
+import urllib.parse
 from collections.abc import Callable, Iterator, Mapping
 from functools import partial
 from typing import Any, NamedTuple, TypeVar
@@ -24,6 +28,7 @@ FIELDS = {"Content-Type": "application/json"}
 NO_TOKEN = (401, 403)  # statuses after which a token is asked for anew
 PORT = 2379
 PAGE = 64  # keys that are read at a time
+RETURN = 30.0  # seconds after which this machine's member is asked first again, since it didn't answer
 
 
 class Away(OSError):
@@ -128,21 +133,41 @@ class Etcd:
     def __init__(self, addresses: tuple[str, ...], user: str = "", password: str = "", limit: float = LIMIT) -> None:
         self.addresses, self.user, self.password = addresses, user, password
         self.client, self.lock = Client(limit), threading.Lock()
-        self.first = 0  # the member that answered last
+        self.own = place_here(addresses)
+        self.first = self.own  # the member that answered last
+        self.left_at = float("-inf")  # when that of this machine didn't answer
         self.token = ""
+
+    # ---- members
+
+    def may_return(self) -> bool:
+        """Whether another member is asked first, and that of this machine may answer again."""
+        return self.first != self.own and time.monotonic() - self.left_at >= RETURN
+
+    def begin(self) -> int:
+        """The place of the member that is asked first."""
+        if self.may_return():
+            self.first = self.own
+        return self.first
+
+    def leave(self, at: int) -> None:
+        """The member at the place `at` didn't answer: the next one is asked first."""
+        if at == self.own:
+            self.left_at = time.monotonic()
+        self.first = (at + 1) % len(self.addresses)
 
     # ---- requests
 
     def ask(self, path: str, said: Mapping[str, Any], is_read: bool = True) -> Mapping[str, Any]:
         """What is answered to what is `said` at a `path`. A read is tried at each member, a change at one. Raises Away or Refused."""
-        begin, why = self.first, ""
+        begin, why = self.begin(), ""
         for place in range(len(self.addresses) if is_read else 1):
             at = (begin + place) % len(self.addresses)
             try:
                 found = self.ask_at(at, path, said)
             except Away as fault:
                 why = str(fault)
-                self.first = (at + 1) % len(self.addresses)
+                self.leave(at)
                 continue
             self.first = at
             return found
@@ -202,7 +227,7 @@ class Etcd:
     def watch(self, prefix: str, revision: int, silence: float) -> Iterator[tuple[int, list[Seen]]]:
         """All changes of keys that begin with the `prefix`, from a `revision` on, as they come: each time the store's revision and what was changed.
         Ends if nothing comes for `silence` seconds. Raises Away, Refused or Compacted."""
-        at, said = self.first, {"create_request": {"key": coded(prefix), "range_end": coded(after_prefix(prefix)), "start_revision": str(revision)}}
+        at, said = self.begin(), {"create_request": {"key": coded(prefix), "range_end": coded(after_prefix(prefix)), "start_revision": str(revision)}}
         try:
             fields = FIELDS | ({"Authorization": token} if (token := self.token_of(at)) else {})
             for line in self.client.lines(f"{self.addresses[at]}/v3/watch", json.dumps(said).encode(), fields, silence, MOST_LINE):
@@ -214,7 +239,7 @@ class Etcd:
                     raise Compacted(plain(str(found.get("cancel_reason") or "its past is compacted"))[:200])
                 yield judged(partial(changes_of, found))
         except (OSError, http.client.HTTPException) as fault:
-            self.first = (at + 1) % len(self.addresses)
+            self.leave(at)
             if isinstance(fault, (Away, Refused)):
                 raise
             raise Away(f"{self.addresses[at]}: {plain(str(fault))[:200] or type(fault).__name__}") from None
@@ -243,6 +268,25 @@ class Etcd:
         except OSError as fault:
             return str(fault)
         return ""
+
+
+# ---- members
+
+def place_here(addresses: tuple[str, ...]) -> int:
+    """The place of the first of the `addresses` that is one of this machine's own; 0 if none is."""
+    return next((place for place, it in enumerate(addresses) if is_here(urllib.parse.urlsplit(it).hostname or "")), 0)
+
+
+def is_here(host: str) -> bool:
+    """Whether the `host`, a name or an address, has an address of this machine: a socket can be bound to it."""
+    try:
+        for family, kind, protocol, _, address in socket.getaddrinfo(host, 0, type=socket.SOCK_DGRAM):
+            with socket.socket(family, kind, protocol) as it:
+                it.bind(address)
+                return True
+    except OSError:
+        pass
+    return False
 
 
 # ---- answers

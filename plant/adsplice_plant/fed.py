@@ -24,6 +24,8 @@ from .whole_files import KEPT_MODE
 from .words import now_text
 
 BETWEEN = 1.0  # seconds between two signs that the feed goes on
+BEHIND = ".behind"  # the end of the name of the file that is there while viewers are to be given another machine's list of the channel
+PATIENCE = 0.5  # seconds for which a channel may lack what its log has until that file is there
 
 
 @dataclass(frozen=True)
@@ -68,6 +70,9 @@ class Fed:
         self.fallback = Fallback(self.name, settings.fallback, self.tell) if settings.fallback else None
         self.slate = Slate(self.name, settings.slate, self.tell) if settings.slate else None
         self.shared: SharedFolder | None = None  # its decision folder as one of several machines
+        self.behind_at = settings.keep / f"{self.name}{BEHIND}" if settings.keep else None
+        self.lacks_since: float | None = None
+        self.is_behind: bool | None = None  # whether that file is there; none if that isn't known
 
     def client(self) -> Client:
         """A client for its origin, with connections of its own."""
@@ -127,6 +132,24 @@ class Fed:
             self.beaten = now
             with suppress(OSError):  # (the monitor then tells that the feed hangs)
                 self.beat_at.touch(KEPT_MODE)
+
+    def show_lack(self, lacks: bool, now: float) -> None:
+        """Shows whether its list is older than those of other machines: it has lacked what its log has for a while by `now`, if it `lacks` that, or its
+        controller doesn't answer. nginx then reads another machine's list (docs/REPLICAS.md)."""
+        self.lacks_since = (now if self.lacks_since is None else self.lacks_since) if lacks else None
+        is_away = self.around.state().renditions[self.name].controller.trials > 0
+        self.show_behind(self.lacks_since is not None and (is_away or now - self.lacks_since >= PATIENCE))
+
+    def show_behind(self, is_behind: bool) -> None:
+        """The file that shows that its list is older than others' is there if it `is_behind`."""
+        if self.behind_at is None or is_behind == self.is_behind:
+            return
+        with suppress(OSError):  # (it is tried again; meanwhile nginx reads as before)
+            if is_behind:
+                self.behind_at.touch(KEPT_MODE)
+            else:
+                self.behind_at.unlink(missing_ok=True)
+            self.is_behind = is_behind
 
     def opening(self) -> list[Kept]:
         """What a new file of kept events begins with: the channel, and the decisions that it holds."""

@@ -20,54 +20,37 @@ print_line = words.Teller().say
 LAST = 0.5  # seconds that steps may take to their end once a signal came
 BETWEEN = 0.25  # seconds between two looks at what runs
 
-HELP = """Reads a packager's playlist and gives it to adsplice, with the decisions of its breaks.
+HELP = """Polls a packager's playlist and gives it to adsplice, with the decisions of its breaks.
 
   adsplice-feed --channel news --origin http://origin.example/ch/index.m3u8 --at http://127.0.0.1:8090
   adsplice-feed --config /etc/adsplice/feed.ini            several channels, a section each
+  adsplice-feed --config /etc/adsplice/feed.ini --check    is all there that the channels need? Read-only
+  adsplice-feed --config /etc/adsplice/feed.ini --status   with --store: which machine leads what, and which is behind
 
-The origin is asked at half the target duration. Its list is PUT when it changed, and as a whole: one that is cut off within
-its last line is read again. The channel is made if it isn't there, with the fallback and the open decisions before the
-first list, and is never deleted. If the origin or adsplice is away, it is tried again with pauses that grow to a target
-duration, for ever.
+The feed polls the origin every half target duration, and PUTs whole playlists that changed. It makes the channel if adsplice lacks it,
+and, without --store, never deletes it. It retries origin and adsplice indefinitely, with a back-off that grows to a target duration.
 
-A list that breaks RFC 8216 is put right, and each kind of repair is told once (--repair no pushes lists as they are). One in
-which nothing is wrong is pushed as it came. Media numbers go on when the packager begins again, when adsplice was started anew,
-and, with --keep, when the feed was: its log has all that adsplice was given. While that can't be written, nothing is given, and it is told.
-A list without a segment of the last one is taken if it stays so for a target duration.
+A playlist that breaks RFC 8216 is repaired, and each kind of repair is logged once. A playlist without faults is pushed byte for byte.
+Media numbers continue when the packager or adsplice restarts and, with --keep, when the feed does. While the feed can't write its log,
+it gives adsplice nothing.
 
-Signals of breaks of every style (SCTE35-CMD, time_signal, EXT-X-CUE-OUT ..) become date ranges that adsplice knows. With --ask
-each break's decision is asked for once, of an ad server or in the folder of decisions, and its list waits for the answer.
+The feed translates signals of breaks (SCTE35-CMD, time_signal, EXT-X-CUE-OUT ..) into date ranges that adsplice knows. With --ask it
+asks for the decision of each break once, and holds the break's playlist for the answer.
 
-Decision files (*.json) that are renamed into DIR are judged and given to adsplice, stay there while their breaks are listed, are given
-again after a new start, and are then moved to DIR/done. One that is refused stays, and is taken once it is written anew.
-One that is removed before its break begins is taken back.
+Rename decision files (*.json) into DIR of --decisions. The feed checks each, gives it to adsplice, and moves it to DIR/done once its breaks
+left the playlist. It withdraws a file that you remove before its break begins. A file that is refused stays until it is written again.
 
---door 127.0.0.1:9084, or the path of a Unix socket, takes PUT /decisions/CHANNEL/NAME.json: the file is judged, and is in the channel's
-folder and on disk before it is answered (201; 200 if it took another's place). DELETE takes one away that waits.
+--door takes PUT and DELETE of /decisions/CHANNEL/NAME.json over HTTP. A decision is on disk before it is answered.
 
---origin 'A B' names two: B is read while A fails for a target duration, or its list doesn't change for three; A is read again once it
-has been well for a minute. The numbers go on, and what was shown isn't shown again. It is told at each change.
+Renditions of one programme are a channel each: {} in the options stands for the rendition's name. A decision is a file of one name in
+each rendition's DIR, and goes to all of them or to none.
 
-Renditions of one programme (--renditions '1080 720 360') are a channel each: {} in the words stands for the rendition's name.
-A decision is a file of one name in each rendition's DIR. It is given to all of them before any list that enters its break, or
-to none. Their lists end where all have come. One whose adsplice is away gets what it lacks once that is back. It is told if their
-numbers come apart.
+The feed logs a line for each change of state on standard output: time, channel, who, status, fault, and what it does. journald gets a
+level with each line (journalctl -p warning). SIGHUP (systemctl reload) makes it read FILE of --config again: new sections start, changed
+ones restart, removed ones end, and the others go on.
 
-A master playlist as the origin (--master FILE): its variants and groups are channels NAME-1, NAME-2 .. of one programme, or have
-the names of --renditions in its order. FILE is the master playlist that viewers load.
-
---store 'etcd://A B C' has several machines feed the channels, each its own adsplice: what is given is written there first, by the one that leads.
-The loss of a machine stops no channel (docs/REPLICAS.md). --status says which one leads what, and which is behind.
-
---check says in a line each whether adsplice, the origins, the ad server, the folders and the fallbacks are there and right, and
-ends: 0 if all are, 1 if not. It makes, pushes and asks nothing. Run it as the feed's user.
-
-Standard output has a line for each change of state: time, channel, who (origin, adsplice, or a file), status, fault, and
-what is done about it. If it is journald's, each has a level for it (journalctl -p warning).
-SIGHUP (systemctl reload) has it read FILE of --config anew: sections that are new begin, those that changed begin anew, those that are gone
-end, and the others don't notice. A file that can't be read, or a section that is wrong, is told, and what ran goes on.
-
-Exit status: 0 after SIGTERM or SIGINT, and after SIGHUP without --config; 1 if it can't begin or go on; 2 for wrong words."""
+Exit status: 0 after SIGTERM or SIGINT, after SIGHUP without --config, and if --check or --status finds nothing wrong; 1 a fault; 2 invalid
+arguments."""
 
 EPILOG = """A config file has a section for each channel, and in [DEFAULT] what all have:
 
@@ -90,50 +73,81 @@ EPILOG = """A config file has a section for each channel, and in [DEFAULT] what 
   origin = http://origin.example/film/master.m3u8
   master = /var/www/film.m3u8
 
-Its names are the long words above without their hyphens; `unended = yes` is --unended."""
+The names of settings are the options' without the first hyphens, with _ for - (empty_subtitles); `unended = yes` is --unended."""
+YES_OR_NO = ("yes", "no")
+
+
+def of_the_channel(it: argparse._ArgumentGroup) -> None:
+    """Adds the options of one channel to the group `it`."""
+    it.add_argument("--config", type=Path, metavar="FILE", help="the channels, in place of the options of one channel")
+    it.add_argument("--channel", type=words.channel_name, metavar="NAME", help="the channel's name")
+    it.add_argument("--origin", metavar="URL_OR_FILE", help="the packager's media playlist; or 'A B': B is read while A fails or stands still")
+    it.add_argument("--at", type=words.web_address, metavar="URL", help="adsplice's address for PUT, such as http://127.0.0.1:8090")
+    it.add_argument("--base", type=str, metavar="URL", help="the playlist's own URL, if it isn't the origin's or the origin is a file")
+    it.add_argument("--tolerance", metavar="SECONDS", help="by which a segment may miss a break's start (0.1)")
+    it.add_argument("--keep", metavar="DIR", help="the folder of logs: NAME.events for adsplice-monitor and adsplice-explain, PROGRAMME.log for the feed's own restart, and NAME.lock against a second feed")
+
+
+def of_the_playlist(it: argparse._ArgumentGroup) -> None:
+    """Adds the options of the packager's playlist to the group `it`."""
+    it.add_argument("--unended", action="store_const", const="yes", help="the packager never ends its last line: take it so")
+    it.add_argument("--repair", choices=YES_OR_NO, help="repair playlists that break RFC 8216 (yes)")
+    it.add_argument("--target", metavar="SECONDS", help="the target duration of all playlists (that of the first one)")
+    it.add_argument("--endless", choices=YES_OR_NO, help="drop EXT-X-ENDLIST, so that the packager can begin again (yes)")
+    it.add_argument("--times", choices=YES_OR_NO, help="add EXT-X-PROGRAM-DATE-TIME by this machine's clock if none is stated (yes)")
+    it.add_argument("--redirects", choices=YES_OR_NO, help="follow redirects to other hosts, ports and schemes, too (no)")
+    it.add_argument("--networks", metavar="NETWORKS", help="to which redirects and master playlists may lead beside public addresses, such as '10.0.0.0/8'")
+    it.add_argument("--line", metavar="BYTES", help="the most bytes of a playlist's line (16384)")
+
+
+def of_decisions(it: argparse._ArgumentGroup) -> None:
+    """Adds the options of signals and decisions to the group `it`."""
+    it.add_argument("--decisions", metavar="DIR", help="the folder of decision files")
+    it.add_argument("--fallback", metavar="FILE", help="a decision file with a fallback: the pod of each break that has none of its own")
+    it.add_argument("--slate", metavar="FILE", help="a decision file with a fallback, whose segments fill the rest of a break with a shorter pod")
+    it.add_argument("--signals", metavar="TYPES", help="auto, no, or the segmentation types that begin a break, such as '0x34 0x36' (auto)")
+    it.add_argument("--nearest", choices=YES_OR_NO, help="move a break's start to the begin of a segment within half a segment (yes)")
+    it.add_argument("--ask", metavar="URL", help="where to ask for each break's decision: an ad server, or the word folder")
+    it.add_argument("--hold", metavar="SECONDS", help="the most seconds that a playlist waits for an answer (1, and below half a target duration)")
+    it.add_argument("--verify", choices=YES_OR_NO, help="check that a decision's ads exist before it is given (no)")
+    it.add_argument("--door", type=address_of, metavar="ADDRESS", help="take decisions over HTTP at 127.0.0.1:PORT or on the Unix socket of a path")
+    it.add_argument("--keep-days", type=float, default=7.0, metavar="DAYS", help="that files stay in DIR/done (7)")
+
+
+def of_a_ladder(it: argparse._ArgumentGroup) -> None:
+    """Adds the options of a programme in several renditions to the group `it`."""
+    it.add_argument("--renditions", metavar="NAMES", help="a channel NAME-R for each rendition R, such as '1080 720 360'")
+    it.add_argument("--master", metavar="FILE", help="the origin is a master playlist, whose renditions are channels; FILE is the master playlist for players")
+    it.add_argument("--viewers", metavar="URL", help="with --master: where players read channels, such as http://viewers.example (the host of FILE's URL)")
+    it.add_argument("--fill", choices=(told.ALL, told.OTHERS), help="fill a break that one rendition can't begin in none, or in the others (all)")
+    it.add_argument("--empty-subtitles", metavar="URL", help="with --master: an empty WebVTT piece for subtitles during ads (/empty.vtt at --viewers)")
+
+
+def of_machines(it: argparse._ArgumentGroup) -> None:
+    """Adds the options of several machines to the group `it`."""
+    it.add_argument("--store", metavar="ADDRESSES", help="the machines' etcd: 'etcd://10.0.0.1 10.0.0.2 10.0.0.3' (docs/REPLICAS.md)")
+    it.add_argument("--machine", metavar="NAME", help="this machine's name (the host's)")
+    it.add_argument("--lease", metavar="SECONDS", help="after which another machine leads in place of one that is gone (2)")
+    it.add_argument("--status", action="store_true", help="print which machine leads what and which is behind, and end: 0 if all is well, 1 if not")
+
+
+def of_the_process(it: argparse._ArgumentGroup) -> None:
+    """Adds the options of the process to the group `it`."""
+    it.add_argument("--check", action="store_true", help="print whether all that the channels need is there, and end")
+    it.add_argument("--timeout", type=words.seconds, default=5.0, metavar="SECONDS", help="for a request with its answer (5)")
+    it.add_argument("--longest-pause", type=words.seconds, default=5.0, metavar="SECONDS", help="the longest back-off (5, and no more than a target duration)")
+
+
+GROUPS = (("the channel", of_the_channel), ("the packager's playlist", of_the_playlist), ("signals and decisions", of_decisions), ("a ladder of renditions", of_a_ladder),
+          ("several machines", of_machines), ("the process", of_the_process))
 
 
 def read_words(arguments: list[str]) -> argparse.Namespace:
-    """What the words `arguments` say."""
+    """What the `arguments` say; ends the program if they are invalid."""
     it = words.parser("adsplice-feed", HELP)
     it.epilog = EPILOG
-    it.add_argument("--config", type=Path, metavar="FILE", help="the channels, in place of the words of one channel")
-    it.add_argument("--channel", type=words.channel_name, metavar="NAME")
-    it.add_argument("--origin", metavar="URL_OR_FILE", help="the packager's media playlist; or two, of which the second stands in for the first")
-    it.add_argument("--at", type=words.web_address, metavar="URL", help="adsplice's address for PUT, such as http://127.0.0.1:8090")
-    it.add_argument("--base", type=str, metavar="URL", help="the playlist's own URL, if it isn't the origin's or the origin is a file")
-    it.add_argument("--tolerance", metavar="SECONDS", help="the channel's tolerance (adsplice's own is 0.1)")
-    it.add_argument("--decisions", metavar="DIR")
-    it.add_argument("--fallback", metavar="FILE", help="a decision file with a fallback, given whenever the channel is made")
-    it.add_argument("--slate", metavar="FILE", help="a decision file with a fallback, whose segments fill up each pod that is shorter than its break")
-    it.add_argument("--keep", metavar="DIR", help="keeps NAME.events and NAME.beat there, for adsplice-monitor and adsplice-explain, PROGRAMME.log for itself (the section's name), and NAME.lock against a second feed")
-    it.add_argument("--renditions", metavar="NAMES", help="a ladder: a channel NAME-R for each rendition R of NAMES, such as '1080 720 360'")
-    it.add_argument("--master", metavar="FILE", help="the origin is a master playlist: its renditions are channels, and FILE is the one that viewers load")
-    it.add_argument("--viewers", metavar="URL", help="with --master: where viewers read channels, such as http://viewers.example (the host of FILE's URL)")
-    it.add_argument("--empty-subtitles", metavar="URL", help="with --master: of a WebVTT file without words, which subtitles have for each piece of an ad (/empty.vtt at --viewers)")
-    it.add_argument("--unended", action="store_const", const="yes", help="the packager never ends its last line: take it so")
-    yes_or_no = ("yes", "no")
-    it.add_argument("--repair", choices=yes_or_no, help="puts the packager's lists right (yes)")
-    it.add_argument("--target", metavar="SECONDS", help="the target duration of all lists (that of the first one)")
-    it.add_argument("--endless", choices=yes_or_no, help="leaves EXT-X-ENDLIST out, so that the packager can begin again (yes)")
-    it.add_argument("--times", choices=yes_or_no, help="adds EXT-X-PROGRAM-DATE-TIME by this machine's clock if none is stated (yes)")
-    it.add_argument("--signals", metavar="TYPES", help="auto (the usual), no, or the segmentation types that begin a break, such as '0x34 0x36'")
-    it.add_argument("--nearest", choices=("yes", "no"), help="puts a break's start on the begin of a segment that is near (yes)")
-    it.add_argument("--ask", metavar="URL", help="where each break's decision is asked for: an ad server, or the word folder")
-    it.add_argument("--hold", metavar="SECONDS", help="that a list may wait for an answer (1, and below half a target duration)")
-    it.add_argument("--verify", choices=yes_or_no, help="looks whether a decision's ads are there before it is given (no)")
-    it.add_argument("--redirects", choices=yes_or_no, help="follows the origin's redirects to other hosts, ports and schemes, too (no)")
-    it.add_argument("--networks", metavar="NETWORKS", help="to which these may lead beside public addresses, such as '10.0.0.0/8' (the origin's own addresses)")
-    it.add_argument("--line", metavar="BYTES", help="that a list's line may have (16384); a list with a longer one isn't pushed")
-    it.add_argument("--store", metavar="ADDRESSES", help="several machines have the channels, and what was given in this etcd: 'etcd://10.0.0.1 10.0.0.2 10.0.0.3'")
-    it.add_argument("--machine", metavar="NAME", help="of this machine, with --store (the host's name)")
-    it.add_argument("--lease", metavar="SECONDS", help="after which another machine leads in place of one that is gone, with --store (2)")
-    it.add_argument("--check", action="store_true", help="says whether all that the channels need is there, and ends")
-    it.add_argument("--status", action="store_true", help="says which machine leads what, and which is behind, and ends: 0 if all is well, 1 if not")
-    it.add_argument("--door", type=address_of, metavar="ADDRESS", help="takes decisions over HTTP at 127.0.0.1:PORT or on the Unix socket of a path")
-    it.add_argument("--timeout", type=words.seconds, default=5.0, metavar="SECONDS", help="for a request with its answer (5)")
-    it.add_argument("--longest-pause", type=words.seconds, default=5.0, metavar="SECONDS", help="between two trials (5, and no more than a target duration)")
-    it.add_argument("--keep-days", type=float, default=7.0, metavar="DAYS", help="that files are kept in DIR/done (7)")
+    for title, add in GROUPS:
+        add(it.add_argument_group(title))
     said = it.parse_args(arguments)
     if said.config is None and not (said.channel and said.origin and said.at):
         it.error("--channel, --origin and --at are needed, or --config")

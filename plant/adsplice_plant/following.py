@@ -62,8 +62,9 @@ def with_controllers(state: State, own: State) -> State:
 
 
 def led(state: State) -> State:
-    """The `state` of a machine that begins to lead. What its controllers refused while another one led is given once more, so that it is known what
-    becomes of it."""
+    """The `state` of a machine that begins to lead: the log has no more. What its controllers refused while another one led is given once more, so that it
+    is known what becomes of it."""
+    state = replace(state, is_behind=False)
     for name, it in state.renditions.items():
         if it.controller.refused and it.controller.refused == it.stands.entry and it.before is not None:
             again = replace(it.controller, listed=it.stands.after, refused=0)
@@ -81,8 +82,6 @@ def adopt(turn: Turn, state: State, is_behind: bool) -> None:
     for channel, it in turn.renditions():
         if not is_behind and it.controller.way is Way.THERE and it.controller.took < 0:
             controllers.begin_anew(turn, channel)
-            if old.is_behind:
-                turn.put_controller(channel, reached=-1)  # (other machines have shown what it lacks)
     for name, file in new.files.items():
         was = old.files.get(name)
         late = [it for it in file.ids if it in file.late and (was is None or it not in was.late)]

@@ -1,6 +1,5 @@
 """Follows what a feed keeps of a channel: refused requests by status and fault, pods that were taken, breaks that were listed."""
 import json
-import time
 from collections import Counter
 from dataclasses import dataclass, field
 from datetime import datetime
@@ -123,11 +122,11 @@ class Kept:
             self.known = {line: it for line in lines for it in ([self.known[line]] if line in self.known else playlist.ranges_of([line]))}
             self.ranges = {it.id: it for it in self.known.values()}
 
-    def age(self, end: str) -> float | None:
-        """The seconds since the feed kept an event (`end`, of the file's name, is EVENTS), or since its last step (BEAT); none if there is no
-        such file."""
+    def written_at(self, end: str) -> float | None:
+        """When the feed kept its last event (`end`, of the file's name, is EVENTS), or made its last step (BEAT), in seconds since 1970; none if
+        there is no such file."""
         try:
-            return max(0.0, time.time() - self.path.with_suffix(end).stat().st_mtime)
+            return self.path.with_suffix(end).stat().st_mtime
         except OSError:
             return None
 

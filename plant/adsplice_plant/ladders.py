@@ -1,6 +1,7 @@
 """What a ladder's renditions are like: codecs, sizes, rates and pieces. Values, as JSON has them, and by what ffprobe says of a segment."""
 from __future__ import annotations
 
+import functools
 import hashlib
 import json
 from collections import Counter
@@ -65,6 +66,11 @@ class Ladder:
 
     def key(self) -> str:
         """By what it is known: a hash of all that its ads depend on."""
+        return self.hashed
+
+    @functools.cached_property
+    def hashed(self) -> str:
+        """The same, reckoned once: a question asks for it with each of its ads."""
         return hashlib.sha256(json.dumps(said_of(self), sort_keys=True).encode()).hexdigest()[:16]
 
     def is_like(self, other: Ladder) -> bool:

@@ -15,6 +15,7 @@ from .replica import Replica
 from .shared_log import ROOT, Foreign
 from .state import State
 from .store_settings import StoreAt
+from .telling import place_of
 from .whole_files import KEPT_MODE, write_aside
 from .words import now_text, plain
 
@@ -38,9 +39,10 @@ class Machines:
         self.shown_at = float("-inf")  # when that was shown last
         self.keys = Etcd(at.addresses, at.user, at.password, at.limit())
         self.watched = Etcd(at.addresses, at.user, at.password, at.limit())  # (what changes leads waits for no watch)
+        leases = Etcd(at.addresses, at.user, at.password, at.lease_limit())
         self.replicas: dict[str, Replica] = {}
         self.hashes: dict[str, str] = {}
-        self.member = Member(f"{machine}/{secrets.token_hex(4)}", self.keys, at.lease, self.replicas, self.hashes)
+        self.member = Member(f"{machine}/{secrets.token_hex(4)}", leases, at.lease, self.replicas, self.hashes)
         self.lock, self.ending = threading.RLock(), threading.Event()
         self.has_begun = False
         self.why = ""  # what is wrong, as it was told last
@@ -53,7 +55,7 @@ class Machines:
 
     def replica(self, name: str, fresh: State, channels: list[str], text: str) -> Replica:
         """The programme `name` on this machine, whose settings have the hash `text`; the rest as in Replica."""
-        found = Replica(self.keys, name, self.machine, fresh, channels, lambda: secrets.token_hex(8))
+        found = Replica(self.keys, name, self.machine, fresh, channels, lambda: secrets.token_hex(8), me=self.member.me)
         with self.lock:
             self.replicas[name], self.hashes[name] = found, text
             if name not in self.member.leads:
@@ -98,6 +100,9 @@ class Machines:
             except OSError as fault:
                 self.wrong(fault)
                 self.ending.wait(PAUSE)
+            except Exception as fault:  # noqa: BLE001  (without this thread its machine would lead nothing any more)
+                self.failed(fault)
+                self.ending.wait(PAUSE)
             self.show(time.monotonic())
 
     def watch(self) -> None:
@@ -115,11 +120,16 @@ class Machines:
                         with self.lock:
                             self.member.see(others, time.monotonic())
                     revision = max([revision, *(it.pair.revision + 1 for it in changes)])
+                    if self.watched.may_return():
+                        break
             except Compacted:
                 revision = None
             except OSError as fault:
                 revision = None if isinstance(fault, (Foreign, Refused)) else revision
                 self.wrong(fault)
+            except Exception as fault:  # noqa: BLE001  (without this thread its machine would stand still)
+                revision = None
+                self.failed(fault)
             self.ending.wait(PAUSE)
 
     def begin(self) -> int:
@@ -137,7 +147,8 @@ class Machines:
         if self.keep is None or now - self.shown_at < 1.0:
             return
         self.shown_at = now
-        said = self.said(now)
+        with self.lock:
+            said = self.said(now)
         with suppress(OSError):  # (then viewers go to another machine, and the monitor tells that the file is old)
             write_aside(self.keep / f"{self.machine}{SAID}", json.dumps(said).encode())
             if said["up"] and not said["behind"] and not said["ill"]:
@@ -155,6 +166,10 @@ class Machines:
     def wrong(self, fault: OSError) -> None:
         """Tells that the store doesn't do what it is asked, by a `fault`."""
         self.tell("Foreign" if isinstance(fault, Foreign) else "Refused" if isinstance(fault, Refused) else "Away", str(fault))
+
+    def failed(self, fault: Exception) -> None:
+        """Tells that nobody foresaw a `fault`."""
+        self.tell(f"{type(fault).__name__} {place_of(fault)}", str(fault)[:200])
 
     def tell(self, word: str, text: str) -> None:
         """Prints a line once for as long as it is so."""

@@ -25,7 +25,7 @@ from .watched import Watched
 from .web import Client
 from .words import Fault
 
-HELP = """Figures of adsplice's channels for Prometheus, and an as-run log.
+HELP = """Figures of adsplice's channels for Prometheus, a check for cron, and an as-run log.
 
   adsplice-monitor --at http://127.0.0.1:8090 --viewers http://127.0.0.1:8080 --channel news --process http://127.0.0.1:8081 \\
                    --kept /var/lib/adsplice/kept --as-run /var/lib/adsplice/as-run.jsonl
@@ -33,24 +33,26 @@ HELP = """Figures of adsplice's channels for Prometheus, and an as-run log.
   adsplice-monitor --reconcile /var/lib/adsplice/decisions/news --as-run as-run.jsonl --channel news     what was sold and shown
   adsplice-monitor --breaks --as-run /var/lib/adsplice/as-run.jsonl      what each rendition showed of each break
 
-Serves /metrics (--listen) until a signal ends it. With --once it looks at each channel until its list has changed or its
-limit is over, prints the figures behind a comment with what is wrong, and ends.
+It serves /metrics (--listen) until a signal ends it. With --once it watches each channel until its playlist has changed or its limit
+is over, prints the figures behind a comment that says what is wrong, and ends.
 
-A channel is late if its list's end is further behind real time than --late, and stands still if its list didn't change
-for --still; both are three target durations if they aren't named. An ended list (EXT-X-ENDLIST) is neither.
+A channel is late if its playlist's end is further behind real time than --late. It stands still if its playlist didn't change for
+--still. Both are three target durations by default. A playlist that has ended (EXT-X-ENDLIST) is neither.
 
-Refused pushes and the as-run log need what adsplice-feed --keep has kept (--kept, or `keep` of --config).
+Figures of refused pushes, and the as-run log, need the logs of adsplice-feed --keep (--kept, or `keep` of --config).
 
---reconcile compares the decision files of a folder with the as-run log: which sold break was shown whole, in part or not, and why; of each
-ad with an ID how often it was shown, and for how many seconds. With --kept it names the files that adsplice refused, too. Of several machines
-name the log of each (--as-run A --as-run B): a break counts once, as that machine showed it that showed most of it.
+--reconcile compares the decision files of a folder with the as-run log: which sold break was shown whole, in part or not, and why; and
+each ad's count and seconds. With --kept it also names the files that adsplice refused. With several machines, name the log of each
+(--as-run A --as-run B): a break counts once, by the machine that showed most of it.
 
---breaks prints a line for each break of a programme, with what each rendition showed by the as-run log. Channels are renditions of one programme
-if they have one name up to the last `-`.
+--breaks prints what each rendition of a programme showed of each break, by the as-run log. Channels are renditions of one programme if
+they have one name up to the last `-`.
 
-Exit status with --reconcile: 0 if all that was sold was shown whole; 2 if not. With --breaks: 0 if each was the same in all renditions; 2 if not. With --once: 0 all is well; 2 a channel is late, stands still or doesn't answer, or a process doesn't answer;
-1 a fault. Wrong words are 2, too. Without --once: 0 after SIGTERM, SIGINT or SIGHUP."""
+Exit status: 0 after SIGTERM, SIGINT or SIGHUP. With --once 0 if all is well, 2 if a channel is late, stands still or doesn't answer, or a
+process doesn't answer. With --reconcile 0 if all that was sold was shown whole, else 2. With --breaks 0 if each break was the same in all
+renditions, else 2. 1 a fault; 2 also for invalid arguments."""
 CRITICAL = 2
+BUILD = "adsplice.build"  # which ./install writes beside the program
 LAST = 2.0  # seconds for which what is known is still written at the end
 AGAIN = 3.0  # seconds for which a channel without a list is looked at again
 RENEWED = 10.0  # seconds between two looks at which channels there are
@@ -62,22 +64,10 @@ AWAY = (0, 502, 504)  # statuses that say that a process doesn't answer
 
 
 def read_words(arguments: list[str]) -> argparse.Namespace:
-    """What the words `arguments` say."""
+    """What the `arguments` say; ends the program if they are invalid."""
     it = words.parser("adsplice-monitor", HELP)
-    it.add_argument("--config", type=Path, metavar="FILE", help="the config file of adsplice-feed: its channels, addresses and kept events")
-    it.add_argument("--channel", type=words.channel_name, action="append", default=[], metavar="NAME", help="may be repeated")
-    it.add_argument("--at", type=words.web_address, metavar="URL", help="adsplice's address for PUT, which answers `why`")
-    it.add_argument("--viewers", type=words.web_address, metavar="URL", help="the viewers' address (the one of --at if it isn't named)")
-    it.add_argument("--process", type=words.web_address, action="append", default=[], metavar="URL", help="of a process: does it answer? May be repeated")
-    it.add_argument("--kept", type=Path, metavar="DIR", help="the folder of adsplice-feed --keep")
-    it.add_argument("--as-run", type=Path, action="append", default=[], metavar="FILE", help="the as-run log, to which lines are added; with --reconcile that of each machine")
-    it.add_argument("--late", type=words.seconds, metavar="SECONDS")
-    it.add_argument("--still", type=words.seconds, metavar="SECONDS")
-    it.add_argument("--interval", type=words.seconds, default=1.0, metavar="SECONDS", help="between two looks (1)")
-    it.add_argument("--listen", default="127.0.0.1:9465", metavar="HOST:PORT", help="for Prometheus (127.0.0.1:9465)")
-    it.add_argument("--once", action="store_true")
-    it.add_argument("--breaks", action="store_true", help="prints what each rendition of a programme showed of each break, by the as-run log")
-    it.add_argument("--reconcile", type=Path, metavar="DIR", help="a channel's folder of decisions, which is compared with the as-run log")
+    of_watched(it.add_argument_group("what is watched"))
+    of_what_is_done(it.add_argument_group("what is done"))
     said = it.parse_args(arguments)
     if said.reconcile is not None or said.breaks:
         if not said.as_run:
@@ -90,6 +80,28 @@ def read_words(arguments: list[str]) -> argparse.Namespace:
     if said.as_run and said.kept is None and said.config is None:
         it.error("--as-run needs --kept")
     return said
+
+
+def of_watched(it: argparse._ArgumentGroup) -> None:
+    """Adds the options of what is watched to the group `it`."""
+    it.add_argument("--config", type=Path, metavar="FILE", help="the config file of adsplice-feed: its channels, addresses and logs")
+    it.add_argument("--channel", type=words.channel_name, action="append", default=[], metavar="NAME", help="a channel; may be repeated")
+    it.add_argument("--at", type=words.web_address, metavar="URL", help="adsplice's address for PUT, which answers `why`")
+    it.add_argument("--viewers", type=words.web_address, metavar="URL", help="the viewers' address (that of --at)")
+    it.add_argument("--process", type=words.web_address, action="append", default=[], metavar="URL", help="a process of adsplice; may be repeated")
+    it.add_argument("--kept", type=Path, metavar="DIR", help="the folder of adsplice-feed --keep")
+    it.add_argument("--as-run", type=Path, action="append", default=[], metavar="FILE", help="the as-run log, to which lines are added; with --reconcile that of each machine")
+
+
+def of_what_is_done(it: argparse._ArgumentGroup) -> None:
+    """Adds the options of what the monitor does to the group `it`."""
+    it.add_argument("--listen", default="127.0.0.1:9465", metavar="HOST:PORT", help="for Prometheus (127.0.0.1:9465)")
+    it.add_argument("--interval", type=words.seconds, default=1.0, metavar="SECONDS", help="between two polls (1)")
+    it.add_argument("--late", type=words.seconds, metavar="SECONDS", help="from when on a channel is late (three target durations)")
+    it.add_argument("--still", type=words.seconds, metavar="SECONDS", help="from when on a channel stands still (three target durations)")
+    it.add_argument("--once", action="store_true", help="print the figures, and end")
+    it.add_argument("--breaks", action="store_true", help="print what each rendition of a programme showed of each break, by the as-run log")
+    it.add_argument("--reconcile", type=Path, metavar="DIR", help="compare a channel's folder of decisions with the as-run log")
 
 
 class Processes:
@@ -116,6 +128,9 @@ class Figures(Collector):
         for url, is_up in self.processes.up.items():
             up.add_metric([url.partition("://")[2]], float(is_up))
         yield up
+        build = GaugeMetricFamily("adsplice_build_info", "The build that is installed beside the monitor", labels=["version", "commit"])
+        build.add_metric(build_beside(Path(__file__).parents[1]), 1)
+        yield build
         channels = GaugeMetricFamily("adsplice_programme_channels", "Channels of a programme with a master playlist", labels=["programme"])
         for name, count in self.watched.programmes.items():
             channels.add_metric([name], count)
@@ -189,16 +204,16 @@ class Figures(Collector):
         late = CounterMetricFamily("adsplice_feed_late_decisions", "Decisions that came after their break had begun", labels=["channel"])
         asked = CounterMetricFamily("adsplice_feed_questions", "Questions about breaks, by what became of them", labels=["channel", "answer"])
         absent = CounterMetricFamily("adsplice_feed_absent", "Decisions that weren't given, since an ad of theirs wasn't there", labels=["channel"])
-        refused = GaugeMetricFamily("adsplice_feed_refused_time_seconds", "When a decision was refused last, or came late, since 1970", labels=["channel", "what", "status", "fault"])
+        refused = GaugeMetricFamily("adsplice_feed_refused_timestamp_seconds", "When a decision was refused last, or came late, in seconds since 1970", labels=["channel", "what", "status", "fault"])
         apart = GaugeMetricFamily("adsplice_feed_apart", "Whether a rendition's numbers aren't those of the programme's others", labels=["channel"])
-        steps = GaugeMetricFamily("adsplice_feed_step_age_seconds", "Seconds since a channel's feed showed that it goes on", labels=["channel"])
-        ages = GaugeMetricFamily("adsplice_feed_kept_age_seconds", "Seconds since a channel's feed kept an event", labels=["channel"])
+        steps = GaugeMetricFamily("adsplice_feed_step_timestamp_seconds", "When a channel's feed made its last step, in seconds since 1970", labels=["channel"])
+        kept = GaugeMetricFamily("adsplice_feed_kept_timestamp_seconds", "When a channel's feed kept its last event, in seconds since 1970", labels=["channel"])
         for it in self.watched.all():
             if it.kept is None:
                 continue
-            for age, end in ((steps, BEAT_FILE), (ages, EVENTS)):
-                if (seconds := it.kept.age(end)) is not None:
-                    age.add_metric([it.name], seconds)
+            for figure, end in ((steps, BEAT_FILE), (kept, EVENTS)):
+                if (at := it.kept.written_at(end)) is not None:
+                    figure.add_metric([it.name], at)
             for kind, lists in sorted(repairs_kept(it.kept.path.parent, it.name).items()):
                 repairs.add_metric([it.name, kind], lists)
             with it.lock:
@@ -212,11 +227,21 @@ class Figures(Collector):
                 for word in ANSWERS:
                     asked.add_metric([it.name, word], it.kept.asked[word])
                 apart.add_metric([it.name], float(it.kept.is_apart))
-                for key, at in sorted(it.kept.refused.items()):
-                    refused.add_metric([it.name, *key], at)
+                for key, last in sorted(it.kept.refused.items()):
+                    refused.add_metric([it.name, *key], last)
                 for place, name in enumerate(NAMES if it.kept.origin else (), 1):
                     origins.add_metric([it.name, name], float(it.kept.origin == place))
-        yield from (answers, unread, restarts, holes, repairs, origins, late, asked, absent, refused, apart, steps, ages)
+        yield from (answers, unread, restarts, holes, repairs, origins, late, asked, absent, refused, apart, steps, kept)
+
+
+def build_beside(folder: Path) -> tuple[str, str]:
+    """The version and the commit that adsplice.build in the `folder` says; `unknown` for what it doesn't say."""
+    try:
+        lines = (folder / BUILD).read_text(encoding="utf-8", errors="replace")[:4096].split("\n")
+    except OSError:
+        lines = []
+    said = dict(line.partition(" ")[::2] for line in lines)
+    return said.get("version", "unknown"), said.get("commit", "unknown")
 
 
 def said_in(path: Path) -> dict[str, int] | None:

@@ -50,7 +50,7 @@ class Pods:
 
     def enter(self, starts: Mapping[str, int], known: Collection[str], fresh: list[int], tolerance: int) -> None:
         """A list is about to be pushed whose breaks have these `starts`, and whose new segments begin at the instants `fresh`. Those of
-        `known` were listed before. A break begins with a segment within the `tolerance` of its start (docs/OPERATING.md)."""
+        `known` were listed before. A break begins with a segment within the `tolerance` of its start (docs/operating/channel.md, tolerance)."""
         for name, start in starts.items():
             if name in self.entered:
                 continue

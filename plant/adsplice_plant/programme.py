@@ -11,7 +11,7 @@ from dataclasses import dataclass, replace
 
 from . import apart, controllers, decided, joining, packaged, presence, ranges, repairs, slates, spelling
 from .edges import edge_of, up_to
-from .breaks import Line, Numbering
+from .breaks import Break, Line, Numbering, shown
 from .events import Action, Answered, Ask, AskedInVain, Began, Event, FallbackRead, FolderRead, Found, ListRead, Looked, OriginChanged, SlateRead, Tell
 from .events import Repaired as RepairTold
 from .growing import Growing
@@ -357,6 +357,8 @@ def translate(turn: Turn, translator: Translator, found: dict[str, Taken], busy:
     others = [(channel, it.found()) for channel, it in busy.items() if it.found().segments]
     told: list[Line] = []
     numberings = numberings_of(turn, {**lists, **dict(others)})
+    lists = {channel: lists[channel] for channel in sorted(lists, key=lambda it: it in numberings)}  # (the shortest segments say first where a break begins)
+    others.sort(key=lambda it: it[0] in numberings)
     if len(lists) + len(others) > 1:
         for channel, it in (*others, *lists.items()):
             told += translator.take(it, turn.state.renditions[channel].settings.rendition(), numberings.get(channel)).told
@@ -391,8 +393,8 @@ def learn(turn: Turn, found: dict[str, Taken]) -> None:
 
 
 def pass_over(turn: Turn, translator: Translator, found: dict[str, Taken]) -> None:
-    """A break whose start a rendition of several has passed without it begins in none: the others haven't come there, or it was away. The lists
-    that were `found` may be of a clock that went back."""
+    """A break that one rendition of several can't begin begins in none, or in the others if that is set: it has passed the start without it, since the
+    others haven't come there, or it was away; or it has no segment near. The lists that were `found` may be of a clock that went back."""
     if len(turn.state.renditions) == 1:
         return
     lists = {channel: it.stands for channel, it in turn.renditions() if it.stands.repairer.last}
@@ -401,13 +403,41 @@ def pass_over(turn: Turn, translator: Translator, found: dict[str, Taken]) -> No
     newest = {channel: numberings.get(channel, Numbering()).of(it.repairer.last[-1].number) for channel, it in lists.items()}
     for one in translator.breaks.known:
         there = [channel for channel, number in newest.items() if one.clock is None or number > one.clock]
-        if any(one.id in it.pods.entered for it in lists.values()) or all(reached[channel] <= one.start for channel in there):
-            continue
-        for channel, it in turn.renditions():
-            if one.id not in it.stands.pods.missed:
-                pods = it.stands.pods.copy()
-                pods.missed.add(one.id)
-                turn.put_standing(channel, pods=pods)
+        is_open = {channel for channel, it in lists.items() if one.id in it.pods.entered}
+        past = {channel for channel in there if reached[channel] > one.start and (not is_open or began_before(lists[channel], one))} - is_open
+        bare = {channel for channel in there if channel in found and lacks_cut(turn, translator, one, channel, found[channel])} - past - is_open
+        if past or bare:
+            leave_out(turn, one, past, bare, turn.fills_others() or bool(is_open))
+
+
+def began_before(stands: Standing, one: Break) -> bool:
+    """Whether a rendition whose lists stand so was there before the break `one` began: one that came later has nothing to begin."""
+    return (history_of(stands)[0].begins or 0) <= one.start
+
+
+def lacks_cut(turn: Turn, translator: Translator, one: Break, channel: str, it: Taken) -> bool:
+    """Whether the new segments of the list `it` of the `channel` go past the start of the break `one`, and none begins near it. The list may have lost
+    that segment."""
+    rendition = turn.state.renditions[channel]
+    start = translator.start_in(one, rendition.settings.rendition())
+    begins = [it.begins for it in it.found().segments if it.number > rendition.stands.repairer.last[-1].number and it.begins is not None]
+    is_past = one.clock is None and bool(begins) and begins == sorted(begins) and begins[-1] > start + translator.tolerance
+    return is_past and all(abs(it - start) > translator.tolerance for it in begins)
+
+
+def leave_out(turn: Turn, one: Break, past: set[str], bare: set[str], fills_others: bool) -> None:
+    """The break `one` begins neither in the channels that have gone `past` its start nor in the `bare` ones, which have no segment near it; nor in the others,
+    unless these are filled (`fills_others`). It is told which ones they are, if it could begin in another one."""
+    out = past | bare if fills_others else turn.state.renditions.keys()
+    new = [channel for channel, it in turn.renditions() if channel in out and one.id not in it.stands.pods.missed]
+    for channel in new:
+        pods = turn.state.renditions[channel].stands.pods.copy()
+        pods.missed.add(one.id)
+        turn.put_standing(channel, pods=pods)
+    if new and past | bare != turn.state.renditions.keys():
+        why = [f"{', '.join(sorted(its))} {text}" for its, text in ((past, "had passed its start before it was known"), (bare, "has no segment near its start")) if its]
+        where = "begins in the other renditions alone" if fills_others else "begins in no rendition"
+        turn.tell("", f"breaks/{shown(one.id)}", 0, "Passed", f"{'; '.join(why)}: {where}", is_again=True)
 
 
 def passed(stands: Standing, found: PackagedList) -> int:

@@ -14,7 +14,7 @@ from . import following
 from .etcd import Delete, Is, Pair, Put, after_prefix
 from .shared_files import Shared, asked_key, file_key, files_prefix, name_of, over_key, shared_of
 from .shared_log import Outrun, SharedLog, lead_key
-from .members import LeaseKeys
+from .members import FEEDS, LeaseKeys
 from .events import Given
 from .state import State, Way
 
@@ -22,15 +22,16 @@ MOST_WAITING = 4096  # lines that came and weren't taken in, after which the log
 LONGEST = 3.0  # seconds that a machine which has the lead waits for its own controllers
 RECOVERS = 3.0  # seconds for which controllers have to answer until their machine may lead again
 DAY = 86_400
+OVER = b"over"  # in place of who asks: nobody does any more
 
 
 class Replica:
     """The programme `name` in the store `keys`, on this machine (`machine`). `fresh`: its state while nothing is known. `channels`: the names of its
-    channels. `life`: answers a new name for a log."""
+    channels. `life`: answers a new name for a log. `me`: the name of this feed among those of the store (members)."""
 
     def __init__(self, keys: LeaseKeys, name: str, machine: str, fresh: State, channels: list[str], life: Callable[[], str],
-                 now: Callable[[], float] = time.monotonic) -> None:
-        self.keys, self.name, self.machine, self.life, self.now = keys, name, machine, life, now
+                 now: Callable[[], float] = time.monotonic, me: str = "") -> None:
+        self.keys, self.name, self.machine, self.life, self.now, self.me = keys, name, machine, life, now, me or machine
         self.log = SharedLog(keys, name, fresh)
         self.fresh = fresh
         self.won = self.leads = 0  # the revision at which it won the lead that it has, and by which it leads
@@ -43,6 +44,7 @@ class Replica:
         self.differed = 0  # how often one of its channels was made anew, since it differed
         self.files: dict[str, dict[str, Shared]] = {it: {} for it in channels}  # the decision files of each channel in the store
         self.lease, self.granted_at = 0, 0.0  # of a day, for what the others are to remember
+        self.asked: dict[str, int] = {}  # the breaks that this feed has asked for, and isn't done with: their starts
         self.woken: Callable[[], None] = lambda: None
 
     # ---- for its member
@@ -98,10 +100,18 @@ class Replica:
             self.due_at = self.now() if self.due_at is None else self.due_at
             return self.now() - self.due_at
         self.due_at = None
-        oldest = next(iter(self.lines), None)
-        return 0.0 if oldest is None else max(0.0, self.now() - oldest[0])
+        try:
+            return max(0.0, self.now() - self.lines[0][0])
+        except IndexError:  # (its feed has just taken the last one)
+            return 0.0
 
     # ---- for its feed
+
+    def lacks(self, own: State, channel: str) -> bool:
+        """Whether the log has what this machine's controller of the `channel` hasn't, as far as that is known."""
+        it = own.renditions[channel]
+        is_given = it.controller.way is Way.THERE and it.controller.listed >= it.stands.entry
+        return self.is_due or not is_given or not self.leads and bool(self.lines)
 
     def load(self, own: State) -> State:
         """Reads the log: the state with which its feed goes on, of which `own` is what this machine knew. If its controllers lack lines of the log, they
@@ -128,6 +138,11 @@ class Replica:
         if not self.won or self.leads == self.won or self.is_due:
             return False
         return not self.lines and following.has_all(own) or self.now() - self.won_at >= LONGEST
+
+    def is_next(self, own: State) -> bool:
+        """Whether something of the log is to be taken up at once: it is to be read, this machine begins to lead by it, or its controllers get its next
+        line."""
+        return self.is_due or self.may_lead(own) or not self.leads and bool(self.lines) and following.has_all(own)
 
     def look_after(self, own: State) -> None:
         """Learns from the state whether this machine's controllers answer: they don't if one hasn't for some trials, and do again once all have for a while."""
@@ -164,7 +179,13 @@ class Replica:
             except Outrun:
                 self.is_due = True
                 return None
-        return Given(self.log.state(), bool(self.lines)) if is_new else None
+        return Given(self.log.state(), self.has_more()) if is_new else None
+
+    def has_more(self) -> bool:
+        """Whether a line waits that isn't taken in yet. (One that came while the log was read waits twice.)"""
+        while self.lines and self.log.has(self.lines[0][1]):
+            self.lines.popleft()
+        return bool(self.lines)
 
     def write(self, state: State) -> None:
         """As SharedLog.write; if it isn't the one that leads any more, the log is to be read."""
@@ -232,6 +253,21 @@ class Replica:
     # ---- questions
 
     def may_ask(self, id_: str, start: int) -> bool:
-        """Whether the break `id_`, which begins at the instant `start`, is to be asked for: nobody has before. Raises OSError."""
-        key = asked_key(self.name, id_, start)
-        return self.keys.change([Is(key, 0)], [Put(key, self.machine.encode(), self.day())]).is_so
+        """Whether the break `id_`, which begins at the instant `start`, is to be asked for: nobody has before, or the feed that has is gone, and its
+        question was open. Raises OSError."""
+        key, mine = asked_key(self.name, id_, start), self.me.encode()
+        is_mine = self.keys.change([Is(key, 0)], [Put(key, mine, self.day())]).is_so
+        for it in self.keys.read(key)[1] if not is_mine else ():
+            asker = it.value.decode("utf-8", "replace")
+            is_gone = it.value != OVER and asker != self.me and not self.keys.read(FEEDS + asker)[1]
+            is_mine = it.value == mine or is_gone and self.keys.change([Is(key, it.revision)], [Put(key, mine, self.day())]).is_so
+        if is_mine:
+            self.asked[id_] = start
+        return is_mine
+
+    def finish_question(self, id_: str) -> None:
+        """The question of this feed about the break `id_` is answered, or given up: nobody asks it again. Raises OSError."""
+        start = self.asked.get(id_)
+        if start is not None:
+            self.keys.change([], [Put(asked_key(self.name, id_, start), OVER, self.day())])
+            self.asked.pop(id_, None)

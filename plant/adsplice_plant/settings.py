@@ -18,7 +18,7 @@ from .traits import Traits
 from .words import Fault
 
 NAMES = ("origin", "at", "base", "tolerance", "decisions", "fallback", "slate", "keep", "unended", "renditions", "repair", "target", "endless", "times",
-         "signals", "nearest", "ask", "hold", "verify", "master", "viewers", "empty_subtitles", "redirects", "networks", "line", "store",
+         "signals", "nearest", "fill", "ask", "hold", "verify", "master", "viewers", "empty_subtitles", "redirects", "networks", "line", "store",
          "machine", "lease")
 PLACE = "{}"  # of a rendition's name in the texts of a ladder's section
 MOST_BASE = 2048  # bytes of a base: each reference of a list is resolved by it, so it is written as often as there are segments
@@ -27,6 +27,7 @@ LINE = 16_384  # bytes of a list's line: a key may be a data URI of some thousan
 SUBTITLES = "SUBTITLES"  # the TYPE of a group (RFC 8216, 4.3.4.1)
 EMPTY = "/empty.vtt"  # where a piece of subtitles without words is, beside the channels that viewers read (nginx.conf)
 FOLDER = "folder"  # in place of a URL: who decides watches the folder of decisions
+ALL, OTHERS = "all", "others"  # a break is filled in all renditions or in none; in those that can begin it
 
 
 @dataclass(frozen=True)
@@ -37,7 +38,7 @@ class Settings:
     is, if it is one of a ladder. Of its lists: whether the feed puts them right (`repair`), the `target` duration in seconds
     (that of the first list, if none), whether the channel is `endless`, and whether `times` are added if none are stated. Of its
     signals: whether they are translated (`signals`), the segmentation `types` that begin a break if some are named, and whether a
-    start is put on the `nearest` segment; where to `ask` for a break's decision (a URL, FOLDER, or nowhere), and how many seconds a
+    start is put on the `nearest` segment; in which renditions of a ladder a break begins that one can't begin (`fill`: ALL for none, OTHERS); where to `ask` for a break's decision (a URL, FOLDER, or nowhere), and how many seconds a
     list may wait for it (`hold`); whether it is looked that a decision's ads are there (`verify`). A rendition of a master playlist has the type of its `group`, if it is of one, and the `traits` that
     it has by that. A programme whose
     origin is a master playlist has the file of the one for viewers (`master`), the address at which these read channels (`viewers`;
@@ -67,6 +68,7 @@ class Settings:
     signals: bool = True
     types: frozenset[int] | None = None
     nearest: bool = True
+    fill: str = ALL
     ask: str = ""
     hold: float = 1.0
     verify: bool = False
@@ -213,7 +215,7 @@ def with_bounds(found: Settings, said: Mapping[str, str | None]) -> Settings:
         (not said.get("master") and not any(isinstance(it, Url) for it in (found.origin, found.second)),
          "on an origin that is a file", ("redirects",) if found.verify else ("redirects", "networks")),
         (not found.repair, "without repair", ("target", "endless", "times")),
-        (not found.signals, "without signals", ("nearest",)), (not found.ask and not found.verify, "without ask or verify", ("hold",)),
+        (not found.signals, "without signals", ("nearest", "fill")), (not said.get("renditions") and not said.get("master"), "without renditions", ("fill",)), (not found.ask and not found.verify, "without ask or verify", ("hold",)),
         (not said.get("master"), "without master", ("empty_subtitles",))) if is_so for name in names if said.get(name)]
     return replace(found, redirects=is_yes(found.name, "redirects", said, "no"), networks=networks, line=int(line), idle=tuple(idle))
 
@@ -233,8 +235,10 @@ def origins_of(text: str) -> tuple[Location, Location | None]:
 
 def with_signals(found: Settings, said: Mapping[str, str | None]) -> Settings:
     """The settings `found` with what the texts `said` say of signals and of asking; raises Fault."""
-    signals, ask, hold = ((said.get(it) or "").strip() for it in ("signals", "ask", "hold"))
+    signals, ask, hold, fill = ((said.get(it) or "").strip() for it in ("signals", "ask", "hold", "fill"))
     try:
+        if fill not in ("", ALL, OTHERS):
+            raise Fault(f"fill is {ALL} or {OTHERS}, and not {fill}")
         if ask and ask != FOLDER:
             words.web_address(ask)
         if ask and found.decisions is None:
@@ -248,7 +252,7 @@ def with_signals(found: Settings, said: Mapping[str, str | None]) -> Settings:
         seconds = 1.0 if not hold else 0.0 if hold == "0" else words.seconds(hold)
     except (argparse.ArgumentTypeError, Fault) as fault:
         raise Fault(f"channel {found.name}: {fault}") from None
-    return replace(found, signals=signals != "no", types=types, nearest=is_yes(found.name, "nearest", said, "yes"), ask=ask, hold=seconds, verify=verify)
+    return replace(found, signals=signals != "no", types=types, nearest=is_yes(found.name, "nearest", said, "yes"), fill=fill or ALL, ask=ask, hold=seconds, verify=verify)
 
 
 def type_of(text: str) -> int:

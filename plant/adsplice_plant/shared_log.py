@@ -156,9 +156,9 @@ class SharedLog:
     def take(self, pair: Pair) -> bool:
         """Takes in the next line. Whether it is one: a line that is taken in already is none. Raises Outrun if lines before it are missing, and Foreign if
         it doesn't read."""
-        number = number_of(pair.key)
-        if number <= self.number:
+        if self.has(pair):
             return False
+        number = number_of(pair.key)
         line = unpacked(pair.value)
         try:
             if is_whole(line):
@@ -175,6 +175,10 @@ class SharedLog:
             raise Foreign(f"{pair.key}: {why_of(fault)}") from None
         self.number = number
         return True
+
+    def has(self, pair: Pair) -> bool:
+        """Whether a line is taken in; raises Foreign if it is none."""
+        return number_of(pair.key) <= self.number
 
     def next_known(self, known: Known, line: bytes) -> Known:
         """The state after the one that is `known`, by its next `line`; raises one of FAULTS if that isn't it."""

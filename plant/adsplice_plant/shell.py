@@ -8,9 +8,8 @@ from __future__ import annotations
 import json
 import threading
 import time
-import traceback
+from collections import deque
 from collections.abc import Callable
-from pathlib import Path
 
 from . import following, playlist, programme, state
 from .asking import Asker
@@ -31,7 +30,7 @@ from .settings import FOLDER, Settings, hash_of
 from .shared_log import Outrun
 from .state import FileState, State
 from .store import FolderStore, Store
-from .telling import Say, Telling
+from .telling import Say, Telling, place_of
 from .web import Client
 
 LOOKS = 0.02  # seconds between two looks at the files while lists wait for an answer
@@ -39,8 +38,8 @@ SELDOM = 1.0  # seconds between two looks at the files of a machine that doesn't
 LEAST = 0.005  # seconds from one turn to the next if nothing happens
 WELL = 10.0  # seconds without a fault after which the next one is a first one
 FILES = (FolderRead, FallbackRead, SlateRead)  # the events of a look at the files
+MOST_QUESTIONS = 256
 DIFFERS = "Differs"  # the word of a channel that isn't as the log says
-HERE = str(Path(__file__).parent)
 
 Step = Callable[[State, Event, float, int], tuple[State, list[Action]]]
 Wake = Callable[[State, float], float | None]
@@ -74,6 +73,7 @@ class Feeding:
         self.has_begun = self.role_has_begun = False
         self.rests_until = float("-inf")  # no event is taken before, since a fault
         self.failed_at = self.looked_at = float("-inf")
+        self.questions: deque[str] = deque(maxlen=MOST_QUESTIONS)  # breaks about which they are over, which other machines are to know
 
     def fresh(self) -> State:
         """The state of which nothing is known but the settings."""
@@ -105,7 +105,7 @@ class Feeding:
         subtitles_first = sorted(self.settings, key=lambda it: not it.empty_subtitles)  # (the others wait for no file of theirs)
         folders = {it.rendition(): it.decisions for it in subtitles_first if it.decisions is not None}
         return Asker(self.name, first.ask, first.hold, Client(self.limits.timeout, reach=Reach(frozenset({Url(first.ask).host()}))), folders, self.tell_asked, self.is_decided,
-                     lambda _: self.look_soon(), lambda name: self.inbox.post(AskedInVain(name)), {it.rendition(): it.traits for it in self.settings}, self.note_asked)
+                     self.look_soon, self.asked_in_vain, {it.rendition(): it.traits for it in self.settings}, self.note_asked)
 
     def looker_of(self, first: Settings) -> Looker:
         """Who looks whether ads are there, by the settings of the `first` channel: at public addresses, those of `networks`, and those of the hosts that a
@@ -182,6 +182,8 @@ class Feeding:
             except Exception as fault:  # noqa: BLE001  (a programme's fault isn't to end the others)
                 self.begin_anew(fault)
             self.inbox.wait(self.pause(), time.monotonic() < self.rests_until)
+        for it in self.channels.values():
+            it.show_behind(self.replica is not None)
 
     def begin(self) -> None:
         """The first event is that it begins, and the next ones what its files are. The origins are read from now on."""
@@ -189,6 +191,7 @@ class Feeding:
             self.inbox.post_first(Began())
         for it in self.channels.values():
             it.begin()
+            it.show_behind(self.replica is not None)
         if self.replica is None:
             self.look()
         self.has_begun = True
@@ -219,6 +222,7 @@ class Feeding:
                 event = Ticked()
             if event is not None:  # (an event without members is an empty tuple)
                 self.take(event)
+            self.show_lacks()
             if self.away.count and now - self.failed_at > WELL:
                 self.away.reset()
                 self.telling.forget(self.name, "feed")
@@ -244,14 +248,27 @@ class Feeding:
         follows = self.replica is not None and not self.replica.leads
         return self.looked_at + (LOOKS if time.monotonic() < self.state.waits_until else SELDOM if follows else OFTEN)
 
-    def look_soon(self) -> None:
-        """The files are looked at at once."""
+    def look_soon(self, answered: str) -> None:
+        """The files are looked at at once: the question about a break is `answered`."""
+        self.question_over(answered)
         self.looked_at = float("-inf")
         self.inbox.wake()
+
+    def asked_in_vain(self, name: str) -> None:
+        """No decision of the break `name` comes any more."""
+        self.question_over(name)
+        self.inbox.post(AskedInVain(name))
+
+    def question_over(self, name: str) -> None:
+        """The question about the break `name` is over: other machines are to know, once they have the answer."""
+        if self.replica is not None:
+            self.questions.append(name)
 
     def pause(self) -> float:
         """The seconds until the next turn, if nothing happens."""
         now = time.monotonic()
+        if now >= self.rests_until and self.replica is not None and self.replica.is_next(self.state):
+            return LEAST
         until = [self.rests_until] if now < self.rests_until else [it for it in (self.looks_at(), self.due) if it is not None]
         return min(BETWEEN / 2, max(LEAST, min(until) - now))
 
@@ -331,6 +348,12 @@ class Feeding:
 
     # ---- on one of several machines
 
+    def show_lacks(self) -> None:
+        """Shows of which channels other machines have newer lists."""
+        if self.replica is not None:
+            for name, it in self.channels.items():
+                it.show_lack(self.replica.lacks(self.state, name), time.monotonic())
+
     def take_role(self, replica: Replica) -> None:
         """Takes up what the log of all machines has, and who leads by it."""
         if replica.is_due:
@@ -381,6 +404,9 @@ class Feeding:
             for it in self.channels.values():
                 if it.shared is not None:
                     it.shared.look()
+            while self.questions:  # (the answers are in the store by now)
+                replica.finish_question(self.questions[0])
+                self.questions.popleft()
             changed = replica.see_files()
         except OSError as fault:
             self.role_has_begun = not is_first
@@ -435,9 +461,3 @@ def store_of(channels: list[Settings]) -> Store | None:
     """Where the state of the programme of these `channels` is kept; none if nothing is to be kept."""
     first = channels[0]
     return FolderStore(first.keep, first.programme or first.name) if first.keep is not None else None
-
-
-def place_of(fault: Exception) -> str:
-    """Where in the plant the `fault` came."""
-    places = [it for it in traceback.extract_tb(fault.__traceback__) if it.filename.startswith(HERE)]
-    return f"{Path(places[-1].filename).name}:{places[-1].lineno}" if places else "an unknown place"

@@ -29,6 +29,10 @@ class StoreAt:
         """The seconds of a request with its answer: below a lease."""
         return min(LIMIT, 0.75 * self.lease)
 
+    def lease_limit(self) -> float:
+        """The seconds of a request by which a lease lasts: if one member doesn't answer, another one can be asked before it ends."""
+        return min(LIMIT, 0.4 * self.lease)
+
     def text(self) -> str:
         """It as it is shown: without the password."""
         return " ".join(self.addresses)

@@ -3,6 +3,7 @@ from __future__ import annotations
 
 import threading
 import time
+import traceback
 from collections.abc import Callable
 from pathlib import Path
 
@@ -19,6 +20,7 @@ MOST_STATES = 10_000  # of which it is known what was told last
 UNTOLD = ("list", "numbers", "journal")  # of which it isn't told that all is well at first
 
 MANY = "Many"
+HERE = str(Path(__file__).parent)
 
 Say = Callable[[str], None]
 
@@ -152,3 +154,9 @@ def made_before(path: Path) -> bytes | None:
 def said(made: bytes | None) -> str:
     """What is shown of the body `made`."""
     return (made or b"")[:500].decode("utf-8", "replace")
+
+
+def place_of(fault: Exception) -> str:
+    """Where in the plant the `fault` came."""
+    places = [it for it in traceback.extract_tb(fault.__traceback__) if it.filename.startswith(HERE)]
+    return f"{Path(places[-1].filename).name}:{places[-1].lineno}" if places else "an unknown place"

@@ -286,6 +286,11 @@ class Translator:
         is_at_end = one.until is not None and one.is_ended and line.is_reached(one.until)
         return is_at_end or one.is_extended() and line.is_reached(one.start + (one.planned or 0))
 
+    def start_in(self, one: Break, rendition: str) -> int:
+        """The instant at which the break `one` begins in the `rendition`, as far as that is known."""
+        start = self.cuts.get(rendition, {}).get(one.id, [None, None])[0]
+        return one.start if start is None else start
+
     def ended(self, name: str, rendition: str) -> int | None:
         """The instant of the segment with which the break `name` has ended in the `rendition`; none if it hasn't."""
         one = self.breaks.named(name)

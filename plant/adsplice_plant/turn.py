@@ -7,6 +7,7 @@ from typing import Any
 from .events import Action, Note, Send, Store, Tell
 from .numbers import first_needed
 from .packaged import PackagedSegment
+from .settings import OTHERS
 from .state import Controller, Rendition, Standing, State
 from .values import changed
 
@@ -50,6 +51,10 @@ class Turn:
     def is_ladder(self) -> bool:
         """Whether the programme has renditions, and isn't a channel by itself."""
         return bool(next(iter(self.state.renditions.values())).settings.programme)
+
+    def fills_others(self) -> bool:
+        """Whether a break that a rendition can't begin is filled in the others."""
+        return next(iter(self.state.renditions.values())).settings.fill == OTHERS
 
     def target(self) -> float:
         """The greatest target duration of its lists, in seconds."""

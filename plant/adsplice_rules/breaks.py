@@ -193,7 +193,7 @@ def next_mark(moment: Moment, history: list[Shown], instant: int | None) -> Mark
 
 
 def why(moment: Moment, name: str, in_use: list[str]) -> str:
-    """Why a known break is filled or not: the first word that holds (docs/OPERATING.md)."""
+    """Why a known break is filled or not: the first word that holds (docs/operating/faults.md)."""
     one = next((known for known in moment.breaks if known.id == name), None)
     if name in in_use:
         return "Filled"

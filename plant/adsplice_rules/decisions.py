@@ -1,4 +1,4 @@
-"""Decision files (docs/OPERATING.md and docs/decisions.schema.json) and the store of decided breaks."""
+"""Decision files (docs/operating/faults.md and docs/decisions.schema.json) and the store of decided breaks."""
 from __future__ import annotations
 
 import json

@@ -85,7 +85,7 @@ def head_of(given: bytes) -> re.Match[bytes]:
 
 def may_become_head(given: bytes) -> bool:
     """9112, 2.1: some bytes can follow that make a head of these, or they end inside a target, which is judged at its end. With
-    65 whole fields they make none (docs/OPERATING.md, 400)."""
+    65 whole fields they make none (docs/operating/faults.md, 400)."""
     front = re.match(FRONT, given)
     if front and front[3].count(b"\n") > MOST_FIELDS:
         return False

@@ -23,7 +23,7 @@ NAMES = {
 
 
 class Fault(Exception):
-    """A refusal; as text its code, its name and its place (docs/OPERATING.md, Faults)."""
+    """A refusal; as text its code, its name and its place (docs/operating/faults.md)."""
 
     def __init__(self, code: str, place: str = "", member: str = "") -> None:
         """Makes the fault of this code; `place` is what is printed after its name, such as ` line 4`, and `member` the one of a

@@ -8,6 +8,16 @@ from dataclasses import dataclass
 from adsplice_plant.etcd import Away, Change, Compacted, Delete, Done, Is, Pair, Put, Refused, Seen
 
 
+class Clock:
+    """A clock that is set by hand."""
+
+    def __init__(self):
+        self.now = 0.0
+
+    def __call__(self):
+        return self.now
+
+
 @dataclass
 class Lease:
     """A lease of so many `seconds`, which was kept alive at a moment."""

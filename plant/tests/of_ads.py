@@ -68,7 +68,7 @@ def test_each_command_of_the_pages_has_words_that_its_program_knows(room):
     import importlib
     import shlex
     count = 0
-    for page in ("ADS.md", "DECISION_FILES.md", "OPERATING.md", "SIGNALS.md", "PACKAGERS.md"):
+    for page in ("ADS.md", "DECISION_FILES.md", "SIGNALS.md", "PACKAGERS.md", *(f"operating/{it}" for it in sorted(os.listdir(f"{ROOT}/docs/operating")))):
         for line in Path(f"{ROOT}/docs/{page}").read_text(encoding="utf-8").split("\n"):
             found = re.fullmatch(r" {4}(?:plant/|\S*/)?adsplice-(pod|condition|decide|monitor|explain) (.*)", line)
             if not found or line.endswith("\\"):

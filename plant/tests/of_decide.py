@@ -40,7 +40,7 @@ class Decide(Feed):
 
     def ask(self, id_="b1", planned=10.0, channel="sport", renditions=("v", "en"), start=40, **more):
         """The status, the answer, and the seconds that it took."""
-        return asked(self.port, json.dumps({"channel": channel, "id": id_, "start": instant(start), "planned": planned, "event": 1, "type": 52, "name": "x", "upid": "", "target": 2,
+        return asked(self.port, json.dumps({"channel": channel, "id": id_, "start": start if start is None else instant(start), "planned": planned, "event": 1, "type": 52, "name": "x", "upid": "", "target": 2,
                                             "renditions": list(renditions), **more}).encode())
 
     def pod(self, *words, **more):
@@ -177,7 +177,7 @@ def test_other_hosts_are_not_asked_if_the_section_says_so(room):
     decide = Decide(room, settings(room, server, "redirects = no"))
     assert decide.ask("b1")[0] == 204
     decide.sees("vast/b1 204 Wrapper: ad w: VASTAdTagURI .* isn't asked: it is of another host")
-    decide.sees("vast/b1 204 NotReady: ad car: MediaFile .* isn't read: it is of another host")
+    decide.sees("vast/b1 204 NotReady: ad car: MediaFile .*: it isn't read: it is of another host")
     assert files.asked == []
 
 
@@ -336,6 +336,137 @@ def test_ads_are_asked_for_before_the_break(room):
     decide.sees("vast/b2 204 Late")
 
 
+def soon(seconds=30):
+    """The instant in so many seconds, to the second."""
+    return time.strftime("%Y-%m-%dT%H:%M:%SZ", time.gmtime(time.time() + seconds))
+
+
+def question(id_, start, planned=8.0, **more):
+    """The body of a question whose break begins at `start`."""
+    return json.dumps({"channel": "sport", "id": id_, "start": start, "planned": planned, "target": 2, "renditions": ["v", "en"], **more}).encode()
+
+
+def test_a_question_that_comes_again_asks_the_ad_server_once(room):
+    """It gets the answer that it had, from a program that was started anew, too: its pod was sold once."""
+    files = films(room, car=2, soap=4)
+    server = room.server(AdServer({"/vast": vast(ad(files, "car", 2))}))
+    text = settings(room, server)
+    decide = Decide(room, text)
+    until(lambda: decide.pod("b1", start=None) == [("car", 1)], 60, "the ad")
+    count, begins = server.count("GET", "/vast?d=8&c=-1&n=1"), soon()
+    first = asked(decide.port, question("b2", begins))
+    server.pages["/vast"] = vast(ad(files, "soap", 4))
+    again = asked(decide.port, question("b2", begins))
+    assert first[:2] == again[:2] and first[0] == 200 and server.count("GET", "/vast?d=8&c=-1&n=1") == count + 1, (first, again)
+    decide.sees("sport vast/b2 200 Again: the question came before, and gets the same answer")
+    sold = decide.figure('adsplice_decide_sold_seconds_total{channel="sport",what="ads"}')
+    assert sold == 2 * decide.figure('adsplice_decide_answers_total{channel="sport",status="200"}') - 2, sold  # (all but the one that came again)
+    for kill in (signal.SIGTERM, signal.SIGKILL):
+        decide.process.send_signal(kill)
+        decide.process.wait()
+        decide = Decide(room, text)
+        assert asked(decide.port, question("b2", begins))[:2] == first[:2] and server.count("GET", "/vast?d=8&c=-1&n=1") == count + 1
+    assert asked(decide.port, question("b2", soon(90)))[0] == 204 and server.count("GET", "/vast?d=8&c=-1&n=1") == count + 2  # (another break of that ID)
+    assert asked(decide.port, question("b2", begins, 12.0))[0] == 204 and server.count("GET", "/vast?d=12&c=-1&n=1") == 1  # (the break is longer now)
+
+
+def test_a_question_that_comes_again_gets_what_was_made_meanwhile(room):
+    files = films(room, car=2)
+    server = room.server(AdServer({"/vast": vast(ad(files, "car", 2))}))
+    decide = Decide(room, settings(room, server))
+    begins = soon()
+    assert asked(decide.port, question("b1", begins))[0] == 204
+    until(lambda: asked(decide.port, question("b1", begins))[0] == 200, 60, "the ad")
+    assert server.count("GET", "/vast?d=8&c=-1&n=1") == 1
+
+
+def test_a_question_that_comes_again_while_it_is_open_waits_for_the_same_answer(room):
+    files = films(room, car=2)
+    server = room.server(AdServer({"/vast": vast(ad(files, "car", 2))}))
+    decide = Decide(room, settings(room, server))
+    until(lambda: decide.pod("b1", start=None) == [("car", 1)], 60, "the ad")
+    server.slow["/vast"] = 0.4
+    count, begins, found = server.count("GET", "/vast?d=8&c=-1&n=1"), soon(), []
+    going = [threading.Thread(target=lambda: found.append(asked(decide.port, question("b2", begins))), daemon=True) for _ in range(3)]
+    for it in going:
+        it.start()
+        time.sleep(0.05)
+    for it in going:
+        it.join(10)
+    assert [it[0] for it in found] == [200] * 3 and len({str(it[1]) for it in found}) == 1 and server.count("GET", "/vast?d=8&c=-1&n=1") == count + 1, found
+
+
+def test_what_was_asked_for_ahead_is_not_asked_again_after_a_new_start(room):
+    files = films(room, car=2)
+    server = room.server(AdServer({"/vast": vast(ad(files, "car", 2))}))
+    begins = soon(40)
+    room.write("breaks", f"{begins} 8\n")
+    for more in ((f"schedule = {room.path}/breaks", "prefetch = 60"), ("prefetch = 300", "length = 8")):
+        shutil.rmtree(f"{room.path}/keep/given", ignore_errors=True)
+        text, before = settings(room, server, *more), server.count("GET", "/vast?d=8&c=-1&n=1")
+        decide = Decide(room, text)
+        until(lambda: list(Path(f"{room.path}/keep/given/sport").glob("*.json")), 10, "the first request")
+        until(lambda: decide.figure('adsplice_decide_ads{state="ready"}') >= 1, 60, "the ad")
+        decide.process.kill()
+        decide.process.wait()
+        server.slow["/vast"] = 3
+        decide = Decide(room, text)
+        time.sleep(2.5)  # (it looks each second)
+        assert asked(decide.port, question("b1", begins))[0] == 200 and server.count("GET", "/vast?d=8&c=-1&n=1") == before + 1
+        server.slow["/vast"] = 0
+        decide.end(signal.SIGTERM)
+
+
+def test_what_was_kept_of_answers_and_does_not_read_costs_a_request(room):
+    files = films(room, car=2)
+    server = room.server(AdServer({"/vast": vast(ad(files, "car", 2))}))
+    text, begins = settings(room, server), soon()
+    decide = Decide(room, text)
+    until(lambda: decide.pod("b1", start=None) == [("car", 1)], 60, "the ad")
+    assert asked(decide.port, question("b2", begins))[0] == 200
+    (path,) = Path(f"{room.path}/keep/given/sport").glob("*.json")
+    right, count = json.loads(path.read_bytes()), server.count("GET", "/vast?d=8&c=-1&n=1")
+    wrong = (b"", b"{", b"[]", b"[" * 100_000, b"null", json.dumps(right | {"slots": 1}).encode(), json.dumps(right | {"buffet": [{}]}).encode(), json.dumps(right | {"at": "x"}).encode(),
+             json.dumps(right | {"at": 10**30}).encode(), json.dumps(right | {"at": 0}).encode(), json.dumps(right | {"buffet": [right["buffet"][0] | {"files": []}]}).encode())
+    for number, body in enumerate(wrong, 1):
+        decide.process.kill()
+        decide.process.wait()
+        path.write_bytes(body)
+        decide = Decide(room, text)
+        assert asked(decide.port, question("b2", begins))[0] == 200 and server.count("GET", "/vast?d=8&c=-1&n=1") == count + number, body[:80]
+
+
+def test_a_full_folder_loses_no_answer(room):
+    files = films(room, car=2)
+    server = room.server(AdServer({"/vast": vast(ad(files, "car", 2))}))
+    decide = Decide(room, settings(room, server))
+    until(lambda: decide.pod("b1", start=None) == [("car", 1)], 60, "the ad")
+    Path(f"{room.path}/keep/given").write_text("")  # (no folder can be made there)
+    assert asked(decide.port, question("b2", soon()))[0] == 200
+    decide.sees("sport vast/b2 - Unkept: what the ad server gave isn't kept: .*; after a new start it is asked again")
+
+
+def test_questions_do_not_wait_for_the_disk(room):
+    """While the store is looked through, or written, what is ready is answered."""
+    import importlib
+    store, ladders = (importlib.import_module(f"adsplice_plant.{it}") for it in ("ad_store", "ladders"))
+    files = films(room, car=2)
+    web = importlib.import_module("adsplice_plant.web")
+    it = store.Store(Path(f"{room.path}/ads"), Path(f"{room.path}/keep"), "http://ads.example", store.Bounds(1, 1, 60, 1 << 30, 1 << 30, 7), lambda *_: None)
+    it.begin()
+    try:
+        wanted = store.Wanted(ladders.ladder_of(ALONE), "car", f"{files.url}/car.mp4", None, None, web.Client(5))
+        until(lambda: not isinstance(it.ready(wanted, True), str) and not it.making and not it.waiting, 60, "the ad")
+        found = []
+        with it.writing:
+            asking = threading.Thread(target=lambda: found.append(it.ready(wanted, True)), daemon=True)
+            asking.start()
+            asking.join(5)
+            assert found and not isinstance(found[0], str), found
+    finally:
+        it.end()
+
+
 def test_ads_are_asked_for_now_and_then(room):
     files = films(room, car=2)
     server = room.server(AdServer({"/vast": vast(ad(files, "car", 2))}))
@@ -345,6 +476,13 @@ def test_ads_are_asked_for_now_and_then(room):
     count = len(server.asked)
     assert decide.pod("b1") == [("car", 1)] and len(server.asked) == count
     until(lambda: len(server.asked) == count + 1, 10, "the next request")
+    decide.end(signal.SIGTERM)
+    server.pages["/vast"], before = vast(), len(server.asked)
+    shutil.rmtree(f"{room.path}/keep/given")
+    decide = Decide(room, settings(room, server, "prefetch = 30", "length = 20"))
+    until(lambda: len(server.asked) == before + 1, 10, "the first request")
+    time.sleep(3)
+    assert len(server.asked) == before + 1  # (one that has no ads is asked as seldom)
 
 
 def test_the_ladder_is_that_of_the_feed(room):
@@ -445,10 +583,10 @@ def test_both_makings_of_an_ad_are_given_by_turns(room):
     decide = Decide(room, settings(room, server))
     until(lambda: decide.pod(planned=4.0) == [("car", 2)], 90, "the ad")
 
-    def folder():
-        return decide.ask(planned=4.0)[1]["breaks"][0]["ads"][0]["segments"][0]["uri"].split("/")[-3]
+    def folder(number=0):
+        return decide.ask(f"t{number}", planned=4.0)[1]["breaks"][0]["ads"][0]["segments"][0]["uri"].split("/")[-3]
     until(lambda: decide.figure("adsplice_decide_made_total") == 2, 90, "its other making")
-    seen = [folder() for _ in range(12)]
+    seen = [folder(n) for n in range(12)]
     assert len(set(seen)) == 2 and all(seen[n] != seen[n + 1] for n in range(2, 11)), seen
     frames = []
     for name in sorted(set(seen), key=len):

@@ -1,4 +1,4 @@
-"""Tests of what docs/OPERATING.md and docs/DECISION_FILES.md say of faults, members and words, with the built program."""
+"""Tests of what docs/operating and docs/DECISION_FILES.md say of faults, members and words, with the built program."""
 import json
 import os
 import re
@@ -49,7 +49,7 @@ def page(name):
 
 
 def test_each_fault_has_its_row(room):
-    text = page("OPERATING.md")
+    text = page("operating/faults.md")
     for code in faults.MEANINGS:
         assert re.search(rf"^\| `{code} \w+", text, re.M) or code in ("C1", "C2") and f"`{code} " in text, code
 
@@ -107,7 +107,7 @@ def whole(of, members):
 
 
 def test_words_of_the_pages_are_those_of_the_programs(room):
-    text = page("OPERATING.md") + page("DECISION_FILES.md") + page("ADS.md")
+    text = "".join(page(it) for it in ("DECISION_FILES.md", "ADS.md", *(f"operating/{name}" for name in sorted(os.listdir(f"{DOCS}/operating")))))
     for name in ("feed", "pod", "explain", "monitor", "decide", "condition"):
         if name not in ("pod", "explain") and room.run(f"adsplice-{name}", "--help")[0]:
             continue  # (their packages aren't installed)
@@ -118,5 +118,5 @@ def test_words_of_the_pages_are_those_of_the_programs(room):
 
 
 def test_counts_of_the_page(room):
-    count = int(re.search(r"`plant/mistakes/` has (\d+) files", page("OPERATING.md"))[1])
+    count = int(re.search(r"`plant/mistakes/` has (\d+) files", page("operating/faults.md"))[1])
     assert count == len(os.listdir(f"{PLANT}/mistakes"))

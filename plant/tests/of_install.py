@@ -25,6 +25,7 @@ def test_program_and_plant_in_a_folder(room):
         said = dict(line.rstrip("\n").split(" ", 1) for line in build)
         assert said["sha256"] == hashlib.sha256(it.read()).hexdigest() and set(said) == {"version", "commit", "date", "sha256"}, said
     assert {"nginx.conf", "nginx-viewers.conf", "as-run.logrotate", "monitor", "adsplice_plant", "adsplice_rules"} <= set(os.listdir(to)) and "alerts.yml" in os.listdir(f"{to}/monitor")
+    assert sorted(os.listdir(f"{to}/replicas")) == ["etcd", "keepalived.conf", "nginx.conf", "ready"] and os.access(f"{to}/replicas/ready", os.X_OK)
     file = room.write("d.json", decided(("b1", 1)))
     done = subprocess.run([PYTHON, f"{to}/adsplice-pod", "--check", file], capture_output=True, text=True, check=False)
     assert (done.returncode, done.stdout) == (0, f"{file}: right\n"), done  # (by the program beside it)
@@ -57,9 +58,9 @@ def test_package(room):
     assert status == 0 and err == "" and path.rstrip().endswith(".deb"), (status, path, err)
     listed = subprocess.run(["dpkg-deb", "-c", path.rstrip()], capture_output=True, text=True, check=True).stdout
     for name in ("./usr/bin/adsplice ->", "./usr/bin/adsplice-feed ->", "./lib/systemd/system/adsplice@.service", "./lib/systemd/system/adsplice-feed.service",
-                 "./usr/lib/adsplice/adsplice.build", "./usr/share/adsplice/nginx.conf", "./usr/share/adsplice/nginx-viewers.conf", "./usr/bin/adsplice-decide ->", "./usr/bin/adsplice-condition ->", "./etc/adsplice/decide.ini", "./etc/logrotate.d/adsplice", "./lib/systemd/system/adsplice-decide.service", "./usr/share/man/man1/adsplice-decide.1.gz",
+                 "./usr/lib/adsplice/adsplice.build", "./usr/share/adsplice/nginx.conf", "./usr/share/adsplice/nginx-viewers.conf", "./usr/share/adsplice/replicas/ready", "./usr/share/doc/adsplice/REPLICAS.md", "./usr/bin/adsplice-decide ->", "./usr/bin/adsplice-condition ->", "./etc/adsplice/decide.ini", "./etc/logrotate.d/adsplice", "./lib/systemd/system/adsplice-decide.service", "./usr/share/man/man1/adsplice-decide.1.gz",
                  "./usr/share/doc/adsplice/ADS.md", "./usr/share/man/man1/adsplice.1.gz", "./etc/adsplice/feed.ini",
-                 "./usr/share/doc/adsplice/DECISION_FILES.md", "./usr/lib/adsplice/adsplice_plant/programme.py", "./usr/lib/adsplice/adsplice_rules/channel.py"):
+                 "./usr/share/doc/adsplice/DECISION_FILES.md", "./usr/share/doc/adsplice/operating/faults.md", "./usr/lib/adsplice/adsplice_plant/programme.py", "./usr/lib/adsplice/adsplice_rules/channel.py"):
         assert name in listed, name
     subprocess.run(["dpkg-deb", "-x", path.rstrip(), f"{room.path}/out"], check=True)
     with open(f"{room.path}/out/lib/systemd/system/adsplice@.service", encoding="utf-8") as it:

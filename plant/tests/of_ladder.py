@@ -295,7 +295,8 @@ def test_ladder_by_a_config_file(room):
 def test_ladder_wrong_words(room):
     for text, fault in (("renditions = a b\norigin = http://h/x.m3u8\n", "origin needs {}"), ("renditions = a a\norigin = http://h/{}.m3u8\n", "a name of its own"),
                         ("renditions = a-1 b\norigin = http://h/{}.m3u8\n", "without '-'"),
-                        (f"renditions = a b\norigin = http://h/{{}}.m3u8\ndecisions = {room.path}\n", "decisions needs {}")):
+                        (f"renditions = a b\norigin = http://h/{{}}.m3u8\ndecisions = {room.path}\n", "decisions needs {}"),
+                        ("renditions = a b\norigin = http://h/{}.m3u8\nfill = none\n", "fill is all or others, and not none")):
         status, out, err = room.run("adsplice-feed", "--config", room.write("feed.ini", f"[news]\nat = http://127.0.0.1:1\n{text}"))
         assert status == 1 and fault in err and err.count("\n") == 1, (text, err)
 
@@ -580,6 +581,30 @@ def test_ladder_whose_sound_is_cut_elsewhere_than_its_picture_has_its_ads_in_bot
     texts = {name: [controller.shown(f"{name}-{it}") for it in "va"] for name in offsets}
     for name, found in texts.items():
         assert re.findall("SEQUENCE:.*|^#EXT-X-DISC.*|/[as][0-9]+", found[0], re.M) == re.findall("SEQUENCE:.*|^#EXT-X-DISC.*|/[as][0-9]+", found[1], re.M), (name, found)
+
+
+def test_ladder_break_near_which_sound_has_no_segment_is_filled_in_none_or_in_the_others(room):
+    controller, fallback = room.server(RulesController()), room.write("f.json", two_seconds(3))
+    sections = "".join(f"[{it}]\nrenditions = v a\norigin = {room.path}/{it}-{{}}.m3u8\n{more}" for it, more in (("none", ""), ("others", "fill = others\n")))
+
+    def push(newest):
+        text = cued(max(0, newest - 9), newest, 8, 11, 0)
+        for name in ("none", "others"):
+            room.write(f"{name}-v.m3u8", text)
+            room.write(f"{name}-a.m3u8", re.sub(r"#EXT-X-CUE-OUT.*\n.*\n#EXTINF:2,\ns8.ts\n", "#EXT-X-DISCONTINUITY\n", text))
+
+    push(6)
+    feed = room.feed("--config", room.write("feed.ini", f"[DEFAULT]\nat = {controller.url}\nbase = http://h/i.m3u8\nfallback = {fallback}\n{sections}"))
+    for name in ("none-v", "none-a", "others-v", "others-a"):
+        feed.sees(f"{name} adsplice 204 -: the list is taken", 20)
+    push(7)
+    until(lambda: all("s7.ts" in controller.shown(it) for it in ("none-v", "none-a", "others-v", "others-a")), 20, "the list before the break")
+    push(9)  # (the segment that begins the break is lost in the sound)
+    feed.sees("none breaks/cue-8 - Passed: none-a has no segment near its start: begins in no rendition")
+    feed.sees("others breaks/cue-8 - Passed: others-a has no segment near its start: begins in the other renditions alone")
+    push(12)
+    until(lambda: all("s12.ts" in controller.shown(it) for it in ("none-v", "none-a", "others-v", "others-a")), 20, "the list after the break")
+    assert {it: "ads.example" in controller.shown(it) for it in ("none-v", "none-a", "others-v", "others-a")} == {"none-v": False, "none-a": False, "others-v": True, "others-a": False}
 
 
 @needs("httpx", "program")

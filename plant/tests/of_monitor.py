@@ -383,9 +383,10 @@ def test_state_of_the_feed_has_figures(room):
                    "--as-run", f"{room.path}/as-run.jsonl")[1]
     found = figures(out)
     assert [found[("adsplice_feed_apart", f'channel="news-{it}"')] for it in (1, 2)] == [0, 1] and found[("adsplice_feed_late_decisions_total", 'channel="news-1"')] == 1, out
-    times = {labels: time.time() - value for (name, labels), value in found.items() if name == "adsplice_feed_refused_time_seconds" and "news-1" in labels}
+    times = {labels: time.time() - value for (name, labels), value in found.items() if name == "adsplice_feed_refused_timestamp_seconds" and "news-1" in labels}
     assert set(times) == {'channel="news-1",fault="Late",status="-",what="decisions"', 'channel="news-1",fault="J2 Shape",status="422",what="decisions"'}, times
-    assert all(-1 < it < 30 for it in times.values()) and 0 <= found[("adsplice_feed_step_age_seconds", 'channel="news-1"')] < 30, times
+    assert all(-1 < it < 30 for it in times.values()) and -1 < time.time() - found[("adsplice_feed_step_timestamp_seconds", 'channel="news-1"')] < 30, times
+    assert found[("adsplice_build_info", 'commit="unknown",version="unknown"')] == 1, out  # (no build is installed beside it)
     assert found[("adsplice_breaks_begun_total", 'channel="news-1",pod="none",why="NotDecided"')] == 0 == found[("adsplice_as_run_total", 'channel="news-1",pod="own",why="Filled"')]
 
 
@@ -505,7 +506,7 @@ def test_a_break_counts_as_whole_by_any_of_its_files_and_refused_ones_are_named(
     assert "b1 (2.json)" not in room.run("adsplice-monitor", "--reconcile", f"{room.path}/orders", "--as-run", log, "--channel", "news")[1]
 
 
-LEFT_OUT = {"adsplice_programme_channels", "adsplice_ended"}  # figures that the dashboard hasn't: a list that has ended is no fault
+LEFT_OUT = {"adsplice_programme_channels", "adsplice_ended", "adsplice_build_info"}  # figures that the dashboard hasn't: they are of no fault
 
 
 def test_alerts_name_figures_that_there_are_and_the_dashboard_has_each(room):

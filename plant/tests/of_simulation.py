@@ -2,6 +2,7 @@
 import json
 import os
 import random
+import re
 import sys
 from dataclasses import replace
 
@@ -112,6 +113,46 @@ def test_breaks_of_a_calm_day_are_filled(room):
     assert not world.found and (world.tally["breaks"], world.tally["own pods"]) == (3, 3), (world.found, world.tally)
     world = simulated.play(of(*UNDECIDED))
     assert not world.found and (world.tally["filled"], world.tally["own pods"]) == (3, 0), (world.found, world.tally)
+
+
+def shown(plan):
+    """The breaks that each rendition's viewers had filled, what was broken, and what the feed said of renditions that can't begin one."""
+    world = simulated.play(plan, True)
+    passed = [re.sub(r".*breaks/\S+ - Passed: ", "", line) for line in world.log if " Passed: " in line]
+    return {name: " ".join(pod.name for pod in it.pods) for name, it in world.viewers.items()}, [str(it) for it in world.found], passed
+
+
+THREE = replace(CALM, names=("v", "a", "w"), style="cues", asks=True, kinds=True)
+
+
+def test_a_break_that_a_rendition_has_passed_is_filled_in_none_or_in_all_others(room):
+    """The pictures signal, and their lists come late: sound has gone past the start by then."""
+    late = of(Fault(28.0, "unread", "v", 7.0), Fault(28.0, "unread", "w", 7.0), plan=replace(THREE, speakers=("v", "w")))
+    none, others = shown(late), shown(replace(late, fill="others"))
+    assert none == ({"v": "b1 b2", "a": "b1 b2", "w": "b1 b2"}, [], ["p-a had passed its start before it was known: begins in no rendition"]), none
+    assert others == ({"v": "b0 b1 b2", "a": "b1 b2", "w": "b0 b1 b2"}, [], ["p-a had passed its start before it was known: begins in the other renditions alone"]), others
+
+
+def test_a_break_is_filled_in_the_renditions_that_have_not_passed_it(room):
+    """The picture alone signals, and stands still: it comes after the others."""
+    late = of(Fault(29.0, "stands still", "v", 6.0), plan=replace(THREE, speakers=("v",)))
+    none, others = shown(late), shown(replace(late, fill="others"))
+    assert none[:2] == ({"v": "b1 b2", "a": "b1 b2", "w": "b1 b2"}, []) and others[:2] == ({"v": "b0 b1 b2", "a": "b1 b2", "w": "b1 b2"}, []), (none, others)
+
+
+def test_a_rendition_that_lost_the_begin_of_a_break_is_named(room):
+    """Sound lost its first segment of the break. The others had begun by then: nobody waits for two target durations."""
+    lost = of(Fault(29.5, "loses segments", "a", 2.0), plan=replace(THREE, style="ranges", asks=False))
+    for fill in ("all", "others"):
+        pods, _, passed = shown(replace(lost, fill=fill))
+        assert pods == {"v": "b0 b1 b2", "a": "b1 b2", "w": "b0 b1 b2"} and passed == ["p-a has no segment near its start: begins in the other renditions alone"], (fill, pods, passed)
+
+
+def test_breaks_are_filled_beside_pictures_in_longer_segments(room):
+    """A break begins amid a segment of the picture: the sound's shorter ones say where."""
+    for long in ("v", "a"):
+        world = simulated.play(replace(CALM, long=(long,)))
+        assert not world.found and world.tally["own pods"] == 3, (long, world.found, world.tally)
 
 
 def test_a_picture_is_given_at_its_own_pace_beside_sound_in_longer_segments(room):

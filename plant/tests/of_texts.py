@@ -1,5 +1,4 @@
 """Tests of what the programs read: instants, durations, lists, pauses, and that a type checker passes."""
-import glob
 import os
 import re
 import subprocess
@@ -79,23 +78,6 @@ def test_sections_field_by_field(room):
     assert splice.told("0xFC301600000000000000FFF00506" + "FE00000000" + "0000" + "00000000") == "a section with a time_signal; adsplice takes splice_insert alone"
     assert splice.told("FC30") == "no hexadecimal text: it has to begin with 0x"
     assert splice.told("0xFC3") == "no hexadecimal text: its 3 digits are an odd number"
-
-
-def test_words_of_lines_are_those_of_the_pages(room):
-    """What stands in place of a fault in the feed's lines is in the pages' tables, and these have no other word."""
-    sources, told = set(glob.glob(f"{PLANT}/adsplice_plant/*.py")), set()
-    for path in sources - {f"{PLANT}/adsplice_plant/{it}.py" for it in ("words", "explain", "monitor", "causes", "excerpt", "judge", "as_run", "watch")}:
-        with open(path, encoding="utf-8") as it:
-            text = it.read()
-        for call in re.findall(r"(?:\b(?:tell|tell_decision|say|line|refuse|Tell|Telling|WORDS|lack|Lack)\b|\bword|\bMANY)(?:\(| = )(?:[^()\n]|\([^()\n]*\))*", text):
-            told |= set(re.findall(r'"([A-Z][a-z]+(?:[A-Z][a-z]+)*)"', call))
-    told = (told - {"Shape"}) | {"First", "Second"}
-    rows = []
-    for page, title in (("OPERATING.md", "| Who | Word | What it says |"), ("SIGNALS.md", "| Who | Word | Meaning |"), ("ADS.md", "| Who | Word | What it says |")):
-        with open(f"{PLANT}/../docs/{page}", encoding="utf-8") as it:
-            rows += it.read().partition(title)[2].partition("\n\n")[0].split("\n")[2:]
-    named = {word for row in rows for word in re.findall(r"`([A-Z][A-Za-z]+)`", row.split(" | ")[1])}
-    assert named == told, (named - told, told - named)
 
 
 def test_levels_of_lines(room):

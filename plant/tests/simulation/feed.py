@@ -68,7 +68,7 @@ def settings_of(plan: Plan) -> list[Settings]:
     for name in plan.names:
         url = f"{BASE}/{name}/index.m3u8"
         found.append(Settings(plan.channel(name), Url(url), "http://controller.example", url, decisions=folder / name, fallback=folder / f"{name}.json" if plan.has_fallback else None,
-                              keep=folder / "keep", programme=programme_name, ask="folder" if plan.asks else "", hold=1.0))
+                              keep=folder / "keep", programme=programme_name, group=name if plan.kinds else "", fill=plan.fill, ask="folder" if plan.asks else "", hold=1.0))
     return found
 
 

@@ -57,6 +57,7 @@ class Packager:
         self.truth: dict[str, Cut] = {}
         self.all: list[Cut] = []
         self.lag, self.lag_until, self.still_until, self.away_until = 0, 0, 0, 0
+        self.lost: int | None = None  # whether it has lost segments of which a discontinuity tells, if it does
         self.clock = 0
         self.spelled, self.token = 0, 0
         self.bodies: deque[tuple[int, bytes]] = deque(maxlen=KEPT)
@@ -96,8 +97,12 @@ class Packager:
         while (end := self.cut_at(self.next + 1)) + DELAY + lag <= now:
             begin, self.next = self.cut_at(self.next), self.next + 1
             if begin < self.away_until:
+                self.lost = 1 if self.lost is not None else None
                 continue  # (it was away: that is lost at the packager)
             text, steps = self.tags(begin)
+            if self.lost and not steps:
+                text, steps = f"#EXT-X-DISCONTINUITY\n{text}", 1
+            self.lost = None if self.lost else self.lost
             uri = f"{self.run}/{self.next}.ts"
             text += f"#EXT-X-PROGRAM-DATE-TIME:{instant(begin + self.clock)}\n#EXTINF:{duration_text((end - begin) * MILLION)},\n{uri}"
             one = Cut(begin, end, uri, text, self.clock, steps)

@@ -43,7 +43,8 @@ class Plan:
     segments of a list; `cuts`: where the sound is cut (milliseconds of its shift, or -1: at frames); `style` of the signals; `speakers`:
     who signals; `processes`: whether each rendition has a controller of its own; `has_fallback`; `asks`: whether decisions are asked for;
     `marks`: whether the packager has discontinuities where breaks begin and end; `in_step`: whether they number alike; `long`: the renditions whose
-    segments are twice as long; `later`: those that the feed reads from a moment on, in seconds."""
+    segments are twice as long; `later`: those that the feed reads from a moment on, in seconds; `fill`: in which renditions a break begins that one
+    can't begin; `kinds`: whether each rendition is of a kind of its own, so that none has segments for another one."""
 
     seed: int
     names: tuple[str, ...] = ("v", "a")
@@ -60,6 +61,8 @@ class Plan:
     in_step: bool = True
     long: tuple[str, ...] = ()
     later: tuple[tuple[str, float], ...] = ()
+    fill: str = "all"
+    kinds: bool = False
     breaks: tuple[Span, ...] = ()
     faults: tuple[Fault, ...] = field(default=())
 

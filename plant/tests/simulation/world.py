@@ -10,6 +10,7 @@ from dataclasses import dataclass, field
 from typing import Any
 
 from adsplice_plant import finding
+from adsplice_plant.settings import OTHERS
 from adsplice_plant.state import State
 from adsplice_plant.web import Answer
 from adsplice_rules.edge import Edge
@@ -192,8 +193,8 @@ class World:
         alike = [{last[name][0] for name in last if (name in self.plan.long) == is_long} for is_long in (False, True)]
         kinds = ["media numbers apart"] if any(len(it) > 1 for it in alike) else []
         kinds += ["discontinuity numbers apart"] if len({it[1] for it in last.values()}) > 1 else []
-        if kinds and kinds[0].startswith("media") and any(self.lacks_cut(it) for it in self.viewers.values()):
-            kinds.pop(0)  # (nobody had what lacks there, so that its numbers are fewer)
+        if kinds and kinds[0].startswith("media") and (self.plan.fill == OTHERS or any(self.lacks_cut(it) for it in self.viewers.values())):
+            kinds.pop(0)  # (nobody had what lacks there, so that its numbers are fewer; or a pod of another count filled a break there alone)
         return [Breach(kinds[0], self.now, "", f"of the cut {max(common)}: {[*last.values()]}")] if kinds else []
 
     def lacks_cut(self, viewers: Viewers) -> bool:
@@ -214,6 +215,8 @@ class World:
             if any(it.reached is None or it.reached < one.planned + 3 * self.plan.target for it in self.viewers.values()) or not self.came_in_time(one):
                 continue
             pods = {name: next(((pod.name, pod.version) for pod in it.pods if pod.place == place), None) for name, it in self.viewers.items()}
+            if self.plan.fill == OTHERS:
+                pods = {name: it for name, it in pods.items() if it is not None} or pods
             self.tally["breaks"] += 1
             self.tally["filled"] += any(pods.values())
             self.tally["own pods"] += any(it and it[0] != FALLBACK for it in pods.values())
@@ -499,6 +502,12 @@ class World:
         for name in names:
             self.packagers[name].go_on(round(self.now * 1000))
             self.packagers[name].begin_again(round(self.now * 1000), fault.size)
+
+    def fault_loses_segments(self, fault: Fault, names: tuple[str, ...]) -> None:
+        """Packagers lose the segments that begin within so many seconds, and go on with a discontinuity."""
+        for name in names:
+            self.packagers[name].go_on(round(self.now * 1000))
+            self.packagers[name].away_until, self.packagers[name].lost = round((self.now + fault.size) * 1000), 0
 
     def fault_lags(self, fault: Fault, names: tuple[str, ...]) -> None:
         """Packagers list segments late for a while."""

@@ -1,0 +1,175 @@
+"""Films that flash and beep at each full second, and how far flashes and beeps are apart in what is played of them.
+
+ffmpeg decodes what is between two discontinuities, by the timestamps of its own: a player puts the pictures and the sound of one Discontinuity Sequence
+Number in one place (RFC 8216, 6.2.4). Chromium plays a list in a page that tells of each flash and beep. The colour before a flash and the pitch of a beep
+say which film each of them is of.
+"""
+from __future__ import annotations
+
+import array
+import functools
+import http.server
+import subprocess
+import threading
+from collections.abc import Callable
+from typing import Any
+
+from tools import fail
+
+MOST = 0.045  # seconds between a flash and its beep
+RATE, SOUND = 25, 48_000  # of the programme
+LIGHT, LOUD = 128, 3000  # of a flash, and of a beep
+NEAR = 0.4  # seconds within which a beep is one of a flash
+RESTS = ("-bf", "0", "-g", str(2 * RATE), "-keyint_min", str(2 * RATE), "-sc_threshold", "0")
+DARK, TONES = (16, 64), (880, 440)  # the red of the pictures, and the pitch: of the programme, and of an ad
+PAGE = """<!doctype html><title>lip sync</title><video id=video crossorigin=anonymous></video><script>
+const flashes = [], beeps = [], pen = new OffscreenCanvas(1, 1).getContext("2d", { willReadFrequently: true });
+let light = false, dark = 0, quiet = 0, since = 0, before = 0, fault = "";
+function seen(now, frame) {
+  pen.drawImage(video, 0, 0, 1, 1);
+  const red = pen.getImageData(0, 0, 1, 1).data[0], is = red > 128;
+  if (is && !light) flashes.push([frame.expectedDisplayTime / 1000, dark]);
+  if (!is) dark = red;
+  light = is;
+  video.requestVideoFrameCallback(seen);
+}
+video.requestVideoFrameCallback(seen);
+video.addEventListener("error", () => { fault = video.error.message || "error " + video.error.code; });
+const audio = new AudioContext(), ear = audio.createScriptProcessor(512, 1, 1);
+audio.createMediaElementSource(video).connect(ear);
+ear.connect(audio.destination);
+ear.onaudioprocess = (it) => {
+  const heard = it.inputBuffer.getChannelData(0), clock = audio.getOutputTimestamp();
+  for (let n = 0; n < heard.length; n++) {
+    const sign = Math.sign(heard[n]);
+    if (since < 0.03 * audio.sampleRate && beeps.length && sign && before && sign !== before) beeps.at(-1)[1]++;
+    [since, before] = [since + 1, sign || before];
+    if (Math.abs(heard[n]) < 0.1) { quiet++; continue; }
+    if (quiet > 9600) { beeps.push([clock.performanceTime / 1000 + it.playbackTime - clock.contextTime + n / audio.sampleRate, 0]); since = 0; }
+    quiet = 0;
+  }
+};
+function taken() { const now = [flashes.splice(0), since > 4800 ? beeps.splice(0) : beeps.splice(0, beeps.length - 1)]; return now; }
+video.src = new URLSearchParams(location.search).get("list");
+video.play();
+</script>"""
+
+
+def run(*words: str, **more: Any) -> bytes:
+    """The output of a program; a fault ends the script."""
+    done = subprocess.run(words, stdin=more.pop("stdin", subprocess.DEVNULL), capture_output=True, check=False, **more)
+    if done.returncode:
+        fail(f"{words[0]}: {done.stderr.decode('utf-8', 'replace').strip().splitlines()[-1:]}")
+    return bytes(done.stdout)
+
+
+def film(path: str, seconds: float, rate: int, sound: int, is_ad: bool = False) -> None:
+    """A film of so many seconds, pictures and samples a second that flashes for two pictures and beeps at each full second."""
+    flash = f"color=c=#{DARK[is_ad]:02x}0000:s=160x90:r={rate},drawbox=color=white:t=fill:enable='lt(mod(n,{rate}),2)'"
+    beep = f"aevalsrc=exprs='0.5*sin(2*PI*{TONES[is_ad]}*t)*lt(mod(t,1),0.04)':s={sound}:c=stereo"
+    run("ffmpeg", "-v", "error", "-y", "-f", "lavfi", "-i", flash, "-f", "lavfi", "-i", beep, "-t", str(seconds), "-c:v", "libx264", "-preset", "ultrafast", "-pix_fmt", "yuv420p", *RESTS,
+        "-c:a", "aac", "-b:a", "96k", path)
+
+
+def is_of_ad(red: int) -> bool:
+    """Whether pictures whose red is so are those of an ad."""
+    return red > sum(DARK) / 2
+
+
+def is_tone_of_ad(crossings: int) -> bool:
+    """Whether a beep that changes its sign so often within 0.03 s is an ad's."""
+    return crossings < 0.03 * sum(TONES)
+
+
+def write(path: str, text: str) -> None:
+    """Writes a file."""
+    with open(path, "w", encoding="utf-8") as it:
+        it.write(text)
+
+
+def times_of(room: str, name: str) -> list[tuple[float, int]]:
+    """The instant of each packet that ffmpeg wrote, and its size."""
+    found, base = [], 0.0
+    with open(f"{room}/{name}", encoding="ascii") as it:
+        for line in it:
+            if line.startswith("#tb"):
+                over, under = line.partition(":")[2].split("/")
+                base = int(over) / int(under)
+            elif line[0] != "#":
+                parts = line.split(",")
+                found.append((int(parts[2]) * base, int(parts[4])))
+    return found
+
+
+def joined(room: str, name: str, files: list[str]) -> str:
+    """The bytes of the files one after the other, in a file."""
+    with open(f"{room}/{name}", "wb") as it:
+        for path in files:
+            with open(path, "rb") as part:
+                it.write(part.read())
+    return f"{room}/{name}"
+
+
+def flashes_in(room: str, path: str) -> tuple[list[float], float]:
+    """When the pictures of a file flash, by its timestamps; and how long they last."""
+    gray = ["-vf", "scale=1:1:flags=area,format=gray", "-vsync", "passthrough"]
+    run("ffmpeg", "-v", "error", "-y", "-copyts", "-i", path, *gray, "-f", "rawvideo", f"{room}/v.raw", *gray, "-f", "framecrc", f"{room}/v.crc")
+    with open(f"{room}/v.raw", "rb") as it:
+        lights = [it > LIGHT for it in it.read()]
+    times = times_of(room, "v.crc")
+    return [at for n, (at, _) in enumerate(times) if lights[n] and not (n and lights[n - 1])], len(times) / RATE
+
+
+def beeps_in(room: str, path: str) -> tuple[list[float], float]:
+    """When the sound of a file beeps, by its timestamps; and how long it lasts."""
+    heard = ["-ac", "1", "-ar", str(SOUND)]
+    run("ffmpeg", "-v", "error", "-y", "-copyts", "-i", path, *heard, "-f", "s16le", f"{room}/a.raw", *heard, "-c:a", "pcm_s16le", "-f", "framecrc", f"{room}/a.crc")
+    samples = array.array("h")
+    with open(f"{room}/a.raw", "rb") as it:
+        samples.frombytes(it.read())
+    beeps, place, last = list[float](), 0, -1.0
+    for at, size in times_of(room, "a.crc"):
+        for n in range(place, min(place + size // 2, len(samples))):
+            if abs(samples[n]) > LOUD:
+                now = at + (n - place) / SOUND
+                if now - last > NEAR / 2:
+                    beeps.append(now)
+                last = now
+        place += size // 2
+    return beeps, len(samples) / SOUND
+
+
+def apart(flashes: list[float], beeps: list[float]) -> list[tuple[float, float]]:
+    """How long after each flash its beep comes, in seconds; nothing for one without a beep."""
+    found = [(at, min((beep - at for beep in beeps if abs(beep - at) < NEAR), key=abs, default=None)) for at in flashes]
+    return [(at, by) for at, by in found if by is not None]
+
+
+def told(found: list[tuple[float, float]]) -> str:
+    """The least, the middle and the greatest of what is apart, in milliseconds."""
+    its = sorted(round(1000 * by) for _, by in found)
+    return f"{its[0]}, {its[len(its) // 2]} and {its[-1]} ms" if its else "nothing"
+
+
+class Site(http.server.SimpleHTTPRequestHandler):
+    """The files of a folder, for pages of any host."""
+
+    protocol_version = "HTTP/1.1"
+    extensions_map = {**http.server.SimpleHTTPRequestHandler.extensions_map, ".m3u8": "application/vnd.apple.mpegurl", ".ts": "video/mp2t", ".m4s": "video/mp4", ".mp4": "video/mp4",
+                      ".vtt": "text/vtt"}
+
+    def end_headers(self) -> None:
+        """Other hosts' pages may read it."""
+        self.send_header("Access-Control-Allow-Origin", "*")
+        super().end_headers()
+
+    def log_message(self, *_: object) -> None:
+        """Nothing is printed."""
+
+
+def serve(folder: str, kind: Callable[..., Site] = Site) -> int:
+    """A server of the files of a folder, by a `kind` of Site: its port."""
+    server = http.server.ThreadingHTTPServer(("127.0.0.1", 0), functools.partial(kind, directory=folder))
+    server.daemon_threads = True
+    threading.Thread(target=server.serve_forever, daemon=True).start()
+    return int(server.server_port)
