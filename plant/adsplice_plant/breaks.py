@@ -266,6 +266,7 @@ class Breaks:
         self.recent: deque[Line] = deque(maxlen=MOST)  # that were told: each rendition of a programme says the same
         self.is_first = True  # no list was looked at before
         self.clock: int | None = None  # the media number of the last segment before the packager's clock changed
+        self.set_at: int | None = None  # the same, if the packager set its clock there, and nothing of the programme lies between
 
     def copy(self) -> Breaks:
         """The same breaks, of which nothing is told yet."""
@@ -391,6 +392,7 @@ class Breaks:
         have been away: then it holds for the breaks `names` alone, of which it says so. Each rendition of a programme says the same."""
         self.clock = jump.number
         is_set = jump.by < 0 or jump.is_within
+        self.set_at = jump.number if is_set else self.set_at
         for one in [it for it in self.known if it.start < jump.at and not it.has_turned(jump) and (is_set or it.id in names)]:
             end = one.end()
             if end is not None and end > jump.last:

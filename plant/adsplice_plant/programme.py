@@ -108,6 +108,8 @@ def take_list(turn: Turn, event: ListRead) -> None:
 def older_than(it: Rendition, body: bytes) -> tuple[bytes, ...]:
     """The lists of the rendition that are to be taken in before the newest one, which has the `body`: those that it doesn't go on from. Of lists that are
     held back those that have what left the newest one; none if it goes on from the last one that was taken in."""
+    if not it.stands.repairer.last:
+        return ()  # (viewers begin with the newest list)
     if not it.is_new or it.came is None:
         return it.older
     if it.stands.repairer.held_since is None:

@@ -458,12 +458,15 @@ def missed_by(last: PackagedSegment, segments: list[PackagedSegment]) -> int:
 
 def ahead_of(segments: list[PackagedSegment], last: PackagedSegment, taken: list[PackagedSegment]) -> list[PackagedSegment]:
     """Those of the segments `taken` from another rendition, after the segment `last`, that come before the listed `segments` by the packager's numbers; all
-    if its numbers don't go on."""
-    if segments[0].own <= last.own:
+    if its numbers don't go on. If its clock went on meanwhile, the first of them come before `last`."""
+    if segments[0].own <= last.own or not taken:
         return taken
     missed = missed_by(last, segments)
-    lasted = accumulate((it.duration for it in taken), initial=0)
-    return [it for it, sofar in zip(taken, lasted) if sofar + it.duration // 2 <= missed]
+    is_next = abs((taken[0].begins or 0) - (last.begins or 0) - last.duration) <= taken[0].duration
+    inorder = taken if is_next or (segments[0].begins or 0) < (last.begins or 0) else taken[::-1]
+    lasted = accumulate((it.duration for it in inorder), initial=0)
+    found = [it for it, sofar in zip(inorder, lasted) if sofar + it.duration // 2 <= missed]
+    return found if inorder is taken else found[::-1]
 
 
 def without_ranges(it: PackagedSegment) -> PackagedSegment:

@@ -230,7 +230,7 @@ class Translator:
             found = self.cuts[rendition][it.id]
             for place, instant in enumerate((it.start if it.said is None else it.said, it.until)):
                 if instant is not None and found[place] is None and line.is_reached(instant) and (not place or line.has_turned(it)):
-                    known = line.end_before(it) if place else line.begin_by_number(it, instant, self.breaks.clock)
+                    known = line.end_before(it) if place else line.begin_by_number(it, instant, self.breaks.set_at)
                     own = known if known is not None else line.aligned(instant) if line.has_turned(it) else instant
                     found[place] = own if abs(own - instant) > self.tolerance else instant
 
@@ -300,7 +300,7 @@ class Translator:
 
     def kept(self) -> dict[str, Any]:
         """The state as JSON."""
-        return {"breaks": self.breaks.kept(), "clock": self.breaks.clock, "done": dict(self.done), "firsts": dict(self.firsts), "lows": dict(self.lows),
+        return {"breaks": self.breaks.kept(), "clock": self.breaks.clock, "set_at": self.breaks.set_at, "done": dict(self.done), "firsts": dict(self.firsts), "lows": dict(self.lows),
                 "cancelled": sorted(self.breaks.cancelled), "styles": sorted(self.styles),
                 "stated": {name: dict(it) for name, it in self.stated.items()},
                 "cuts": {name: {id_: [*cut] for id_, cut in it.items()} for name, it in self.cuts.items()},
@@ -315,4 +315,4 @@ class Translator:
         self.cuts = {name: {id_: [*cut] for id_, cut in it.items()} for name, it in kept.get("cuts", {}).items()}
         self.firsts, self.lows = ({name: int(first) for name, first in kept.get(member, {}).items()} for member in ("firsts", "lows"))
         self.breaks.cancelled, self.styles, self.breaks.is_first = set(kept["cancelled"]), set(kept["styles"]), not self.done
-        self.breaks.clock = kept.get("clock")
+        self.breaks.clock, self.breaks.set_at = kept.get("clock"), kept.get("set_at")
