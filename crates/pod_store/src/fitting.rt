@@ -4,6 +4,8 @@ ghost use Rattle.pod_store.specs.Inner.Fitting.{pod_segments_longest, pod_ads_lo
 
 use crate::{Ad, PodSegment};
 
+// The longest duration of a segment of `segments`, each rounded to whole seconds (RFC 8216, section 4.3.3.1); 0 for
+// none.
 fn pod_segments_longest(segments: &[PodSegment]) -> u64
     ensures { result ≡ pod_segments_longest segments.now }
 {
@@ -16,7 +18,7 @@ fn pod_segments_longest(segments: &[PodSegment]) -> u64
     longest
 }
 
-/// The longest duration of a segment of `ads`, each rounded to whole seconds.
+/// The longest duration of a segment of `ads`, each rounded to whole seconds (RFC 8216, section 4.3.3.1); 0 for none.
 pub fn pod_ads_longest(ads: &[Ad]) -> u64
     ensures { result ≡ pod_ads_longest ads.now }
 {
@@ -29,14 +31,14 @@ pub fn pod_ads_longest(ads: &[Ad]) -> u64
     longest
 }
 
-/// Whether each of `ads` has an initialisation section.
+/// Whether each of `ads` has an initialisation section (RFC 8216, section 4.3.2.5).
 pub fn are_ads_with_init_sections(ads: &[Ad]) -> bool
     ensures { result ≡ are_ads_with_init_sections ads.now }
 {
     ads.iter().all(|ad: &Ad| ad.init_section.is_some())
 }
 
-/// Whether none of `ads` has an initialisation section.
+/// Whether none of `ads` has an initialisation section (RFC 8216, section 4.3.2.5).
 pub fn are_ads_without_init_sections(ads: &[Ad]) -> bool
     ensures { result ≡ are_ads_without_init_sections ads.now }
 {
