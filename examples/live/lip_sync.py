@@ -9,6 +9,7 @@ from __future__ import annotations
 import array
 import functools
 import http.server
+import os
 import subprocess
 import threading
 from collections.abc import Callable
@@ -66,9 +67,11 @@ def run(*words: str, **more: Any) -> bytes:
 def film(path: str, seconds: float, rate: int, sound: int, is_ad: bool = False) -> None:
     """A film of so many seconds, pictures and samples a second that flashes for two pictures and beeps at each full second."""
     flash = f"color=c=#{DARK[is_ad]:02x}0000:s=160x90:r={rate},drawbox=color=white:t=fill:enable='lt(mod(n,{rate}),2)'"
-    beep = f"aevalsrc=exprs='0.5*sin(2*PI*{TONES[is_ad]}*t)*lt(mod(t,1),0.04)':s={sound}:c=stereo"
-    run("ffmpeg", "-v", "error", "-y", "-f", "lavfi", "-i", flash, "-f", "lavfi", "-i", beep, "-t", str(seconds), "-c:v", "libx264", "-preset", "ultrafast", "-pix_fmt", "yuv420p", *RESTS,
-        "-c:a", "aac", "-b:a", "96k", path)
+    beep = f"aevalsrc=exprs='0.5*sin(2*PI*{TONES[is_ad]}*t)*lt(t,0.04)':s={sound}:c=mono"
+    run("ffmpeg", "-v", "error", "-y", "-f", "lavfi", "-i", beep, "-t", "1", f"{path}.wav")  # (a second of it, again and again: to reckon each sample takes long)
+    run("ffmpeg", "-v", "error", "-y", "-f", "lavfi", "-i", flash, "-stream_loop", "-1", "-i", f"{path}.wav", "-t", str(seconds), "-c:v", "libx264", "-preset", "ultrafast", "-pix_fmt", "yuv420p", *RESTS,
+        "-c:a", "aac", "-b:a", "64k", path)
+    os.remove(f"{path}.wav")
 
 
 def is_of_ad(red: int) -> bool:

@@ -60,11 +60,11 @@ class Found:
 
 
 class Search:
-    """One search for the ads of a break: at the first URL of `outside`, by `client`, until the moment `until` of the monotonic clock. `values` are
-    those of macros. The threads of `pool` follow its wrappers."""
+    """One search for the ads of a break: at the first URL of `outside`, or at the URL `at` to which that led, by `client`, until the moment `until` of the
+    monotonic clock. `values` are those of macros. The threads of `pool` follow its wrappers."""
 
-    def __init__(self, client: Asking, pool: ThreadPoolExecutor, outside: Outside, values: Mapping[str, str], until: float) -> None:
-        self.client, self.pool, self.outside, self.values, self.until = client, pool, outside, values, until
+    def __init__(self, client: Asking, pool: ThreadPoolExecutor, outside: Outside, values: Mapping[str, str], until: float, at: str = "") -> None:
+        self.client, self.pool, self.outside, self.values, self.until, self.at = client, pool, outside, values, until, at or outside.first
         self.lacks: list[Lack] = []
         self.requests, self.lock = 0, threading.Lock()
 
@@ -75,7 +75,9 @@ class Search:
 
     def run(self) -> Found:
         """All that is found within the time."""
-        document = self.document(self.outside.first, f"the ad server at {shown(self.outside.first)}")
+        if self.at != self.outside.first and (why := self.outside.strays(self.at)):
+            return Found(lacks=[Lack("Wrong", f"AdTagURI {shown(self.at)} isn't asked: {why}")])
+        document = self.document(self.at, f"the ad server at {shown(self.at)}")
         if document is None:
             return Found(lacks=self.lacks)
         found = self.resolved(document, 0, True)

@@ -10,6 +10,7 @@ from .words import Fault
 
 # What an EXT-X-KEY says that a decision file has no member for.
 KEY_MEMBERS = {"METHOD", "URI", "IV", "KEYFORMAT"}
+SHORTEST = playlist.SECOND // 10  # nanoseconds of an ad's last segment
 
 
 @dataclass
@@ -118,6 +119,7 @@ def read_ad(program: str, name: str, base: str, body: bytes) -> Advertisement:
         raise Fault(f"{name}: {fault}: {faults.meaning(0, fault)}")
     reader = AdReader(name)
     parts = reader.read(text.decode())
+    check_last(name, [it for part in parts for it in part.segments])
     warnings = []
     if not re.search(rb"^#EXT-X-ENDLIST\r?$", body, re.M):
         warnings.append(f"{name}: its playlist has no EXT-X-ENDLIST: is the ad whole?")
@@ -130,6 +132,15 @@ def read_ad(program: str, name: str, base: str, body: bytes) -> Advertisement:
     if "map" in changes:
         warnings.append(f"{name}: it has several initialisation sections, and is made {len(parts)} ads")
     return Advertisement(name, parts, warnings)
+
+
+def check_last(name: str, segments: list[dict[str, Any]]) -> None:
+    """Raises Fault if the last one of the `segments` of the ad `name` is a rest that is no more than a few pictures, or frames of sound: other renditions have
+    none, and then the numbers come apart."""
+    last = playlist.read_duration(str(segments[-1]["duration"])) if len(segments) > 1 else None
+    if last is not None and last < SHORTEST:
+        raise Fault(f"{name}: its last segment ({len(segments) - 1}) lasts {playlist.seconds_text(last)} s, under a tenth of a second: cut the ad anew so that the one "
+                    "before has it, as adsplice-condition does")
 
 
 def local_base(at: str, path: str) -> str:

@@ -48,18 +48,25 @@ def compare(turn: Turn) -> None:
 
 def newest_of(after: int, lists: Mapping[str, Standing], first: str, alike: list[str]) -> Found | None:
     """The numbers that viewers have of the newest segment of the channel `first` past the media number `after` which all `lists` have: by media
-    numbers in those that are cut `alike`, in the others by the instant at which it begins. None if there is none."""
-    numbers = set.intersection(*({one.number for one in lists[it].repairer.last} & lists[it].viewed.begins.keys() for it in alike))
-    for one in sorted((it for it in lists[first].repairer.last if it.number in numbers and it.number > after), key=lambda it: -it.number):
+    numbers in those that are cut `alike`, as far as these have one clock there; in the others by the instant at which it begins. None if there is none."""
+    for one in sorted((it for it in lists[first].repairer.last if it.number > after), key=lambda it: -it.number):
         found: dict[str, tuple[int | None, int]] = {}
         for channel, it in lists.items():
-            if channel in alike:
-                found[channel] = it.viewed.begins[one.number]
-            elif (there := beginning_at(it, one)) is not None:
-                found[channel] = None, there[1]
+            there = numbered(it, one) if channel in alike else None
+            if (there := there or beginning_at(it, one)) is not None:
+                found[channel] = there[0] if channel in alike else None, there[1]
         if len(found) == len(lists):
             return found
     return None
+
+
+def numbered(stands: Standing, other: PackagedSegment) -> Numbers | None:
+    """The numbers that viewers have of the segment with the media number of the `other` rendition's; none if there is none, or if it begins elsewhere: a
+    rendition that was away counts on from its own last segment."""
+    one = next((it for it in stands.repairer.last if it.number == other.number), None)
+    if one is None or (None not in (one.begins, other.begins) and abs((one.begins or 0) - (other.begins or 0)) > max(one.duration, other.duration)):
+        return None
+    return stands.viewed.begins.get(one.number)
 
 
 def beginning_at(stands: Standing, other: PackagedSegment) -> Numbers | None:

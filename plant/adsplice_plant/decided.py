@@ -11,14 +11,14 @@ from dataclasses import replace
 from adsplice_rules.decisions import decisions_of
 from adsplice_rules.values import Fault
 
-from . import faults, presence
+from . import faults, playlist, presence
 from .decisions import LASTING, MOST_OVER, NO_FALLBACK, OVER, ROOM, said_by, withdrawal
 from .edges import measured
 from .events import Finish, Stamp
 from .packaged import attributes_of, instant_of
 from .playlist import SECOND
 from .pods import decision_of
-from .shapes import fit, shape_of
+from .shapes import fit, misfit, shape_of
 from .siblings import is_alike
 from .state import Decided, File, FileState, Removed, Rendition, Telling, Way
 from .subtitles import without_words
@@ -29,6 +29,7 @@ AGAIN = 0.5  # seconds until decisions are given again for which a controller ha
 MOST_AT_ONCE = 16  # decisions that no listed break needs, given in one turn
 MOST_DECISIONS = 1024  # of the log that are kept for a controller that comes back
 BREAKS, FALLBACK, WITHDRAW = "breaks", "fallback", "withdraw"  # the kinds of decision files
+HEAD, SECTION = 4096, b"#EXT-X-MAP:"  # bytes of a list in which its target duration is looked for; the tag of an initialisation section
 NOTHING = b'{"breaks":[]}'  # a decision file that says nothing
 J9, J10, J11 = "J9", "J10", "J11"  # faults: a break is in use, there is no room, there is nothing to withdraw
 
@@ -235,6 +236,9 @@ def give_file(turn: Turn, name: str, it: File) -> None:
         return
     if unfit := unfit_of(turn, it.bodies):
         refuse(turn, name, it, "Unequal", f"the renditions' files don't have the same breaks, with ads and segments of the same lengths: {unfit}")
+        return
+    if untaken := untaken_of(turn, it.bodies):
+        refuse(turn, name, it, "Unequal", untaken)
         return
     if it.kind == WITHDRAW and (begun := begun_of(turn, it.ids)):
         turn.tell_decision(f"decisions/{name}", 409, "J9 Used", f"{', '.join(begun)} has begun, and keeps its pod")
@@ -479,6 +483,9 @@ def give_fallback(turn: Turn) -> None:
     elif turn.is_ladder() and len(lacking) < len(turn.state.renditions):
         turn.tell("", "fallback", 0, "Missing", f"{', '.join(lacking)} has no fallback file; no rendition has a fallback until all have one")
         wanted = dict.fromkeys(turn.state.renditions, NO_FALLBACK)
+    if untaken := untaken_of(turn, wanted):  # (it may have been given before the lists were known)
+        turn.tell("", "fallback", 0, "Unequal", f"{untaken}; no rendition has a fallback until that is mended")
+        wanted = dict.fromkeys(turn.state.renditions, NO_FALLBACK)
     if not wanted or wanted == turn.state.fallback:
         return
     if unfit := unfit_of(turn, wanted):  # (files are written one by one: the last ones stay meanwhile)
@@ -556,3 +563,15 @@ def unfit_of(turn: Turn, bodies: Mapping[str, bytes]) -> str:
         if not fit(known[0][1], shape, is_alike(known[0][2], pace)):
             return f"{channel}'s aren't as long as those of {known[0][0]}"
     return ""
+
+
+def untaken_of(turn: Turn, bodies: Mapping[str, bytes]) -> str:
+    """Which channels wouldn't be filled by their ones of the decision files `bodies`, though others would, and why; empty if all would, or none."""
+    whys: dict[str, str] = {}
+    for channel, it in turn.renditions() if turn.is_ladder() else ():
+        head, last, came = it.stands.repairer.head, it.stands.repairer.last, it.came or b""
+        target = head.target if head is not None else playlist.read(came[:HEAD]).target
+        if channel in bodies and target is not None:
+            whys[channel] = misfit(bodies[channel], target, last[-1].section is not None if last else SECTION in came)
+    found = {channel: why for channel, why in whys.items() if why}
+    return "; ".join(f"{channel} wouldn't be filled: {why}" for channel, why in found.items()) if len(found) < len(whys) else ""

@@ -37,9 +37,23 @@ def awaited(turn: Turn, it: Rendition) -> Reach | None:
     """How far the rendition has come; none if nobody waits for it, since it has had no new segment for a while, or is about to begin again. One whose
     list a feed that has just begun hasn't read has come as far as its last one."""
     came = it.came if it.came is not None else it.stands.text
-    if not came or turn.at - it.came_at >= PATIENCE * turn.target() or it.older or it.stands.repairer.held_since is not None:
+    if not came or turn.at >= patience_ends(it, turn.target()) or it.older or it.stands.repairer.held_since is not None:
         return None
     return it.reach if it.reach is not None else reach_of(came)
+
+
+def patience_ends(it: Rendition, target: float) -> float:
+    """The moment from which on nobody waits for the rendition if it has no new segment until then, by the `target` duration. If all had none, as
+    of an origin that didn't answer, the first one that has some again waits a target duration for the others."""
+    found = it.came_at + PATIENCE * target
+    return max(found, it.behind_since + target) if it.behind_since > it.came_at else found
+
+
+def note_behind(turn: Turn, channel: str, reach: Reach) -> None:
+    """A list of the `channel` has come as far as `reach`: the others that haven't are behind from now on, unless they are already."""
+    for name, it in turn.renditions():
+        if name != channel and it.reach is not None and it.behind_since <= it.came_at and not it.reach.covers(reach):
+            turn.put(name, behind_since=turn.at)
 
 
 def up_to(body: bytes, edge: Reach) -> bytes:

@@ -80,14 +80,14 @@ def balanced(cuts: dict[int, Place]) -> dict[int, Place]:
     return found
 
 
-def of_vmap(body: bytes, length: int, ready_of: Callable[[str], Ready | str]) -> tuple[list[Place], list[str]]:
-    """The breaks of the VMAP document `body` in a programme of `length` nanoseconds, whose ad servers are asked. `ready_of` answers an ad by its ID,
-    or why there is none. And a sentence for all that is lacking. Raises NoXml."""
+def of_vmap(body: bytes, length: int, ready_of: Callable[[str], Ready | str], place: str = "") -> tuple[list[Place], list[str]]:
+    """The breaks of the VMAP document `body` in a programme of `length` nanoseconds, whose ad servers are asked. If it came from a URL (`place`), they are
+    at public addresses, or at that URL's. `ready_of` answers an ad by its ID, or why there is none. And a sentence for all that is lacking. Raises NoXml."""
     found = vmap.read(body, length)
     places, faults = [], list(found.faults)
     with ThreadPoolExecutor(ad_server.AT_ONCE) as pool:
         for it in found.breaks:
-            search = searching(it, pool)
+            search = searching(it, pool, place)
             got = search.run() if it.document is None else replaced(search.resolved(it.document, 0, True), search)
             pod = filling.fill(got, None, lambda ad: ready_of(ad.id))
             faults += [f"AdBreak {it.id}: {lack.text}" for lack in got.lacks + pod.lacks]
@@ -96,11 +96,11 @@ def of_vmap(body: bytes, length: int, ready_of: Callable[[str], Ready | str]) ->
     return places, faults
 
 
-def searching(it: vmap.AdBreak, pool: ThreadPoolExecutor) -> ad_server.Search:
-    """What looks for the ads of the break `it`, with the threads of `pool`."""
-    outside = Outside(it.tag or "http://vmap.invalid/")
+def searching(it: vmap.AdBreak, pool: ThreadPoolExecutor, place: str) -> ad_server.Search:
+    """What looks for the ads of the break `it`, with the threads of `pool`. `place`: as above."""
+    outside = Outside(place or it.tag or "http://vmap.invalid/")
     position = "3" if it.offset is None else "2" if it.offset else "1"
-    return ad_server.Search(outside.client(ASKED), pool, outside, macros.of_break(None, position), time.monotonic() + ASKED)
+    return ad_server.Search(outside.client(ASKED), pool, outside, macros.of_break(None, position), time.monotonic() + ASKED, it.tag)
 
 
 def replaced(found: Found, search: ad_server.Search) -> Found:

@@ -5,7 +5,7 @@ import sys
 from pathlib import Path
 from typing import Any
 
-from . import judge, playlist, words
+from . import judge, playlist, shapes, words
 from .ads import Advertisement, local_base, read_ad
 from .program import find_program
 from .whole_files import write_aside
@@ -16,6 +16,7 @@ HELP = """Makes a decision file for a break of the playlists of its ads, or judg
   adsplice-pod ID ad1/index.m3u8 ad2/index.m3u8 --at http://ads.example > decisions.json
   adsplice-pod --fallback ad1/index.m3u8 --at http://ads.example > fallback.json
   adsplice-pod --check decisions.json [--verify]
+  adsplice-pod --check news-1080.json news-720.json news-sound.json      those of a ladder's renditions
   adsplice-pod --vmap breaks.xml --list index.m3u8 --base http://origin.example/film/index.m3u8 --ads /var/www/ads --at http://ads.example --to film
   adsplice-pod --breaks 0=CAR0001H 600=CAR0001H,SOAP0001H end=CAR0001H --list index.m3u8 --base .. --ads .. --at .. --to film
   adsplice vod http://origin.example/film/index.m3u8 film/decisions.json < film/index.m3u8 > written.m3u8
@@ -26,6 +27,7 @@ standard error, a line each: a segment over the target duration, a pod that isn'
 have an initialisation section and some haven't, an ad with several keys.
 
 --check prints `right`, or the member that is wrong, in words, by the rules in adsplice_rules. A member that adsplice doesn't know, and so ignores, is told.
+Several files are those of a ladder's renditions: what of one doesn't fit the first one is told, too.
 With --verify each URI of the web that it names is asked for, by HEAD or by its first byte, and one that isn't there is a line.
 
 --vmap (IAB VMAP 1.0) and --breaks put breaks into the list of a programme on demand: before it, within it where a segment begins, and after
@@ -45,7 +47,7 @@ def read_words(arguments: list[str]) -> argparse.Namespace:
     it.add_argument("--at", type=words.web_address, metavar="URL", help="under which the folder is published from which the playlists' paths are")
     it.add_argument("--target", type=int, metavar="SECONDS", help="the channel's EXT-X-TARGETDURATION")
     it.add_argument("--length", type=words.seconds, metavar="SECONDS", help="how long the break lasts")
-    it.add_argument("--check", metavar="FILE", help="judges a decision file (- is standard input)")
+    it.add_argument("--check", nargs="+", metavar="FILE", help="judges a decision file (- is standard input), or those of a ladder's renditions")
     it.add_argument("--verify", action="store_true", help="with --check: asks whether its ads are there")
     it.add_argument("--vmap", metavar="FILE", help="a VMAP document, or its URL")
     it.add_argument("--breaks", nargs="+", metavar="OFFSET=ID,..", help="breaks by their offsets: seconds, HH:MM:SS, start or end")
@@ -66,7 +68,7 @@ def read_words(arguments: list[str]) -> argparse.Namespace:
     if said.verify and said.check is None:
         it.error("--verify goes with --check")
     if said.check is not None and said.names:
-        it.error("--check takes one file and no playlists")
+        it.error("--check takes decision files and no playlists")
     return said
 
 
@@ -133,13 +135,21 @@ def verdict(body: bytes) -> str:
     return "" if wrong is None else f"{wrong.line()} ({wrong.fault})"
 
 
-def check(name: str, is_verified: bool) -> int:
-    """Judges the decision file `name`, and asks whether its ads are there if that is to be verified (`is_verified`); answers the exit status."""
-    body = body_of(name)
-    wrong = verdict(body)
-    absent = absent_of(body) if is_verified and not wrong else []
-    words.write_out("".join(f"{words.plain(f'{name}: {it}')}\n" for it in ([wrong] if wrong else [*judge.strange_members(body), *(absent or ["right"])])))
-    return words.FAULT if wrong or absent else 0
+def check(names: list[str], is_verified: bool) -> int:
+    """Judges the decision files `names`, which are those of a ladder's renditions if there are several, and asks whether their ads are there if that is to
+    be verified (`is_verified`); answers the exit status."""
+    bodies = {name: body_of(name) for name in names}
+    wrong = {name: said for name, body in bodies.items() if (said := verdict(body))}
+    unlike = [] if wrong else shapes.differences(bodies)
+    is_right = not wrong and not unlike
+    lines = list(unlike)
+    for name, body in bodies.items():
+        absent = absent_of(body) if is_verified and name not in wrong else []
+        is_right &= not absent
+        own = [wrong[name]] if name in wrong else [*judge.strange_members(body), *(absent or ([] if unlike else ["right"]))]
+        lines += [f"{name}: {it}" for it in own]
+    words.write_out("".join(f"{words.plain(it)}\n" for it in lines))
+    return 0 if is_right else words.FAULT
 
 
 def absent_of(body: bytes) -> list[str]:
@@ -181,7 +191,7 @@ def put_in(said: argparse.Namespace) -> int:
 
     try:
         places, faults = on_demand.of_words(said.breaks, ready_of) if said.breaks else on_demand.of_vmap(
-            body_of(said.vmap), on_demand.length_of(programme), ready_of)
+            body_of(said.vmap), on_demand.length_of(programme), ready_of, said.vmap if said.vmap.startswith(("http://", "https://")) else "")
     except NoXml as fault:
         raise Fault(f"{said.vmap}: {fault}") from None
     faults += [f"break {it.name}: it has no ads, and is left out" for it in places if not it.ads]

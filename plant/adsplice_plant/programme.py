@@ -10,7 +10,7 @@ from collections.abc import Collection, Mapping
 from dataclasses import dataclass, replace
 
 from . import apart, controllers, decided, joining, packaged, presence, ranges, repairs, slates, spelling
-from .edges import edge_of, up_to
+from .edges import edge_of, note_behind, patience_ends, up_to
 from .breaks import Break, Line, Numbering, shown
 from .events import Action, Answered, Ask, AskedInVain, Began, Event, FallbackRead, FolderRead, Found, ListRead, Looked, OriginChanged, SlateRead, Tell
 from .events import Repaired as RepairTold
@@ -102,6 +102,8 @@ def take_list(turn: Turn, event: ListRead) -> None:
     reach = reach_of(event.body) if len(turn.state.renditions) > 1 else None
     came_at = it.came_at if reach is not None and reach == it.reach else turn.at
     turn.put(event.channel, came=event.body, reach=reach, came_at=came_at, is_new=True, older=older_than(it, event.body))
+    if reach is not None and came_at == turn.at:
+        note_behind(turn, event.channel, reach)
     turn.set(waits_until=0.0)
 
 
@@ -502,9 +504,26 @@ def enter(turn: Turn, translator: Translator, found: dict[str, Taken]) -> None:
         return
     entry = turn.next_entry()
     turn.set(translator=translator)
+    before = entered(turn)
     for channel, it in new.items():
         stand(turn, channel, it, texts[channel], entry)
+    tell_behind(turn, translator, before)
     apart.compare(turn)
+
+
+def entered(turn: Turn) -> frozenset[str]:
+    """The IDs of the breaks that have begun with a pod in a rendition."""
+    return frozenset[str]().union(*(it.stands.pods.entered for _, it in turn.renditions()))
+
+
+def tell_behind(turn: Turn, translator: Translator, before: frozenset[str]) -> None:
+    """Tells which renditions are behind that nobody waits for, if a break begins without them. `before`: the breaks that had begun before this step."""
+    for one in translator.breaks.known:
+        begun = [channel for channel, it in turn.renditions() if one.id in it.stands.pods.entered]
+        late = [channel for channel, it in turn.renditions() if channel not in begun and one.id not in it.stands.pods.missed and turn.at >= patience_ends(it, turn.target())]
+        if begun and late and one.id not in before:
+            turn.tell("", f"breaks/{shown(one.id)}", 0, "Behind", f"{', '.join(late)} has had no new segment for two target durations: it begins in the other renditions, and there once "
+                      "its list goes on", is_again=True)
 
 
 def is_front_alone(turn: Turn, channel: str, it: Taken) -> bool:

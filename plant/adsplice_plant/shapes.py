@@ -4,10 +4,18 @@ Renditions whose segments are as long have ads of as many segments, so that thei
 """
 from __future__ import annotations
 
+import functools
 import json
 from collections.abc import Mapping
 from typing import NamedTuple
 
+from adsplice_rules.decisions import decisions_of
+from adsplice_rules.values import Fault
+
+from .playlist import SECOND
+from .siblings import is_alike
+
+TEXTS = (".vtt", ".webvtt")  # endings of subtitles' files
 Pod = tuple[tuple[float, ...], ...]  # the seconds of the segments of each ad
 
 
@@ -52,3 +60,47 @@ def fit(one: Shape | None, other: Shape | None, is_alike: bool) -> bool:
         return True
     equal = is_as_cut if is_alike else is_as_long
     return one.withdraw == other.withdraw and one.pods.keys() == other.pods.keys() and all(equal(pod, other.pods[name]) for name, pod in one.pods.items())
+
+
+@functools.lru_cache(256)
+def misfit(body: bytes, target: int, has_sections: bool) -> str:
+    """Why a list of the `target` duration, in seconds, wouldn't be filled by the decision file `body`, in words: no segment of it, rounded, is longer, and each ad
+    has an initialisation section if the list's segments have some (`has_sections`), and none else. Empty if it would; what the rules refuse they say."""
+    try:
+        said = decisions_of(body)
+    except Fault:
+        return ""
+    pods = [pod for _, pod in said.breaks or ()] + ([said.fallback] if said.fallback is not None else [])
+    if any((ad.init_section is not None) != has_sections for pod in pods for ad in pod.ads):
+        return f"an ad has {'no' if has_sections else 'an'} initialisation section, and its list has {'one' if has_sections else 'none'}"
+    return "" if all(pod.fits(target, has_sections) for pod in pods) else f"a segment is over its target duration of {target} s"
+
+
+# ---- the files of a ladder's renditions, beside one another
+
+def differences(bodies: Mapping[str, bytes]) -> list[str]:
+    """How those of the decision files `bodies` of a ladder's renditions, by their names, don't fit the first one: a sentence for each. The files are right."""
+    first, *others = ((name, shape_of(body), sections_in(body)) for name, body in bodies.items())
+    found = []
+    for name, shape, sections in others:
+        alike = is_alike(pace_in(first[1]), pace_in(shape))
+        if not fit(first[1], shape, alike):
+            found.append(f"{name}: it hasn't the breaks of {first[0]}, with ads {'and segments ' if alike else ''}as long")
+        elif None not in (sections, first[2]) and sections != first[2]:
+            found.append(f"{name}: its ads have {'' if sections else 'no '}initialisation sections, and those of {first[0]} have {'none' if sections else 'some'}")
+    return found
+
+
+def pace_in(shape: Shape | None) -> int:
+    """How long the longest segment of a `shape` is, in nanoseconds; 0 if there is none."""
+    return round(max((one for pod in shape.pods.values() for ad in pod for one in ad), default=0.0) * SECOND) if shape is not None else 0
+
+
+def sections_in(body: bytes) -> bool | None:
+    """Whether an ad of the decision file `body` has an initialisation section; none if its ads are subtitles, which may have none beside others that have, or if it
+    has no ads."""
+    said = decisions_of(body)
+    ads = [ad for pod in [*(it for _, it in said.breaks or ()), *([said.fallback] if said.fallback is not None else [])] for ad in pod.ads]
+    if all(one.uri.partition("?")[0].endswith(TEXTS) for ad in ads for one in ad.segments):
+        return None
+    return any(ad.init_section is not None for ad in ads)

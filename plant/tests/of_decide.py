@@ -370,6 +370,39 @@ def test_a_question_that_comes_again_asks_the_ad_server_once(room):
     assert asked(decide.port, question("b2", begins, 12.0))[0] == 204 and server.count("GET", "/vast?d=12&c=-1&n=1") == 1  # (the break is longer now)
 
 
+def test_a_feed_that_ends_within_a_question_has_the_ad_server_asked_once(room):
+    """The next feed asks adsplice-decide again, and gets what the ad server gives the first one, also if adsplice-decide is started anew meanwhile."""
+    from of_asking import STYLE, Asking
+    files = films(room, car=2)
+    server = room.server(AdServer({"/vast": vast(ad(files, "car", 2))}))
+    text = settings(room, server, channel="news", ladder=ALONE)
+    decide = Decide(room, text)
+    until(lambda: decide.pod("b0", channel="news", renditions=(), start=None) == [("car", 1)], 60, "the ad")
+    for number, is_killed in enumerate((False, True)):
+        server.slow["/vast"], count = 0.6, len(server.asked)
+        os.makedirs(f"{room.path}/{number}")
+        folder = type("Folder", (), {"path": f"{room.path}/{number}", "server": room.server})
+        it = Asking(folder, f"http://127.0.0.1:{decide.port}/decide", hold=0.9, timeout=20.0, keep=Path(folder.path) / "kept")
+        it.give(11)
+        it.read(STYLE.listed(12), "news")
+        until(lambda: len(server.asked) == count + 1, 10, "the request")
+        it.close()
+        if is_killed:
+            until(lambda: list(Path(f"{room.path}/keep/given/news").glob("*.json")), 10, "that it is kept")
+            decide.process.kill()
+            decide.process.wait()
+            decide = Decide(room, text, port=decide.port)
+        again = Asking(folder, f"http://127.0.0.1:{decide.port}/decide", hold=0.9, keep=Path(folder.path) / "kept")
+        again.give(12)
+        until(lambda: os.path.exists(f"{folder.path}/1001.json"), 10, "the answer")
+        assert len(server.asked) == count + 1, [one[1] for one in server.asked[count:]]
+        assert [line.partition(": ")[0] for line in again.lines()] == ["news ask/1001 - Again", "news ask/1001 200 -"], again.lines()
+        again.close()
+        shutil.rmtree(f"{room.path}/keep/given")
+        decide.end(signal.SIGTERM)
+        decide = Decide(room, text)
+
+
 def test_a_question_that_comes_again_gets_what_was_made_meanwhile(room):
     files = films(room, car=2)
     server = room.server(AdServer({"/vast": vast(ad(files, "car", 2))}))

@@ -249,6 +249,18 @@ def test_ladder_fallback_that_one_refuses_is_none_in_all(room):
     until(lambda: [asked(controller, it, "decisions")[-1] for it in NAMES] == ['{"fallback":null}'] * 3, 10, "that none has one")
 
 
+def test_ladder_fallback_that_one_list_does_not_take_is_none_in_all(room):
+    controller, mapped = room.server(RulesController()), FALLBACK.replace('{"segments"', '{"map": {"uri": "http://ads.example/init.mp4"}, "segments"')
+    for name in NAMES:
+        room.write(f"f-{name}.json", mapped if name == "2" else FALLBACK)
+    ladder = Ladder(room, controller.url, listed(0, 5, [("b1", 14, 4)]), "--fallback", f"{room.path}/f-{{}}.json")
+    ladder.taken()
+    ladder.feed.sees("news fallback - Unequal: news-2 wouldn't be filled: an ad has an initialisation section, and its list has none; no rendition has a fallback until that is mended")
+    assert [controller.edge.channels[f"news-{it}"].store.fallback for it in NAMES] == [None] * 3
+    room.write("f-2.json", FALLBACK)
+    until(lambda: all(controller.edge.channels[f"news-{it}"].store.fallback is not None for it in NAMES), 10, "the mended fallback")
+
+
 def test_ladder_one_that_is_gone_is_made_anew_by_itself(room):
     controller = room.server(FakeController())
     ladder = Ladder(room, controller.url, listed(0, 5, [("b1", 14, 4)]))

@@ -289,6 +289,26 @@ def master_of(*names):
     return "#EXTM3U\n" + "".join(f"#EXT-X-STREAM-INF:BANDWIDTH={place + 1}\n{name}/index.m3u8\n" for place, name in enumerate(names))
 
 
+def test_a_master_playlist_that_changes_each_time_changes_little(room):
+    """What is fed goes on: others are fed once they stay, and once a minute at most. Names, lines and the file are bounded."""
+    from adsplice_plant import masters
+    from adsplice_plant.settings import ladder_of
+    from adsplice_plant.web import Client
+    for lasts, most in ((1, 0), (2, 0), (4, 10)):  # looks for which it stays as it is
+        begun, changes, lines = [], [], []
+        feeds = masters.Feeds(begun.append, changes.append, lambda *_: None)
+        it = masters.Programme(ladder_of("film", {"origin": BASE, "at": "http://127.0.0.1:1", "master": f"{room.path}/viewers.m3u8"})[0], Client(1), lines.append, feeds)
+        it.take(masters.read(master_of("hd", "sd").encode(), BASE), 0.0)
+        for look in range(200):
+            number = look // lasts
+            it.take(masters.read(master_of("hd", f"r{number}", *(f"s{number}-{n}" for n in range(number % 60))).encode(), BASE), 3.0 * (look + 1))
+        assert len(begun) == 1 and len(changes) <= most and (most == 0 or changes) and "film-1" in it.fed, (lasts, len(changes))
+        assert len(it.names) <= 256 and max(map(len, lines)) < 1000, (len(it.names), max(map(len, lines)))
+
+
+test_a_master_playlist_that_changes_each_time_changes_little.needs = ("httpx",)
+
+
 def test_renditions_come_and_go_without_a_new_start(room):
     controller = room.server(FakeController())
     for name in ("hd", "sd", "low"):

@@ -6,7 +6,7 @@ from pathlib import Path
 
 from of_vast import AdServer
 from tools import PLANT, PYTHON
-from vast_documents import ad_break, data, inline, tag, vast, vmap
+from vast_documents import ad_break, data, inline, tag, vast, vmap, wrapper
 
 sys.path.insert(0, PLANT)
 from adsplice_plant import making  # noqa: E402
@@ -77,6 +77,18 @@ def test_breaks_by_a_vmap_document(room):
     assert server.asked[0][1] == "/vast?p=3" and shown(room)[0] == OWED
     assert json.loads(Path(f"{room.path}/film/decisions.json").read_text())["breaks"][0]["ads"][0]["id"] == "car"
     assert put_in(room, programme(), "--vmap", f"{room.path}/breaks.xml", "--strict", ads=ads)[0] == 1
+
+
+def test_a_vmap_from_outside_leads_to_no_address_of_this_machine(room):
+    """Its AdTagURI and the wrappers in it; those of a file a person wrote."""
+    from adsplice_plant import on_demand
+    asked = room.server(AdServer({"/vast": vast(inline("soap", 4))}))
+    for at in (asked.url, asked.url.replace("127.0.0.1", "localhost"), "http://[::1]:1", "http://10.1.2.3"):
+        for source in (tag(f"{at}/vast"), data(wrapper(f"{at}/vast", "w"))):
+            places, faults = on_demand.of_vmap(vmap(ad_break("start", "pre", source)).encode(), 60 * SECOND, lambda name: f"{name} isn't made", "http://vmap.example/breaks.xml")
+            assert not asked.asked and not places[0].ads and len(faults) == 1 and "isn't asked: " in faults[0] and faults[0].startswith("AdBreak pre: "), (at, faults)
+    places, faults = on_demand.of_vmap(vmap(ad_break("start", "pre", tag(f"{asked.url}/vast"))).encode(), 60 * SECOND, lambda name: f"{name} isn't made", f"{asked.url}/breaks.xml")
+    assert len(asked.asked) == 1 and "soap isn't made" in faults[0], faults
 
 
 def test_a_break_within_a_segment_is_put_where_one_begins_and_told(room):

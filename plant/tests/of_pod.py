@@ -125,6 +125,40 @@ def test_warnings(room):
     assert pod(room, "b1", "plain.m3u8", "--at", "http://h", "--strict")[:2] == (1, "")
 
 
+def test_a_rest_at_an_ads_end_is_refused_by_name(room):
+    """ffmpeg cuts the sound of an ad of 10 s into five pieces, and a sixth one of a frame."""
+    for last, is_taken in (("0.021333", False), ("0.099999", False), ("0.1", True)):
+        room.write("index.m3u8", AD.replace("5.5", last))
+        status, out, err = pod(room, "b1", "index.m3u8", "--at", "http://h")
+        if is_taken:
+            assert (status, err) == (0, ""), (last, err)
+        else:
+            assert (status, out, err.count("\n")) == (1, "", 1) and f"index.m3u8: its last segment (1) lasts {last} s, under a tenth of a second" in err, (last, err)
+    room.write("index.m3u8", AD.replace("#EXTINF:6,\na0.ts\n", "").replace("5.5", "0.04"))
+    assert pod(room, "b1", "index.m3u8", "--at", "http://h")[0] == 0  # (an ad of one piece has no rest)
+
+
+def test_the_files_of_a_ladder_are_held_against_one_another(room):
+    def said(pieces, ending="ts", count=1, **more):
+        ads = [{"segments": [{"uri": f"http://a/{n}.{ending}", "duration": it} for n, it in enumerate(pieces)]} | more] * count
+        return json.dumps({"breaks": [{"id": "b1", "ads": ads}]})
+
+    mapped = {"map": {"uri": "http://a/init.mp4"}}
+    for one, other, owed in ((said(["2"] * 5), said(["2"] * 5), ""), (said(["2"] * 5), said(["2.02", "1.98", "2", "2", "2"]), ""), (said(["2"] * 6), said(["4"] * 3), ""),
+                             (said(["2"] * 5), said(["2"] * 4), "b.json: it hasn't the breaks of {}a.json, with ads and segments as long"), (said(["2"] * 5), said(["2"] * 5 + ["0.0213"]), "with ads and segments as long"),
+                             (said(["2"] * 6), said(["4"] * 5), "b.json: it hasn't the breaks of {}a.json, with ads as long"), (said(["2"] * 5), said(["2"] * 5, count=2), "it hasn't the breaks of"),
+                             (said(["2"] * 5), said(["2"] * 5).replace("b1", "b2"), "it hasn't the breaks of"), (said(["2"] * 5, "m4s", **mapped), said(["2"] * 5), "b.json: its ads have no initialisation sections, and those of {}a.json have some"),
+                             (said(["2"] * 5), said(["2"] * 5, "m4s", **mapped), "b.json: its ads have initialisation sections, and those of {}a.json have none"), (said(["2"] * 5, "m4s", **mapped), said(["2"] * 5, "vtt"), ""),
+                             (said(["2"] * 5), '{"breaks":[{"id":"b1"}]}', "b.json: break 0: `ads` is missing")):
+        files = [room.write(name, text) for name, text in (("a.json", one), ("b.json", other))]
+        status, out, err = room.run("adsplice-pod", "--check", *files)
+        where = f"{room.path}/"
+        assert err == "" and (out == "".join(f"{it}: right\n" for it in files)) == (owed == "") == (status == 0) and owed.replace("{}", where) in out, (one, other, out, err)
+
+
+test_the_files_of_a_ladder_are_held_against_one_another.needs = ()
+
+
 def test_faults_are_one_line(room):
     room.write("index.m3u8", AD)
     room.write("bad.m3u8", AD.replace("#EXTINF:6,\n", ""))
@@ -134,5 +168,5 @@ def test_faults_are_one_line(room):
                         (["b1", "formats.m3u8", "--at", "http://h"], "is under keys of 2 formats"), (["--check", "no.json"], "no.json: No such file")):
         status, out, err = pod(room, *words)
         assert (status, out, err.count("\n")) == (1, "", 1) and text in err, (words, status, err)
-    assert pod(room, "b1")[0] == 2 and pod(room, "--check", "a", "b", "c")[0] == 2
+    assert pod(room, "b1")[0] == 2 and pod(room, "a", "--check", "b", "c")[0] == 2
     assert "isn't a program" in room.run("adsplice-pod", "b1", f"{room.path}/index.m3u8", "--at", "http://h", "--program", "/nowhere")[2]

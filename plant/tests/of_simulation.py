@@ -15,9 +15,9 @@ from adsplice_rules.edge import Edge, Request  # noqa: E402
 from simulation.controller import Controller  # noqa: E402
 from simulation.named import ALONE, CALM, LONG, NAMED, UNDECIDED, of  # noqa: E402
 from simulation.packager import BASE, Packager  # noqa: E402
-from simulation.plan import Fault, draw  # noqa: E402
+from simulation.plan import ALL, Fault, draw  # noqa: E402
 from simulation.viewers import Ads, Viewers  # noqa: E402
-from simulation.world import World  # noqa: E402
+from simulation.world import RulesController, World  # noqa: E402
 
 NEEDS = ()
 DRAWN = range(1, 25)  # seeds of days
@@ -140,12 +140,48 @@ def test_a_break_is_filled_in_the_renditions_that_have_not_passed_it(room):
     assert none[:2] == ({"v": "b1 b2", "a": "b1 b2", "w": "b1 b2"}, []) and others[:2] == ({"v": "b0 b1 b2", "a": "b1 b2", "w": "b1 b2"}, []), (none, others)
 
 
+def test_a_break_is_filled_though_the_origin_did_not_answer_before_it(room):
+    """The picture alone signals. Whichever list is read first then waits for the others', though these are as old."""
+    for seed in range(4):
+        for seconds in (5.0, 9.0):
+            found = shown(of(Fault(28.0, "unread", ALL, seconds), plan=replace(THREE, seed=seed, speakers=("v",), kinds=False)))
+            assert found == ({"v": "b0 b1 b2", "a": "b0 b1 b2", "w": "b0 b1 b2"}, [], []), (seed, seconds, found)
+
+
+def test_a_rendition_that_is_behind_at_a_breaks_begin_is_named(room):
+    """It has the break, too, once its list goes on."""
+    world = simulated.play(of(Fault(29.0, "stands still", "a", 9.0), plan=replace(CALM, names=("v", "a"))), True)
+    told = [line.partition(" tells ")[2] for line in world.log if " Behind: " in line]
+    assert not world.found and len(told) == 1 and told[0].startswith("p breaks/b0 - Behind: p-a has had no new segment for two target durations: it begins in the other renditions"), (world.found, told)
+    assert {name: [pod.name for pod in it.pods] for name, it in world.viewers.items()} == dict.fromkeys("va", ["b0", "b1", "b2"]), world.viewers["a"].pods
+    assert not any(" Behind: " in line for line in simulated.play(CALM, True).log)
+
+
 def test_a_rendition_that_lost_the_begin_of_a_break_is_named(room):
     """Sound lost its first segment of the break. The others had begun by then: nobody waits for two target durations."""
     lost = of(Fault(29.5, "loses segments", "a", 2.0), plan=replace(THREE, style="ranges", asks=False))
     for fill in ("all", "others"):
         pods, _, passed = shown(replace(lost, fill=fill))
         assert pods == {"v": "b0 b1 b2", "a": "b1 b2", "w": "b0 b1 b2"} and passed == ["p-a has no segment near its start: begins in the other renditions alone"], (fill, pods, passed)
+
+
+def test_a_decision_that_one_list_does_not_take_is_given_to_none(room):
+    """Its ads have initialisation sections in one rendition, and the lists have none; or segments over the target duration."""
+    for number, plan in ((4, CALM), (5, replace(LONG, breaks=LONG.breaks))):
+        plan = of(Fault(0.1, "decision wrong", ALL, 0.0, number), plan=plan)
+        world = World(plan, RulesController, True)
+        found = world.run()
+        assert not found and (world.tally["filled"], world.tally["own pods"]) == (3, 2), (number, found, world.tally)
+        assert any("decisions/b0.json - Unequal: " in line and "wouldn't be filled" in line for line in world.log), [line for line in world.log if "decisions/" in line]
+
+
+def test_discontinuity_numbers_come_together_after_sound_was_away(room):
+    """No other rendition has segments for it, so it counts media numbers on from its own last one. They are compared at equal instants (RFC 8216, 6.2.4)."""
+    for at, away in ((26.0, 22.0), (60.0, 9.0), (20.0, 40.0)):
+        world = simulated.play(of(Fault(at, "begins again", "a", away), plan=replace(THREE, style="ranges", asks=False)), True)
+        known = [it.numbers() for it in world.viewers.values()]
+        newest = max(set.intersection(*map(set, known)))
+        assert len({it[newest][1] for it in known}) == 1 and any("ladder - Apart: " in line for line in world.log), (at, away, [it[newest] for it in known])
 
 
 def test_breaks_are_filled_beside_pictures_in_longer_segments(room):

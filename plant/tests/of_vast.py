@@ -7,7 +7,7 @@ from concurrent.futures import ThreadPoolExecutor
 from datetime import datetime, timezone
 
 from tools import PLANT, FakeServer
-from vast_documents import EVENTS, ad_break, data, inline, tag, vast, vmap, wrapper
+from vast_documents import EVENTS, ad_break, data, inline, tag, vast, vmap, whole, wrapper
 
 sys.path.insert(0, PLANT)
 from adsplice_plant import bounded_xml, macros  # noqa: E402
@@ -42,6 +42,19 @@ def test_an_inline_ad_of_each_version(room):
         assert ad.tracked.impressions == ("http://track.example/impression?ad=CAR0001H",), ad.tracked
         assert ad.tracked.errors == ("http://track.example/error?ad=CAR0001H&code=[ERRORCODE]",), ad.tracked
         assert ad.tracked.events == tuple((it, f"http://track.example/{it}?ad=CAR0001H") for it in EVENTS), ad.tracked
+
+
+def test_what_stands_around_a_linear_creative_is_passed_over(room):
+    """Companions, overlays, icons, verifications, captions: none of their URLs is an ad's, or is called for it."""
+    for version in ("2.0", "3.0", "4.0", "4.1", "4.2"):
+        found = documents.read(vast(whole(version), wrapper("http://w.example/v", "20002", more=' followAdditionalWrappers="0" allowMultipleAds="1" fallbackOnNoAd="0"' if version > "3" else ""), version=version).encode())
+        assert not found.faults and len(found.ads) == 2, (version, found)
+        ad, other = found.ads
+        assert (ad.id, ad.sequence, ad.length) == ("CAR0001H" if version > "4" or version == "4.0" else "601364", None, 16 * SECOND), (version, ad)
+        assert [it.url.rpartition("/")[2] for it in ad.files] == (["mezzanine.mp4"] if version > "4.0" else []) + ["720.mp4", "480.mp4"], (version, ad.files)
+        assert ad.tracked == documents.Tracked(("http://track.example/impression", "http://track.example/impression2"), ("http://track.example/error/[ERRORCODE]",),
+                                               tuple((it, f"http://track.example/{it}?ad=CAR0001H") for it in EVENTS)), ad.tracked
+        assert (other.tag, other.follows, other.several, other.falls_back) == ("http://w.example/v", *((False, True, False) if version > "3" else (True, False, True))), other
 
 
 def test_the_mezzanine_comes_first(room):

@@ -26,7 +26,7 @@ LIMIT = 5.0  # seconds after which a request is given up
 LATENCY = 0.012  # seconds to a controller and back
 QUIET = 60.0  # seconds after a day in which renditions whose numbers are apart at its end may come together
 MOST_OFTEN = 0.25  # seconds between two looks at an origin, at the least
-REFUSING = ("J3", "J4", "J1", "apart")  # how a wrong decision is wrong
+REFUSING = ("J3", "J4", "J1", "apart", "initialisation sections", "over the target")  # how a wrong decision is wrong; the last two are by hand
 
 
 class RulesController:
@@ -438,7 +438,11 @@ class World:
                     lengths.append(min(each, left))
                     left -= lengths[-1]
             ads.append(lengths)
+        if wrong == 5 and rendition == self.plan.names[0]:
+            ads = [[sum(ad[place:place + 2]) for place in range(0, len(ad), 2)] for ad in ads]
         said = json.dumps({"breaks": [{"id": id_, "ads": self.ads_of(rendition, name, str(version), ads)}]}).encode()
+        if wrong == 4 and rendition == self.plan.names[-1]:
+            said = said.replace(b'{"segments"', b'{"map": {"uri": "http://ads.example/init.mp4"}, "segments"')
         is_wrong = wrong in (0, 1, 2) and (wrong != 1 or rendition == self.plan.names[-1])
         return {0: said.replace(b"http://", b"ftp://"), 1: said.replace(b'"duration": "', b'"duration": "x'), 2: said[:-3]}[wrong] if is_wrong else said
 
