@@ -376,8 +376,6 @@ class Breaks:
         half, begins = line.half(one.start), line.begins[low:fresh]
         if not begins or one.start < begins[0] - half or any(abs(it - one.start) <= half for it in begins) or start < line.begins[-1] - half:
             return False
-        if line.nearest(start) is None and line.nearest(one.start) is not None:
-            return False  # (it begins here by the clock of before)
         found, by = line.nearest(start), line.aligned(start) - one.start
         one.is_settled = found is not None or not line.aligns
         one.number = found.number if found else one.number

@@ -296,6 +296,7 @@ def crowded():
     translator.breaks = copy.copy(one.translator.breaks)
     breaks = translator.breaks
     breaks.known, breaks.cancelled, breaks.is_first, breaks.clock = [Break("b1", 6, 7, "a splice", 52, 9, "upid", 3, 9, False, True, True, 8, ",X=1", True, 6, 4, 1, 2)], {"b3"}, False, 106
+    breaks.set_at = 105
     return dataclasses.replace(one, renditions=renditions, translator=translator, entry=9, life="one")
 
 
