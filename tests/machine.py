@@ -17,6 +17,37 @@ ORIGIN, ADS = "origin.example", "ads.example"
 HOME = "/root/adsplice"  # where the repository is
 SECONDS = 60.0  # until a machine has to be up
 LEFT = ("/opt/adsplice", "/etc/adsplice", "/var/lib/adsplice", "/usr/lib/adsplice", "/var/www/ch", "/usr/sbin/policy-rc.d")  # of an installation on this machine, and of an image
+SERVE_ORIGIN = "(setsid python3 /usr/local/bin/origin >/dev/null 2>&1 &); sleep 1"  # serves a packager's playlist at http://ORIGIN/ch/index.m3u8
+ORIGIN_SERVER = '''
+import time
+from datetime import datetime, timezone
+from http.server import BaseHTTPRequestHandler, ThreadingHTTPServer
+
+def stamp(seconds):
+    return datetime.fromtimestamp(seconds, timezone.utc).strftime("%Y-%m-%dT%H:%M:%S.000Z")
+
+def playlist(now):
+    """30 segments of 2 s that end now, by the clock; a break of 10 s begins every 30 s."""
+    last = int(now) // 2
+    lines = ["#EXTM3U", "#EXT-X-VERSION:3", "#EXT-X-TARGETDURATION:2", f"#EXT-X-MEDIA-SEQUENCE:{last - 30}"]
+    for number in range(last - 30, last):
+        lines += ["#EXT-X-CUE-OUT:10"] * (number % 15 == 0) + ["#EXT-X-CUE-IN"] * (number % 15 == 5)
+        lines += [f"#EXT-X-PROGRAM-DATE-TIME:{stamp(2 * number)}", "#EXTINF:2.0,", f"s{number}.ts"]
+    return "\\n".join(lines) + "\\n"
+
+class Handler(BaseHTTPRequestHandler):
+    def do_GET(self):
+        body = playlist(time.time()).encode() if self.path == "/ch/index.m3u8" else b"x"
+        self.send_response(200)
+        self.send_header("Content-Length", str(len(body)))
+        self.end_headers()
+        self.wfile.write(body)
+    do_HEAD = do_GET
+    def log_message(self, *_):
+        pass
+
+ThreadingHTTPServer(("127.0.0.1", 80), Handler).serve_forever()
+'''
 BOOT = r"""
 set -eu
 room=$1 repository=$2
@@ -93,6 +124,7 @@ class Machine:
         """Puts the program where tests/build finds it, and has nginx run as it does after its installation."""
         with open(self.program, "rb") as it:
             self.write(f"{HOME}/out/adsplice", it.read(), 0o755)
+        self.write("/usr/local/bin/origin", ORIGIN_SERVER.encode())
         if self.is_unproved:
             self.write("/etc/systemd/system/adsplice@.service.d/memory.conf", b"[Service]\nLimitAS=infinity\nMemoryMax=infinity\n")
         self.run("systemctl start dbus; rm -f /etc/nginx/sites-enabled/*; systemctl start nginx")

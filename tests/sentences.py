@@ -12,7 +12,7 @@ from collections.abc import Iterator
 
 LIMIT, OPERATORS_LIMIT = 30, 25  # words of a sentence
 OPERATING = tuple(f"docs/operating/{it}.md" for it in ("README", "ads", "capacity", "channel", "faults", "install", "ladder", "machines", "monitoring", "security", "trials", "upgrade"))
-OPERATORS = ("README.md", *OPERATING, "docs/SIGNALS.md", "docs/PACKAGERS.md")  # pages that an operator reads
+OPERATORS = ("README.md", "docs/first_hour.md", *OPERATING, "docs/SIGNALS.md", "docs/PACKAGERS.md")  # pages that an operator reads
 NOT_YET = ("docs/ADS.md", "docs/DECISION_FILES.md", "docs/REPLICAS.md")  # pages of an operator whose sentences are still longer, or have such words
 PAGES = ("CHANGELOG.md", "CONTRIBUTING.md", "bench/HISTORY.md", "bench/README.md", "crates/README.md", "docs/ARCHITECTURE.md", "docs/CONFORMANCE.md", "docs/DECISIONS.md", "docs/LIBRARY.md",
          "docs/PERFORMANCE.md", "docs/PROOF.md", "docs/TESTING.md", "plant/README.md", *OPERATORS, *NOT_YET)

@@ -24,13 +24,13 @@ HELP = """Says why a channel's breaks are filled or empty, each with its numbers
   adsplice-explain --kept news.events --break b17 --at 2026-11-27T20:15:00Z   (as b17 was listed then, or last before)
 
 Each break is explained by the rules in adsplice_rules, from what the channel was given. What adsplice answered is compared
-with them: for files a process of it is started, given the same, and ended; a journal has its answers. A difference is told
+with them: for files a process of it is started, given the same, and ended; a journal has its answers. A difference is printed
 first. A file that begins with #EXTM3U is a playlist and one that begins with { is a decision file; others are taken by their
 names (*.json, and else a playlist).
 
 Prints a line for each refused file, for each break, and for what adsplice takes without a word and what may be a mistake.
 Exit status: 0 if each break is filled and nothing was refused; 3 if one is empty or something was refused; 1 a fault;
-2 wrong words."""
+2 invalid arguments."""
 EMPTY = 3
 BASE = "http://origin.example/index.m3u8"
 HOUR = timedelta(hours=1)

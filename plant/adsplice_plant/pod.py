@@ -21,43 +21,46 @@ HELP = """Makes a decision file for a break of the playlists of its ads, or judg
   adsplice-pod --breaks 0=CAR0001H 600=CAR0001H,SOAP0001H end=CAR0001H --list index.m3u8 --base .. --ads .. --at .. --to film
   adsplice vod http://origin.example/film/index.m3u8 film/decisions.json < film/index.m3u8 > written.m3u8
 
-The playlists are read by adsplice itself: byte ranges, keys and initialisation sections as RFC 8216 has them. A file's URL is
+adsplice itself reads the playlists: byte ranges, keys and initialisation sections as RFC 8216 has them. A file's URL is
 the one of --at with the file's path behind it; an ad may also be named by its URL, and is then fetched. Warnings go to
 standard error, a line each: a segment over the target duration, a pod that isn't as long as its break, ads of which some
 have an initialisation section and some haven't, an ad with several keys.
 
---check prints `right`, or the member that is wrong, in words, by the rules in adsplice_rules. A member that adsplice doesn't know, and so ignores, is told.
-Several files are those of a ladder's renditions: what of one doesn't fit the first one is told, too.
-With --verify each URI of the web that it names is asked for, by HEAD or by its first byte, and one that isn't there is a line.
+--check prints `right`, or the member that is wrong, in words, by the rules in adsplice_rules. It also names a member that adsplice doesn't know, and so ignores.
+Several files are those of a ladder's renditions: it prints what of one doesn't fit the first one.
+With --verify it requests each URI that the file names, by HEAD or by its first byte, and prints a line for one that doesn't exist.
 
 --vmap (IAB VMAP 1.0) and --breaks put breaks into the list of a programme on demand: before it, within it where a segment begins, and after
 it. No segment goes. The ads are those that adsplice-condition made in folders of --ads, by their IDs. DIR gets the list with signals, and the
-decision file, for `adsplice vod`. An ad or a break that can't be put in is told in a line each, and left out.
+decision file, for `adsplice vod`. It leaves out an ad or a break that can't be put in, and prints a line for it.
 
-Exit status: 0 done (or right); 1 a fault, or a wrong file; 2 wrong words; with --strict also 1 after a warning."""
+Exit status: 0 done (or right); 1 a fault, or a wrong file; 2 invalid arguments; with --strict also 1 after a warning."""
 MOST_VERIFIED, VERIFIED = 5000, 30.0  # URIs that are asked for, and seconds for all of them
 NEAR = playlist.SECOND // 10  # how far a pod's length may be from its break's
 
 
 def read_words(arguments: list[str]) -> argparse.Namespace:
-    """What the words `arguments` say."""
+    """What the `arguments` say; ends the program if they are invalid."""
     it = words.parser("adsplice-pod", HELP)
     it.add_argument("names", nargs="*", metavar="ID PLAYLIST", help="the break's ID, and the playlists of its ads in their order")
-    it.add_argument("--fallback", action="store_true", help="makes a fallback: no ID")
-    it.add_argument("--at", type=words.web_address, metavar="URL", help="under which the folder is published from which the playlists' paths are")
-    it.add_argument("--target", type=int, metavar="SECONDS", help="the channel's EXT-X-TARGETDURATION")
-    it.add_argument("--length", type=words.seconds, metavar="SECONDS", help="how long the break lasts")
-    it.add_argument("--check", nargs="+", metavar="FILE", help="judges a decision file (- is standard input), or those of a ladder's renditions")
-    it.add_argument("--verify", action="store_true", help="with --check: asks whether its ads are there")
-    it.add_argument("--vmap", metavar="FILE", help="a VMAP document, or its URL")
-    it.add_argument("--breaks", nargs="+", metavar="OFFSET=ID,..", help="breaks by their offsets: seconds, HH:MM:SS, start or end")
-    it.add_argument("--list", metavar="FILE", help="the list of the programme, or its URL")
-    it.add_argument("--base", type=words.web_address, metavar="URL", help="under which the list is published")
-    it.add_argument("--ads", type=Path, metavar="DIR", help="of ads that adsplice-condition made, which is published at --at")
-    it.add_argument("--rendition", default="main", metavar="NAME", help="of the ads' renditions (main)")
-    it.add_argument("--to", type=Path, metavar="DIR", help="for the list with signals and the decision file")
+    it.add_argument("--at", type=words.web_address, metavar="URL", help="where the folder of the playlists, or of --ads, is published")
     it.add_argument("--strict", action="store_true", help="a warning is a fault")
     it.add_argument("--program", metavar="PATH", help="the built adsplice, if it isn't beside this program, on the path or in /opt/adsplice")
+    made = it.add_argument_group("a decision file")
+    made.add_argument("--fallback", action="store_true", help="make a fallback: no ID")
+    made.add_argument("--target", type=int, metavar="SECONDS", help="the channel's EXT-X-TARGETDURATION, for warnings")
+    made.add_argument("--length", type=words.seconds, metavar="SECONDS", help="the break's length, for warnings")
+    checked = it.add_argument_group("check a decision file")
+    checked.add_argument("--check", nargs="+", metavar="FILE", help="the decision file (- is standard input), or those of a ladder's renditions")
+    checked.add_argument("--verify", action="store_true", help="also check that its ads exist")
+    film = it.add_argument_group("a programme on demand")
+    film.add_argument("--vmap", metavar="FILE", help="a VMAP document, or its URL")
+    film.add_argument("--breaks", nargs="+", metavar="OFFSET=ID,..", help="breaks by their offsets: seconds, HH:MM:SS, start or end")
+    film.add_argument("--list", metavar="FILE", help="the programme's playlist, or its URL")
+    film.add_argument("--base", type=words.web_address, metavar="URL", help="where the playlist is published")
+    film.add_argument("--ads", type=Path, metavar="DIR", help="the folder of ads that adsplice-condition made")
+    film.add_argument("--rendition", default="main", metavar="NAME", help="the ads' rendition (main)")
+    film.add_argument("--to", type=Path, metavar="DIR", help="for the playlist with signals and the decision file")
     said = it.parse_args(arguments)
     if said.vmap or said.breaks:
         if said.vmap and said.breaks or said.names or not (said.list and said.base and said.ads and said.at and said.to):

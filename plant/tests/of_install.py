@@ -1,6 +1,7 @@
 """Tests of ./install, with a built program: what it copies, and what a package of it holds."""
 import hashlib
 import os
+import re
 import shutil
 import subprocess
 
@@ -63,6 +64,11 @@ def test_package(room):
                  "./usr/share/doc/adsplice/DECISION_FILES.md", "./usr/share/doc/adsplice/operating/faults.md", "./usr/lib/adsplice/adsplice_plant/programme.py", "./usr/lib/adsplice/adsplice_rules/channel.py"):
         assert name in listed, name
     subprocess.run(["dpkg-deb", "-x", path.rstrip(), f"{room.path}/out"], check=True)
+    pages = f"{room.path}/out/usr/share/doc/adsplice/operating"
+    for page in os.listdir(pages):  # (what these pages name beside themselves is there; README and CHANGELOG of the repository are elsewhere)
+        with open(f"{pages}/{page}", encoding="utf-8") as it:
+            away = [link for link in re.findall(r"\]\(([^)#:]+)", it.read()) if not link.startswith("../../") and not os.path.exists(f"{pages}/{link}")]
+        assert not away, (page, away)
     with open(f"{room.path}/out/lib/systemd/system/adsplice@.service", encoding="utf-8") as it:
         assert "ExecStart=/usr/lib/adsplice/adsplice live %i" in it.read()
     with open(f"{room.path}/out/lib/systemd/system/adsplice-monitor.service", encoding="utf-8") as it:
