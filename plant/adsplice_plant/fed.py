@@ -122,7 +122,7 @@ class Fed:
         """All that is known of it is an event again; nobody waits for the answers to what was sent."""
         self.sending.forget()
         self.reading.again()
-        for it in (self.folder if self.shared is None else None, self.fallback, self.slate):
+        for it in (self.folder if self.shared is None else self.shared, self.fallback, self.slate):
             if it is not None:
                 it.forget()
 
