@@ -393,14 +393,13 @@ def test_an_etcd_under_tls(room):
     key, certificate = f"{room.path}/key.pem", f"{room.path}/certificate.pem"
     subprocess.run(["openssl", "req", "-x509", "-newkey", "rsa:2048", "-nodes", "-keyout", key, "-out", certificate, "-days", "2", "-subj", "/CN=etcd", "-addext", "subjectAltName=IP:127.0.0.1"],
                    check=True, capture_output=True)
-    etcds = None
     try:
         os.environ["SSL_CERT_FILE"] = certificate
         etcds = Etcds(room, 1, "--cert-file", certificate, "--key-file", key, scheme="https")
         group = Group(room, etcds.text(), 2)
-        group.settled()
+        group.settled(seconds=60)
         group.step(3)
-        group.settled()
+        group.settled(seconds=60)
     finally:
         del os.environ["SSL_CERT_FILE"]
     group.kill(0)
