@@ -3,6 +3,7 @@ import json
 import os
 import subprocess
 import sys
+import threading
 from pathlib import Path
 
 from of_lists import URL
@@ -11,9 +12,11 @@ from tools import PLANT, FakeServer, decided, free_port, get, until
 sys.path.insert(0, PLANT)
 from adsplice_plant import machines, reconcile, status  # noqa: E402
 from adsplice_plant.etcd import RETURN, Away, Compacted, Etcd, Is, Put, Refused  # noqa: E402
+from adsplice_plant.fed import Around, Fed, Limits  # noqa: E402
 from adsplice_plant.members import Feed  # noqa: E402
 from adsplice_plant.settings import hash_of, ladder_of  # noqa: E402
 from adsplice_plant.store_settings import StoreAt  # noqa: E402
+from adsplice_plant.telling import Telling  # noqa: E402
 from adsplice_plant.words import Fault as Wrong  # noqa: E402
 
 NEEDS = ("httpx",)
@@ -132,6 +135,12 @@ def test_a_fault_that_nobody_foresaw_ends_no_thread_of_the_store(room):
     until(lambda: any("KeyError" in line for line in lines) and any("AttributeError" in line for line in lines), 10, "both lines")
     assert all(one.is_alive() for one in it.threads)
     it.ending.set()
+
+
+def test_a_machine_waits_for_its_own_controller_for_a_while(room):
+    around = Around(Limits(timeout=5.0), None, Telling("news", print), threading.RLock(), lambda: None, print, print, print)
+    limits = [Fed(settings_said(**said), around).sending.client.limit for said in ({}, {"store": "etcd://a"})]
+    assert limits == [5.0, 1.5], "one that hangs holds up the lists of all machines for no longer"
 
 
 def test_the_member_of_this_machine_is_asked_first(room):
