@@ -1,6 +1,7 @@
 """Tests of what is set, told and counted of several machines, and of what answers in place of etcd."""
 import json
 import os
+import socket
 import subprocess
 import sys
 import threading
@@ -208,3 +209,14 @@ def test_nginx_reads_no_list_of_a_machine_that_is_behind(room):
 
 
 test_nginx_reads_no_list_of_a_machine_that_is_behind.needs = ("httpx", "nginx")
+
+
+def test_keepalived_sees_whether_nginx_answers(room):
+    server, front = room.server(Lists()), f"{PLANT}/../examples/replicas/front"
+    assert subprocess.run([front, str(server.port)], check=False).returncode == 0
+    done = subprocess.run([front, str(free_port())], check=False, capture_output=True)
+    assert done.returncode == 1 and not done.stderr, done
+    with socket.socket() as it:
+        it.bind(("127.0.0.1", 0))
+        it.listen()
+        assert subprocess.run([front, str(it.getsockname()[1])], check=False, timeout=5).returncode == 1, "it hangs"
