@@ -5,7 +5,6 @@ moments of the clock that never goes back. A whole state is what changed from on
 """
 from __future__ import annotations
 
-import copy
 from collections.abc import Iterable, Mapping
 from dataclasses import dataclass, replace
 from typing import Any
@@ -216,7 +215,7 @@ def state_of(known: Known) -> State:
     it, names = known.state, known.state.renditions.keys()
     own = {one.settings.rendition() for one in it.renditions.values()}
     kept = {name: {one: said for one, said in value.items() if one in own} if name in OF_RENDITIONS else value for name, value in known.signals.items()}
-    translator = copy.deepcopy(it.translator)
+    translator = it.translator.copy()
     if kept:
         translator.resume(kept)
     decisions = tuple(replace(one, bodies={name: body for name, body in one.bodies.items() if name in names}) for one in it.decisions)

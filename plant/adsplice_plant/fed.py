@@ -24,6 +24,7 @@ from .whole_files import KEPT_MODE
 from .words import now_text
 
 BETWEEN = 1.0  # seconds between two signs that the feed goes on
+OWN = 1.5  # seconds at most of a request to a controller of this machine's own
 BEHIND = ".behind"  # the end of the name of the file that is there while viewers are to be given another machine's list of the channel
 PATIENCE = 0.5  # seconds for which a channel may lack what its log has until that file is there
 
@@ -65,7 +66,8 @@ class Fed:
         self.beat_at = settings.keep / f"{self.name}{BEAT}" if settings.keep else None
         self.beaten = float("-inf")  # when it was shown last that the feed goes on
         self.reading = Reading(settings, self.client, around.choice, limits.longest_pause, around.telling, self.noting, around.post, self.target)
-        self.sending = Sending(settings, Client(limits.timeout), self.noting, around.answered, around.beat)
+        is_own = settings.store is not None  # (of one of several machines, which all wait for the one that leads)
+        self.sending = Sending(settings, Client(min(limits.timeout, OWN) if is_own else limits.timeout), self.noting, around.answered, around.beat)
         self.folder = DecisionFolder(self.name, settings.decisions, limits.keep_days, self.tell) if settings.decisions else None
         self.fallback = Fallback(self.name, settings.fallback, self.tell) if settings.fallback else None
         self.slate = Slate(self.name, settings.slate, self.tell) if settings.slate else None
@@ -122,7 +124,7 @@ class Fed:
         """All that is known of it is an event again; nobody waits for the answers to what was sent."""
         self.sending.forget()
         self.reading.again()
-        for it in (self.folder if self.shared is None else None, self.fallback, self.slate):
+        for it in (self.folder if self.shared is None else self.shared, self.fallback, self.slate):
             if it is not None:
                 it.forget()
 

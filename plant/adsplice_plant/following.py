@@ -77,7 +77,8 @@ def led(state: State) -> State:
 def adopt(turn: Turn, state: State, is_behind: bool) -> None:
     """The log has the `state`: it is this machine's, with what its own controllers acknowledged. A channel without a list is filled from the newest one; it
     waits while the log has more (`is_behind`)."""
-    old, new = turn.state, replace(with_controllers(state, turn.state), is_behind=is_behind)
+    old = turn.state if state.entry >= turn.state.entry else replace(turn.state, life="")  # (a log that was put back is another one)
+    new = replace(with_controllers(state, old), is_behind=is_behind)
     turn.state, turn.is_kept = new, False
     for channel, it in turn.renditions():
         if not is_behind and it.controller.way is Way.THERE and it.controller.took < 0:

@@ -10,7 +10,7 @@ from contextlib import suppress
 from pathlib import Path
 
 from .etcd import Compacted, Etcd, Refused
-from .members import LATE, Member
+from .members import FORMAT_KEY, LATE, Member
 from .replica import Replica
 from .shared_log import ROOT, Foreign
 from .state import State
@@ -110,7 +110,7 @@ class Machines:
         revision: int | None = None
         while not self.ending.is_set():
             try:
-                if revision is None:
+                if revision is None or self.was_put_back(revision):
                     revision = self.begin()
                 for _, changes in self.watched.watch(ROOT, revision, max(LEAST_SILENCE, self.at.lease)):
                     if self.ending.is_set():
@@ -132,6 +132,11 @@ class Machines:
                 self.failed(fault)
             self.ending.wait(PAUSE)
 
+    def was_put_back(self, revision: int) -> bool:
+        """Whether the store hasn't come to what was seen before the `revision`: it was restored from what it had earlier. (Nothing of it would be seen until
+        it comes there.) Raises OSError."""
+        return self.watched.read(FORMAT_KEY)[0] + 1 < revision
+
     def begin(self) -> int:
         """Begins, or begins anew: answers the revision from which on changes are to be seen. Raises OSError."""
         with self.lock:
@@ -151,7 +156,7 @@ class Machines:
             said = self.said(now)
         with suppress(OSError):  # (then viewers go to another machine, and the monitor tells that the file is old)
             write_aside(self.keep / f"{self.machine}{SAID}", json.dumps(said).encode())
-            if said["up"] and not said["behind"] and not said["ill"]:
+            if said["up"] and said["programmes"] and not said["behind"] and not said["ill"]:
                 (self.keep / f"{self.machine}{READY}").touch(KEPT_MODE)
 
     def said(self, now: float) -> dict[str, int]:

@@ -6,6 +6,7 @@ programmes are spread over the machines, and a machine that comes back is given 
 """
 from __future__ import annotations
 
+import functools
 import hashlib
 import json
 import time
@@ -26,10 +27,11 @@ LEADS = lead_key("")
 LOGS = log_prefix("")[:-1]
 AFTER = 0.3  # seconds that each machine waits for those that come before it
 SETTLED = 12.0  # seconds that a feed has been there before it is given programmes
-BETWEEN = 0.5  # seconds between two programmes that are given to others
+BETWEEN = 0.5  # seconds between two looks whether a programme is to be given to another feed
 AGAIN = 0.5  # seconds from one trial to lead to the next
 MOVES = 600.0  # seconds within which changes of a lead are counted
 LATE = 5.0  # seconds that a line waits until a replica counts as behind
+DRAWN = 65_536  # numbers that machines drew, which are remembered
 BEAT = 1.0  # seconds between two signs of a feed, by which the others see that what they watch is of now
 
 
@@ -103,7 +105,13 @@ def machine_of(feed: str) -> str:
 def ranked(programme: str, feeds: Iterable[str]) -> list[str]:
     """The `feeds` in the order in which they are to lead the `programme`: each machine draws a number for it, and the least one comes first. If a machine
     goes, no other programme than its own is led by another one."""
-    return sorted(feeds, key=lambda it: (hashlib.sha256(f"{machine_of(it)}/{programme}".encode()).digest(), it))
+    return sorted(feeds, key=lambda it: (drawn(machine_of(it), programme), it))
+
+
+@functools.lru_cache(DRAWN)
+def drawn(machine: str, programme: str) -> bytes:
+    """The number that the `machine` draws for the `programme`."""
+    return hashlib.sha256(f"{machine}/{programme}".encode()).digest()
 
 
 def feed_of(pair: Pair, now: float) -> Feed | None:
@@ -182,7 +190,8 @@ class Member:
                 self.try_to_lead(name, now)
         self.settle()
         if now - self.handed_at >= BETWEEN:
-            self.hand_over(now)
+            self.handed_at = now
+            self.hand_over()
 
     def stay(self, now: float) -> None:
         """Its lease lasts anew, a few times before it would end. If it has ended, so have its leads, and it takes another one."""
@@ -244,14 +253,13 @@ class Member:
             elif not token and it.token():
                 it.follow()
 
-    def hand_over(self, now: float) -> None:
+    def hand_over(self) -> None:
         """Gives one programme to the feed that is to lead it, if that has been there for a while. (If the answer is lost, the store says who leads.)"""
         for name, it in self.programmes.items():
             lead = self.leads.get(name)
             first = self.candidates(name)[0] if lead is not None and lead.owner == self.me else self.me
-            if first == self.me or now - self.feeds[first].since < SETTLED:
+            if first == self.me or self.handed_at - self.feeds[first].since < SETTLED:
                 continue
-            self.handed_at = now
             with suppress(Refused):  # (its lease may just have ended)
                 done = self.keys.change([Is(lead_key(name), it.token())], [Put(lead_key(name), first.encode(), self.feeds[first].lease)])
                 if done.is_so:

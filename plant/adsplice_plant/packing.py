@@ -336,7 +336,10 @@ def of_repairer(old: Repairer, now: Repairer) -> Said:
 
 
 def standing_after(old: Standing, said: Said) -> Standing:
-    """The Standing after `old` by what was `said`; raises ValueError, TypeError, KeyError, IndexError or AttributeError if that isn't said."""
+    """The Standing after `old` by what was `said`; raises ValueError, TypeError, KeyError, IndexError or AttributeError if that isn't said. (What didn't
+    change stays the same value, in which the next difference needn't look.)"""
+    if not said:
+        return old
     was, one = old.repairer, Repairer(old.repairer.choices, old.repairer.siblings)
     for name in PLAIN:
         kind = type(getattr(one, name))
@@ -348,4 +351,6 @@ def standing_after(old: Standing, said: Said) -> Standing:
     text, ahead = (edited(before, said[name]) if name in said else before for name, before in (("text", old.text), ("ahead", old.ahead)))
     repairs = {str(kind): int(count) for kind, count in said["repairs"].items()} if "repairs" in said else old.repairs
     entry, earlier = said.get("entry", (old.entry, old.after))
-    return Standing(one, viewed_after(old.viewed, said.get("viewed", {})), int(entry), text, ahead, pods_after(old.pods, said.get("pods", {})), repairs, int(earlier))
+    viewed = viewed_after(old.viewed, said["viewed"]) if "viewed" in said else old.viewed
+    pods = pods_after(old.pods, said["pods"]) if "pods" in said else old.pods
+    return Standing(one, viewed, int(entry), text, ahead, pods, repairs, int(earlier))

@@ -127,11 +127,13 @@ class Replica:
         now = self.now()
         self.lines.extendleft((now, it) for it in reversed(rest))
         self.leads = 0
-        if won and (found is None or own.life == found.life and not rest and own.entry > found.entry):
-            found = replace(own, life=self.life())  # (the store is new, or was put back to what it had before)
-            self.begin_to_lead(won)
-            return found
-        return own if found is None else replace(following.with_controllers(found, own), is_behind=bool(rest))
+        if found is not None and (own.life != found.life or rest or own.entry <= found.entry):
+            return replace(following.with_controllers(found, own), is_behind=bool(rest))
+        if not won:  # (the store is new, or was put back to what it had before: what is known here is given by the machine that leads, as another log)
+            return own
+        found = replace(own, life=self.life())
+        self.begin_to_lead(won)
+        return found
 
     def may_lead(self, own: State) -> bool:
         """Whether it has the lead, doesn't lead yet, and this machine's controllers have what the log has, or it has waited long enough for them."""

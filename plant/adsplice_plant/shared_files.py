@@ -96,6 +96,11 @@ class SharedFolder:
         self.gone: set[str] = set()  # those that were, and aren't over
         self.to_finish: set[str] = set()  # those of any machine that are over, and are still in the store
 
+    def forget(self) -> None:
+        """What the store has is read anew: it may have been put back to what it had earlier."""
+        self.put.clear()
+        self.gone.clear()
+
     def finish(self, name: str) -> None:
         """The file `name`, of whichever machine, is over: the next look takes it out of the store."""
         self.to_finish.add(name)
@@ -109,9 +114,11 @@ class SharedFolder:
         for name in list(self.to_finish):
             self.store.finish_file(self.channel, name)
             self.to_finish.discard(name)
-        for name in [it for it in self.put if it not in self.files]:
-            self.store.remove_file(self.channel, name)
-            del self.put[name]
+        its = [name for name, it in self.store.files[self.channel].items() if it.machine == self.store.machine] if self.own.is_told else []
+        for name in its:
+            if name not in self.files:
+                self.store.remove_file(self.channel, name)
+        self.put = {name: it for name, it in self.put.items() if name in self.files}
         for name, (stamp, body) in list(self.files.items()):
             self.put_in(name, Shared(self.store.machine, stamp, body))
 

@@ -34,7 +34,7 @@ from .telling import Say, Telling, place_of
 from .web import Client
 
 LOOKS = 0.02  # seconds between two looks at the files while lists wait for an answer
-SELDOM = 1.0  # seconds between two looks at the files of a machine that doesn't lead
+SELDOM = 1.0  # seconds between two looks at the files of one of several machines
 LEAST = 0.005  # seconds from one turn to the next if nothing happens
 WELL = 10.0  # seconds without a fault after which the next one is a first one
 FILES = (FolderRead, FallbackRead, SlateRead)  # the events of a look at the files
@@ -245,8 +245,9 @@ class Feeding:
         """When the files are to be looked at again; never if there are none."""
         if not any(it.folder or it.fallback or it.slate for it in self.channels.values()):
             return float("inf")
-        follows = self.replica is not None and not self.replica.leads
-        return self.looked_at + (LOOKS if time.monotonic() < self.state.waits_until else SELDOM if follows else OFTEN)
+        if self.replica is not None and self.replica.leads and self.replica.changed:
+            return float("-inf")  # (another machine's file has come)
+        return self.looked_at + (LOOKS if time.monotonic() < self.state.waits_until else SELDOM if self.replica is not None else OFTEN)
 
     def look_soon(self, answered: str) -> None:
         """The files are looked at at once: the question about a break is `answered`."""
@@ -270,7 +271,8 @@ class Feeding:
         if now >= self.rests_until and self.replica is not None and self.replica.is_next(self.state):
             return LEAST
         until = [self.rests_until] if now < self.rests_until else [it for it in (self.looks_at(), self.due) if it is not None]
-        return min(BETWEEN / 2, max(LEAST, min(until) - now))
+        rests = self.replica is not None and self.replica.won == self.replica.leads  # (what the others give wakes it)
+        return min(BETWEEN if rests else BETWEEN / 2, max(LEAST, min(until) - now))
 
     def take(self, event: Event) -> None:
         """Takes an `event`, and does what is to be done. If a state can't be kept, raises Unkept: nothing after it is done, and the event is

@@ -20,7 +20,7 @@ import time
 import urllib.request
 from collections.abc import Callable, Iterator, Mapping
 from dataclasses import dataclass, field
-from typing import Any
+from typing import Any, NamedTuple
 
 import httpx
 
@@ -135,21 +135,36 @@ class Wire:
             self.sock.close()
 
 
+class Target(NamedTuple):
+    """A URL as a request needs it: its `text`, its parts, the `fields` by which its user and password are told, and the `proxy` for it, if there is
+    one. (httpx reads a part anew whenever it is asked for.)"""
+
+    text: str
+    scheme: str
+    host: str
+    raw_host: str
+    port: int | None
+    path: str
+    netloc: str
+    fields: Mapping[str, str]
+    proxy: str | None
+
+
 class Connection(http.client.HTTPConnection):
-    """A connection to the server of a URL, by a `proxy` if there is one, under TLS if the URL's scheme says so. `bounds` are those of the request
+    """A connection to the server of the URL `url`, by its proxy if there is one, under TLS if its scheme says so. `bounds` are those of the request
     that it is made for. `judge` says whether it may connect to an address; a proxy's isn't judged."""
 
     sock: Any
 
-    def __init__(self, url: httpx.URL, proxy: str | None, bounds: Bounds, judge: Judge) -> None:
-        to = url if proxy is None else url_of(proxy)
-        self.judge = judge if proxy is None else lambda _: ""
-        super().__init__(to.raw_host.decode(), to.port or (443 if to.scheme == "https" else 80))
-        self.bounds, self.name = bounds, url.raw_host.decode()
+    def __init__(self, url: Target, bounds: Bounds, judge: Judge) -> None:
+        to = url if url.proxy is None else target_of(url.proxy)
+        self.judge = judge if url.proxy is None else lambda _: ""
+        super().__init__(to.raw_host, to.port or (443 if to.scheme == "https" else 80))
+        self.bounds, self.name = bounds, url.raw_host
         self.is_secure, self.kept_at = url.scheme == "https", 0.0
-        self.sends_whole_url = proxy is not None and not self.is_secure
-        self.fields = dict(password_of(to)) if proxy is not None else {}  # for the proxy
-        if proxy is not None and self.is_secure:
+        self.sends_whole_url = url.proxy is not None and not self.is_secure
+        self.fields = dict(to.fields) if url.proxy is not None else {}  # for the proxy
+        if url.proxy is not None and self.is_secure:
             self.set_tunnel(self.name, url.port or 443, {"Proxy-Authorization": it for it in self.fields.values()})
         self._create_connection = self.connected
 
@@ -191,6 +206,13 @@ class Connection(http.client.HTTPConnection):
 def certificates() -> ssl.SSLContext:
     """The certificates that servers are checked by, read once."""
     return httpx.create_ssl_context()
+
+
+@functools.lru_cache(1024)
+def target_of(text: str) -> Target:
+    """The URL `text` as a request needs it; raises ValueError if it doesn't read."""
+    it = url_of(text)
+    return Target(str(it), it.scheme, it.host, it.raw_host.decode(), it.port, it.raw_path.decode(), it.netloc.decode(), password_of(it), proxy_for(it))
 
 
 @functools.lru_cache(1024)
@@ -236,7 +258,6 @@ def has_same_origin(one: httpx.URL, other: httpx.URL) -> bool:
     return (one.scheme, one.host, one.port) == (other.scheme, other.host, other.port)
 
 
-@functools.lru_cache(1024)
 def proxy_for(url: httpx.URL) -> str | None:
     """The proxy of the environment for `url`; none for this machine."""
     if is_of_this_machine(url.host) or urllib.request.proxy_bypass(url.host):
@@ -261,7 +282,7 @@ class Client:
 
     def __init__(self, limit: float, redirects: bool = False, reach: Reach | None = None) -> None:
         self.limit, self.redirects, self.reach, self.lock = limit, redirects, reach or Reach(), threading.Lock()
-        self.idle: dict[tuple[str, bytes, int | None, str | None], list[Connection]] = {}  # by scheme, host and port, and the proxy
+        self.idle: dict[tuple[str, str, int | None, str | None], list[Connection]] = {}  # by scheme, host and port, and the proxy
 
     def ask(self, method: str, url: str, body: bytes | None = None, fields: Mapping[str, str] | None = None, limit: float | None = None,
             is_head_enough: bool = False) -> Answer:
@@ -270,14 +291,14 @@ class Client:
         limit = self.limit if limit is None else limit
         bounds = Bounds(limit, is_head_enough=is_head_enough)
         try:
-            first = at = url_of(url)
+            first = at = target_of(url)
             for _ in range(MOST_REDIRECTS):
                 answer = self.once(method, at, body, fields or {}, bounds, first.host)
                 if method != "GET" or answer.status not in REDIRECTS or "location" not in answer.fields:
                     return answer
                 before, location = at, answer.fields["location"]
-                at = read_url(lambda: before.join(location))
-                if why := strays(str(at), str(first), self.redirects, self.reach):
+                at = target_of(str(read_url(lambda: url_of(before.text).join(location))))
+                if why := strays(at.text, first.text, self.redirects, self.reach):
                     return Answer(0, why=words.plain(f"a redirect to {at.scheme[:10]}://{at.host[:100]} isn't followed: {why}"))
             return Answer(0, why=f"more than {MOST_REDIRECTS} redirects")
         except TimeoutError:
@@ -288,8 +309,8 @@ class Client:
     def lines(self, url: str, body: bytes, fields: Mapping[str, str], silence: float, most: int) -> Iterator[bytes]:
         """The lines of the answer to a POST of the bytes `body` to `url`, with the header fields `fields`, as they come: each within `silence` seconds of
         the one before, and of at most so many bytes. Ends with the answer; raises OSError, HTTPException or ValueError."""
-        at = url_of(url)
-        it = Connection(at, proxy_for(at), Bounds(silence), self.reach.judge(at.host, (at.host,)))
+        at = target_of(url)
+        it = Connection(at, Bounds(silence), self.reach.judge(at.host, (at.host,)))
         try:
             send(it, "POST", at, body, fields)
             wire = it.sock
@@ -304,11 +325,11 @@ class Client:
         finally:
             it.close()
 
-    def once(self, method: str, url: httpx.URL, body: bytes | None, fields: Mapping[str, str], bounds: Bounds, named: str) -> Answer:
+    def once(self, method: str, url: Target, body: bytes | None, fields: Mapping[str, str], bounds: Bounds, named: str) -> Answer:
         """The answer to one request, within `bounds`, that began at the host `named`; raises HTTPException, OSError or ValueError."""
         if url.scheme not in ("http", "https") or not url.host:
-            raise ValueError(f"{str(url)[:100]!r} isn't a URL that begins with http:// or https://")
-        key = url.scheme, url.raw_host, url.port, proxy_for(url)
+            raise ValueError(f"{url.text[:100]!r} isn't a URL that begins with http:// or https://")
+        key = url.scheme, url.raw_host, url.port, url.proxy
         it = self.connection(key, url, bounds, named)
         try:
             send(it, method, url, body, fields)
@@ -325,15 +346,15 @@ class Client:
             it.close()
         return answer
 
-    def connection(self, key: tuple[str, bytes, int | None, str | None], url: httpx.URL, bounds: Bounds, named: str) -> Connection:
+    def connection(self, key: tuple[str, str, int | None, str | None], url: Target, bounds: Bounds, named: str) -> Connection:
         """A connection to the server of `url`: one of those that are kept under `key`, or a new one, within the reach of the host `named`."""
         while True:
             with self.lock:
                 its = self.idle.get(key)
                 it = its.pop() if its else None
             if it is None:
-                host = next((name for name in (url.host, url.raw_host.decode()) if name in self.reach.named), url.host)  # (it may be named by its ASCII form)
-                return Connection(url, key[3], bounds, self.reach.judge(host, (named,)))
+                host = next((name for name in (url.host, url.raw_host) if name in self.reach.named), url.host)  # (it may be named by its ASCII form)
+                return Connection(url, bounds, self.reach.judge(host, (named,)))
             if it.is_ready():
                 it.begin(bounds)
                 return it
@@ -347,19 +368,18 @@ class Client:
             it.close()
 
 
-def send(it: Connection, method: str, url: httpx.URL, body: bytes | None, fields: Mapping[str, str]) -> None:
+def send(it: Connection, method: str, url: Target, body: bytes | None, fields: Mapping[str, str]) -> None:
     """Sends a request over the connection `it`. Raises OSError."""
-    path = url.raw_path.decode()
-    it.putrequest(method, f"{url.scheme}://{url.netloc.decode()}{path}" if it.sends_whole_url else path)
+    it.putrequest(method, f"{url.scheme}://{url.netloc}{url.path}" if it.sends_whole_url else url.path)
     proxy = {"Proxy-Authorization": value for value in it.fields.values()} if it.sends_whole_url else {}
-    for name, value in {**FIELDS, **password_of(url), **proxy, **fields}.items():
+    for name, value in {**FIELDS, **url.fields, **proxy, **fields}.items():
         it.putheader(name, value)
     if body is not None:
         it.putheader("Content-Length", str(len(body)))
     it.endheaders(body)
 
 
-def read(reply: http.client.HTTPResponse, url: httpx.URL, bounds: Bounds) -> Answer:
+def read(reply: http.client.HTTPResponse, url: Target, bounds: Bounds) -> Answer:
     """The answer `reply` of the server of `url`, within `bounds`; raises HTTPException or OSError."""
     bounds.has_begun = True
     said: dict[str, str] = {}
@@ -371,7 +391,7 @@ def read(reply: http.client.HTTPResponse, url: httpx.URL, bounds: Bounds) -> Ans
     if said.get("content-encoding", "identity").strip().lower() not in ("", "identity"):
         return Answer(0, why=CODED)
     if bounds.is_head_enough and not reply.isclosed():
-        return Answer(reply.status, b"", said, url=str(url))
+        return Answer(reply.status, b"", said, url=url.text)
     held, pieces = bytearray(), 0
     while piece := reply.read1(PIECE):
         held += piece
@@ -384,4 +404,4 @@ def read(reply: http.client.HTTPResponse, url: httpx.URL, bounds: Bounds) -> Ans
     if reply.length:
         raise http.client.IncompleteRead(b"")
     reply.read()  # (nothing is left; the connection is free then)
-    return Answer(reply.status, bytes(held), said, url=str(url), is_whole=reply.isclosed() and not reply.will_close)
+    return Answer(reply.status, bytes(held), said, url=url.text, is_whole=reply.isclosed() and not reply.will_close)

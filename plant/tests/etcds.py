@@ -5,6 +5,7 @@ import signal
 import subprocess
 import sys
 import time
+import urllib.request
 
 from of_lists import URL
 from tools import PLANT, FakeOrigin, RulesController, Viewers, free_port, get, listed, until
@@ -26,8 +27,8 @@ def needs(*names):
 class Etcds:
     """Members of an etcd on loopback, each of which may be killed and started again."""
 
-    def __init__(self, room, count=3, *words):
-        self.room, self.words = room, words
+    def __init__(self, room, count=3, *words, scheme="http"):
+        self.room, self.words, self.scheme = room, words, scheme
         self.ports = [(free_port(), free_port()) for _ in range(count)]
         self.running = [None] * count
         for place in range(count):
@@ -38,17 +39,16 @@ class Etcds:
         """Starts a member."""
         client, peer = self.ports[place]
         cluster = ",".join(f"m{n}=http://127.0.0.1:{it[1]}" for n, it in enumerate(self.ports))
-        words = ["--name", f"m{place}", "--data-dir", f"{self.room.path}/etcd{place}", "--listen-client-urls", f"http://127.0.0.1:{client}", "--advertise-client-urls",
-                 f"http://127.0.0.1:{client}", "--listen-peer-urls", f"http://127.0.0.1:{peer}", "--initial-advertise-peer-urls", f"http://127.0.0.1:{peer}",
-                 "--initial-cluster", cluster, "--log-level", "error", "--logger", "zap", "--unsafe-no-fsync", *self.words]
-        words = [it for it in words if it != "--unsafe-no-fsync"]  # (etcd 3.4.23 lacks it)
+        words = ["--name", f"m{place}", "--data-dir", f"{self.room.path}/etcd{place}", "--listen-client-urls", f"{self.scheme}://127.0.0.1:{client}", "--advertise-client-urls",
+                 f"{self.scheme}://127.0.0.1:{client}", "--listen-peer-urls", f"http://127.0.0.1:{peer}", "--initial-advertise-peer-urls", f"http://127.0.0.1:{peer}",
+                 "--initial-cluster", cluster, "--log-level", "error", "--logger", "zap", *self.words]
         with open(f"{self.room.path}/etcd{place}.log", "ab") as log:
             self.running[place] = subprocess.Popen([ETCD, *words], stdin=subprocess.DEVNULL, stdout=log, stderr=log)
         self.room.running.append(self.running[place])
 
     def is_well(self, place):
         """Whether a member serves."""
-        return "true" in get(f"http://127.0.0.1:{self.ports[place][0]}/health")[1]
+        return "true" in get(f"{self.scheme}://127.0.0.1:{self.ports[place][0]}/health")[1]
 
     def kill(self, place):
         """Kills a member."""
@@ -57,27 +57,58 @@ class Etcds:
 
     def addresses(self):
         """The URLs of the members."""
-        return tuple(f"http://127.0.0.1:{it[0]}" for it in self.ports)
+        return tuple(f"{self.scheme}://127.0.0.1:{it[0]}" for it in self.ports)
 
     def text(self):
         """The setting `store`."""
-        return "etcd://" + " ".join(f"127.0.0.1:{it[0]}" for it in self.ports)
+        return ("etcds://" if self.scheme == "https" else "etcd://") + " ".join(f"127.0.0.1:{it[0]}" for it in self.ports)
+
+    def control(self, *words):
+        """Has etcdctl do something; whether it did."""
+        words = ["etcdctl", "--endpoints", self.addresses()[0], *words]
+        return subprocess.run(words, env={**os.environ, "ETCDCTL_API": "3"}, capture_output=True, text=True, check=False).returncode == 0
 
     def keys(self, **more):
         """A client."""
         return Etcd(self.addresses(), **more)
 
 
-class Group:
-    """Machines with a feed and a controller by the rules each, which have an etcd and an origin in common."""
+class Built:
+    """A controller that is the built program."""
 
-    def __init__(self, room, store, count=3, more="", target=1):
+    def __init__(self, room):
+        self.room, self.port = room, free_port()
+        self.url = f"http://127.0.0.1:{self.port}"
+        self.start()
+
+    def start(self):
+        """Its process begins."""
+        self.process = self.room.adsplice(self.port)
+
+    def kill(self):
+        """It is killed."""
+        self.process.kill()
+        self.process.wait()
+
+    def shown(self, name):
+        """The written playlist of a channel; empty if it has none, or doesn't answer."""
+        try:
+            with urllib.request.urlopen(f"{self.url}/channels/{name}/live.m3u8", timeout=0.3) as it:
+                return it.read().decode()
+        except OSError:
+            return ""
+
+
+class Group:
+    """Machines with a feed and a controller each, which have an etcd and an origin in common. `make`: makes a controller; without it each is by the rules."""
+
+    def __init__(self, room, store, count=3, more="", target=1, make=None):
         self.room, self.store, self.more, self.target = room, store, more, target
         self.origin, self.last, self.breaks = room.server(FakeOrigin("")), 9, ()
-        self.controllers = [room.server(RulesController()) for _ in range(count)]
+        self.controllers = [make() if make is not None else room.server(RulesController()) for _ in range(count)]
         self.viewers, self.texts = Viewers(), {}
         self.feeds = [None] * count
-        self.is_ending = False
+        self.has_all_lines = True  # whether lists are compared with their date ranges, which a channel that is made anew may lack
         self.publish()
         for place in range(count):
             self.start(place)
@@ -103,6 +134,7 @@ class Group:
                 self.viewers.see(text)
                 media = [line for line in text.splitlines() if "SEQUENCE" in line]
                 count = text.count("#EXTINF")
+                text = "\n".join(line for line in text.splitlines() if self.has_all_lines or not line.startswith("#EXT-X-DATERANGE"))
                 had = self.texts.setdefault((*media, count), text)
                 assert had == text, f"{had}\n--- and\n{text}"
 

@@ -26,7 +26,7 @@ def test_program_and_plant_in_a_folder(room):
         said = dict(line.rstrip("\n").split(" ", 1) for line in build)
         assert said["sha256"] == hashlib.sha256(it.read()).hexdigest() and set(said) == {"version", "commit", "date", "sha256"}, said
     assert {"nginx.conf", "nginx-viewers.conf", "as-run.logrotate", "monitor", "adsplice_plant", "adsplice_rules"} <= set(os.listdir(to)) and "alerts.yml" in os.listdir(f"{to}/monitor")
-    assert sorted(os.listdir(f"{to}/replicas")) == ["etcd", "keepalived.conf", "nginx.conf", "ready"] and os.access(f"{to}/replicas/ready", os.X_OK)
+    assert sorted(os.listdir(f"{to}/replicas")) == ["etcd", "front", "keepalived.conf", "nginx.conf", "ready"] and os.access(f"{to}/replicas/ready", os.X_OK)
     file = room.write("d.json", decided(("b1", 1)))
     done = subprocess.run([PYTHON, f"{to}/adsplice-pod", "--check", file], capture_output=True, text=True, check=False)
     assert (done.returncode, done.stdout) == (0, f"{file}: right\n"), done  # (by the program beside it)

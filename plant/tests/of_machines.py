@@ -1,8 +1,10 @@
 """Tests of what is set, told and counted of several machines, and of what answers in place of etcd."""
 import json
 import os
+import socket
 import subprocess
 import sys
+import threading
 from pathlib import Path
 
 from of_lists import URL
@@ -11,9 +13,11 @@ from tools import PLANT, FakeServer, decided, free_port, get, until
 sys.path.insert(0, PLANT)
 from adsplice_plant import machines, reconcile, status  # noqa: E402
 from adsplice_plant.etcd import RETURN, Away, Compacted, Etcd, Is, Put, Refused  # noqa: E402
+from adsplice_plant.fed import Around, Fed, Limits  # noqa: E402
 from adsplice_plant.members import Feed  # noqa: E402
 from adsplice_plant.settings import hash_of, ladder_of  # noqa: E402
 from adsplice_plant.store_settings import StoreAt  # noqa: E402
+from adsplice_plant.telling import Telling  # noqa: E402
 from adsplice_plant.words import Fault as Wrong  # noqa: E402
 
 NEEDS = ("httpx",)
@@ -134,6 +138,12 @@ def test_a_fault_that_nobody_foresaw_ends_no_thread_of_the_store(room):
     it.ending.set()
 
 
+def test_a_machine_waits_for_its_own_controller_for_a_while(room):
+    around = Around(Limits(timeout=5.0), None, Telling("news", print), threading.RLock(), lambda: None, print, print, print)
+    limits = [Fed(settings_said(**said), around).sending.client.limit for said in ({}, {"store": "etcd://a"})]
+    assert limits == [5.0, 1.5], "one that hangs holds up the lists of all machines for no longer"
+
+
 def test_the_member_of_this_machine_is_asked_first(room):
     gone, other = free_port(), room.server(Stranger())
     other.body = b'{"header":{"revision":"7"}}'
@@ -199,3 +209,14 @@ def test_nginx_reads_no_list_of_a_machine_that_is_behind(room):
 
 
 test_nginx_reads_no_list_of_a_machine_that_is_behind.needs = ("httpx", "nginx")
+
+
+def test_keepalived_sees_whether_nginx_answers(room):
+    server, front = room.server(Lists()), f"{PLANT}/../examples/replicas/front"
+    assert subprocess.run([front, str(server.port)], check=False).returncode == 0
+    done = subprocess.run([front, str(free_port())], check=False, capture_output=True)
+    assert done.returncode == 1 and not done.stderr, done
+    with socket.socket() as it:
+        it.bind(("127.0.0.1", 0))
+        it.listen()
+        assert subprocess.run([front, str(it.getsockname()[1])], check=False, timeout=5).returncode == 1, "it hangs"

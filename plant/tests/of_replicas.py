@@ -8,7 +8,7 @@ import subprocess
 import sys
 import time
 
-from etcds import Etcds, Group, needs
+from etcds import Built, Etcds, Group, needs
 from of_lists import URL
 from tools import FALLBACK, PLANT, FakeServer, RulesController, apart, decided, until
 
@@ -321,6 +321,90 @@ def test_a_member_of_etcd_is_replaced(room):
     until(lambda: etcds.is_well(2), 20, "the new member")
     group.step(3)
     group.settled()
+
+
+@needs("httpx", "etcd", "program")
+def test_processes_of_the_built_program_hang_and_are_killed(room):
+    etcds = Etcds(room, 1)
+    fallback = room.write("fallback.json", FALLBACK.replace('"2"', '"1"'))
+    group = Group(room, etcds.text(), make=lambda: Built(room), more=f"fallback = {fallback}\n")
+    group.breaks, group.has_all_lines = (("b1", 14, 4), ("b2", 30, 4)), False
+    group.settled()
+    group.step(2)
+    for place in range(2):
+        group.controllers[place].process.send_signal(signal.SIGSTOP)
+        group.step(7)
+        group.settled(*(it for it in range(3) if it != place))
+        group.controllers[place].process.send_signal(signal.SIGCONT)
+        group.step(2)
+        group.settled()
+    for it in group.controllers:
+        it.kill()
+    time.sleep(1)
+    for it in group.controllers:
+        it.start()
+    group.step(6)
+    group.settled()
+    group.kill(group.leader())
+    group.controllers[0].kill()
+    group.controllers[0].start()
+    group.step(5)
+    group.settled(*(it for it in range(3) if group.feeds[it].process.poll() is None))
+
+
+@needs("httpx", "etcd")
+def test_an_etcd_that_is_restored_from_a_snapshot(room):
+    etcds = Etcds(room, 1)
+    group = Group(room, etcds.text(), 2)
+    group.settled()
+    group.step(2)
+    assert etcds.control("snapshot", "save", f"{room.path}/snapshot")
+    group.step(5)
+    group.settled()
+    etcds.kill(0)
+    os.rename(f"{room.path}/etcd0", f"{room.path}/lost")
+    at = f"http://127.0.0.1:{etcds.ports[0][1]}"
+    assert etcds.control("snapshot", "restore", f"{room.path}/snapshot", "--data-dir", f"{room.path}/etcd0", "--name", "m0", "--initial-cluster", f"m0={at}", "--initial-advertise-peer-urls", at)
+    etcds.start(0)
+    until(lambda: etcds.is_well(0), 20, "etcd")
+    group.step(4)
+    group.settled(seconds=30)
+
+
+@needs("httpx", "etcd")
+def test_what_a_machine_watches_is_forgotten_meanwhile(room):
+    etcds = Etcds(room, 1)
+    group = Group(room, etcds.text(), 2)
+    group.settled()
+    follower = 1 - group.leader()
+    group.feeds[follower].process.send_signal(signal.SIGSTOP)
+    group.step(6)
+    assert etcds.control("compact", str(etcds.keys().read("/adsplice/format")[0]))
+    group.feeds[follower].process.send_signal(signal.SIGCONT)
+    group.step(3)
+    group.settled()
+
+
+@needs("httpx", "etcd")
+@apart
+def test_an_etcd_under_tls(room):
+    if not shutil.which("openssl"):
+        return
+    key, certificate = f"{room.path}/key.pem", f"{room.path}/certificate.pem"
+    subprocess.run(["openssl", "req", "-x509", "-newkey", "rsa:2048", "-nodes", "-keyout", key, "-out", certificate, "-days", "2", "-subj", "/CN=etcd", "-addext", "subjectAltName=IP:127.0.0.1"],
+                   check=True, capture_output=True)
+    try:
+        os.environ["SSL_CERT_FILE"] = certificate
+        etcds = Etcds(room, 1, "--cert-file", certificate, "--key-file", key, scheme="https")
+        group = Group(room, etcds.text(), 2)
+        group.settled(seconds=60)
+        group.step(3)
+        group.settled(seconds=60)
+    finally:
+        del os.environ["SSL_CERT_FILE"]
+    group.kill(0)
+    group.start(0)
+    group.feeds[0].sees("feed store - Away: https://127.0.0.1:[0-9]+: .*certificate verify failed")
 
 
 # ---- days of several machines

@@ -200,7 +200,11 @@ def test_a_store_that_was_put_back_goes_on_from_what_a_machine_knows(room):
     found = again.load(newest)
     assert (found.entry, found.life) == (newest.entry, "life 5.0"), "what viewers have isn't given again under other numbers"
     again.write(found)
-    other = replica(keys, clock, "m1").load(newest)
+    late = replica(keys, clock, "m1")
+    keys.pairs, there = dict(backup), keys.pairs
+    assert late.load(newest) is newest, "a machine that doesn't lead waits for the one that does"
+    keys.pairs = there
+    other = late.load(newest)
     assert other.life == "life 5.0" and other.renditions["news"].controller == Controller(), "the controllers of another machine are looked at anew"
 
 
@@ -289,6 +293,20 @@ def test_decision_files_of_all_machines(room):
     folders[1].look()
     one.read_files()
     assert not folders[0].read().files, "one that is removed is taken out"
+    path = room.write("m2/b3.json", decided(("b3", 1)))
+    folders[1].look()
+    backup = dict(keys.pairs)
+    path4 = room.write("m2/b0.json", decided(("b0", 1)))
+    folders[1].look()
+    os.unlink(path)
+    keys.pairs = backup
+    two.read_files()
+    folders[1].forget()
+    folders[1].look()
+    one.read_files()
+    assert [*folders[0].read().files] == ["b0.json"], "a store that was put back has what the folder has"
+    os.unlink(path4)
+    folders[1].look()
     said = []
     folders[1].own.say = lambda *what: said.append(what)
     with open(f"{room.path}/m2/b4.json", "wb") as it:
