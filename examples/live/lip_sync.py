@@ -74,12 +74,12 @@ def film(path: str, seconds: float, rate: int, sound: int, is_ad: bool = False) 
     os.remove(f"{path}.wav")
 
 
-def is_of_ad(red: int) -> bool:
+def is_of_ad(red: float) -> bool:
     """Whether pictures whose red is so are those of an ad."""
     return red > sum(DARK) / 2
 
 
-def is_tone_of_ad(crossings: int) -> bool:
+def is_tone_of_ad(crossings: float) -> bool:
     """Whether a beep that changes its sign so often within 0.03 s is an ad's."""
     return crossings < 0.03 * sum(TONES)
 
@@ -144,8 +144,8 @@ def beeps_in(room: str, path: str) -> tuple[list[float], float]:
 
 def apart(flashes: list[float], beeps: list[float]) -> list[tuple[float, float]]:
     """How long after each flash its beep comes, in seconds; nothing for one without a beep."""
-    found = [(at, min((beep - at for beep in beeps if abs(beep - at) < NEAR), key=abs, default=None)) for at in flashes]
-    return [(at, by) for at, by in found if by is not None]
+    near = [(at, [beep - at for beep in beeps if abs(beep - at) < NEAR]) for at in flashes]
+    return [(at, min(its, key=abs)) for at, its in near if its]
 
 
 def told(found: list[tuple[float, float]]) -> str:
