@@ -1,7 +1,7 @@
 """Films that flash and beep at each full second, and how far flashes and beeps are apart in what is played of them.
 
 ffmpeg decodes what is between two discontinuities, by the timestamps of its own: a player puts the pictures and the sound of one Discontinuity Sequence
-Number in one place (RFC 8216, 6.2.4). Chromium plays a list in a page that tells of each flash and beep. The colour before a flash and the pitch of a beep
+Number in one place (RFC 8216, 6.2.4). Chromium plays a list in a page that tells of each flash and beep. The colour after a flash and the pitch of a beep
 say which film each of them is of.
 """
 from __future__ import annotations
@@ -25,12 +25,12 @@ RESTS = ("-bf", "0", "-g", str(2 * RATE), "-keyint_min", str(2 * RATE), "-sc_thr
 DARK, TONES = (16, 64), (880, 440)  # the red of the pictures, and the pitch: of the programme, and of an ad
 PAGE = """<!doctype html><title>lip sync</title><video id=video crossorigin=anonymous></video><script>
 const flashes = [], beeps = [], pen = new OffscreenCanvas(1, 1).getContext("2d", { willReadFrequently: true });
-let light = false, dark = 0, quiet = 0, since = 0, before = 0, fault = "";
+let light = false, quiet = 0, since = 0, before = 0, fault = "";
 function seen(now, frame) {
   pen.drawImage(video, 0, 0, 1, 1);
   const red = pen.getImageData(0, 0, 1, 1).data[0], is = red > 128;
-  if (is && !light) flashes.push([frame.expectedDisplayTime / 1000, dark]);
-  if (!is) dark = red;
+  if (is && !light) flashes.push([frame.expectedDisplayTime / 1000, 0]);
+  if (!is && light && flashes.length) flashes.at(-1)[1] = red;
   light = is;
   video.requestVideoFrameCallback(seen);
 }
@@ -50,7 +50,7 @@ ear.onaudioprocess = (it) => {
     quiet = 0;
   }
 };
-function taken() { const now = [flashes.splice(0), since > 4800 ? beeps.splice(0) : beeps.splice(0, beeps.length - 1)]; return now; }
+function taken() { const now = [light ? flashes.splice(0, Math.max(0, flashes.length - 1)) : flashes.splice(0), since > 4800 ? beeps.splice(0) : beeps.splice(0, Math.max(0, beeps.length - 1))]; return now; }
 video.src = new URLSearchParams(location.search).get("list");
 video.play();
 </script>"""
@@ -74,12 +74,12 @@ def film(path: str, seconds: float, rate: int, sound: int, is_ad: bool = False) 
     os.remove(f"{path}.wav")
 
 
-def is_of_ad(red: int) -> bool:
+def is_of_ad(red: float) -> bool:
     """Whether pictures whose red is so are those of an ad."""
     return red > sum(DARK) / 2
 
 
-def is_tone_of_ad(crossings: int) -> bool:
+def is_tone_of_ad(crossings: float) -> bool:
     """Whether a beep that changes its sign so often within 0.03 s is an ad's."""
     return crossings < 0.03 * sum(TONES)
 
@@ -144,8 +144,8 @@ def beeps_in(room: str, path: str) -> tuple[list[float], float]:
 
 def apart(flashes: list[float], beeps: list[float]) -> list[tuple[float, float]]:
     """How long after each flash its beep comes, in seconds; nothing for one without a beep."""
-    found = [(at, min((beep - at for beep in beeps if abs(beep - at) < NEAR), key=abs, default=None)) for at in flashes]
-    return [(at, by) for at, by in found if by is not None]
+    near = [(at, [beep - at for beep in beeps if abs(beep - at) < NEAR]) for at in flashes]
+    return [(at, min(its, key=abs)) for at, its in near if its]
 
 
 def told(found: list[tuple[float, float]]) -> str:

@@ -104,7 +104,7 @@ class Channel:
     def begin(self, now: int) -> None:
         """Takes in what an earlier program kept that isn't over at the instant `now`, in nanoseconds from 1970."""
         self.given.begin(now)
-        ahead = self.given.ahead()
+        ahead = self.given.ahead().values()
         self.asked_for = {it.start for it in ahead if it.start is not None}
         self.asked_at = max((it.at for it in ahead if it.start is None), default=0)
 
@@ -186,7 +186,9 @@ class Channel:
             return Pod(lacks=found.lacks)
         pod = filling.fill(found, planned, functools.partial(self.ready, ladder=ladder, is_alone=is_alone), self.slate(ladder, is_alone))
         with self.lock:
-            pod, self.over = filling.balanced(pod, self.over)
+            pod, over = filling.balanced(pod, self.over)
+            if question.start is not None:  # (a question by hand is of no break, and its pod isn't shown)
+                self.over = over
         return Pod(pod.ready, pod.ads, found.lacks + pod.lacks)
 
     def search(self, client: Asking, planned: int | None, until: float) -> Found:
@@ -250,8 +252,8 @@ class Channel:
         """What was given ahead for the break that begins at `start`, the newest one; none if nothing was. It is taken once."""
         if start is None:
             return None
-        near = [it for it in self.given.ahead() if it.start is None or abs(it.start - start) <= NEAR]
-        found = next((it for it in reversed(near) if self.given.take(it)), None)
+        near = [key for key, it in self.given.ahead().items() if it.start is None or abs(it.start - start) <= NEAR]
+        found = next((it for key in reversed(near) if (it := self.given.take(key)) is not None), None)
         if found is not None and found.start is None:
             self.asked_at = 0  # (the next one is asked for at once)
         return found
@@ -279,9 +281,9 @@ class Channel:
         """Asks for the ads of each break that will begin soon after `now`, in nanoseconds from 1970, and forgets what came to nothing."""
         section, age = self.section, int(2 * (self.section.prefetch or AHEAD) * SECOND)
         self.given.forget(now)
-        for it in self.given.ahead():
+        for key, it in self.given.ahead().items():
             if now - it.at > age if it.start is None else it.start + NEAR <= now:
-                self.given.take(it)
+                self.given.take(key)
         if section.schedule is not None:
             ahead = int((section.prefetch or AHEAD) * SECOND)
             coming = [(start, planned) for start, planned in self.schedule(section.schedule) if now - NEAR < start <= now + ahead and start not in self.asked_for]

@@ -5,12 +5,11 @@ Each is a file in a folder of its own, which is there as a whole or not at all. 
 from __future__ import annotations
 
 import contextlib
-import dataclasses
 import json
 import threading
 from dataclasses import dataclass
 from pathlib import Path
-from typing import Any
+from typing import Any, NamedTuple
 
 from .ad_server import Found, Slot
 from .asking import file_name
@@ -37,15 +36,35 @@ class Given:
     is_ahead: bool = False
     body: str = ""
 
+
+class Kept(NamedTuple):
+    """What was given as it is on disk, its `text`; the rest as in Given. (A thousand ads as values would be looked through for garbage while a list waits.)"""
+
+    start: int | None
+    at: int
+    is_ahead: bool
+    text: bytes
+
     def is_over(self, now: int) -> bool:
         """Whether it is of no use any more at the instant `now`."""
         return now > min(max(self.at + LASTS, (self.start or 0) + AFTER), self.at + LONGEST)
 
+    def given(self) -> Given:
+        """It as a value; raises what `given_of` does."""
+        return given_of(json.loads(self.text))
+
 
 def said_of(it: Given) -> dict[str, Any]:
     """What was given, `it`, as JSON has it; what was lacking is left out."""
-    slots = [{"ads": [dataclasses.asdict(ad) for ad in slot.ads], "substitutes": slot.substitutes} for slot in it.found.slots]
-    return {"key": it.key, "start": it.start, "at": it.at, "ahead": it.is_ahead, "body": it.body, "slots": slots, "buffet": [dataclasses.asdict(ad) for ad in it.found.buffet]}
+    slots = [{"ads": [said_of_ad(ad) for ad in slot.ads], "substitutes": slot.substitutes} for slot in it.found.slots]
+    return {"key": it.key, "start": it.start, "at": it.at, "ahead": it.is_ahead, "body": it.body, "slots": slots, "buffet": [said_of_ad(ad) for ad in it.found.buffet]}
+
+
+def said_of_ad(ad: Ad) -> dict[str, Any]:
+    """The `ad` as JSON has it. (dataclasses.asdict takes ten times as long, and a list waits for the answer.)"""
+    files = [{"url": it.url, "type": it.type, "bitrate": it.bitrate, "is_mezzanine": it.is_mezzanine} for it in ad.files]
+    tracked = {"impressions": ad.tracked.impressions, "errors": ad.tracked.errors, "events": ad.tracked.events}
+    return {"id": ad.id, "sequence": ad.sequence, "length": ad.length, "files": files, "tracked": tracked}
 
 
 def given_of(said: Any) -> Given:
@@ -81,61 +100,64 @@ class GivenAds:
 
     def __init__(self, folder: Path) -> None:
         self.folder, self.lock = folder, threading.Lock()
-        self.known: dict[str, Given] = {}  # by their questions, the oldest first
+        self.known: dict[str, Kept] = {}  # by their questions, the oldest first
 
     def begin(self, now: int) -> None:
         """Takes in what an earlier program kept that isn't over at the instant `now`."""
-        found: list[Given] = []
+        found: list[tuple[str, Kept]] = []
         for path in list(self.folder.glob("*.json")) if self.folder.is_dir() else []:
             try:
                 with open(path, "rb") as it:
-                    one = given_of(json.loads(it.read(MOST_BYTES)))
+                    text = it.read(MOST_BYTES)
+                one = given_of(json.loads(text))
             except (OSError, ValueError, TypeError, KeyError, AttributeError, RecursionError):
                 remove(path)
                 continue
-            if one.is_over(now) or one.at > now:
+            kept = Kept(one.start, one.at, one.is_ahead, text)
+            if kept.is_over(now) or one.at > now:
                 remove(path)
             else:
-                found.append(one)
+                found.append((one.key, kept))
         with self.lock:
-            self.known = {it.key: it for it in sorted(found, key=lambda it: it.at)}
+            self.known = dict(sorted(found, key=lambda it: it[1].at))
         self.forget(now)
 
     def of(self, key: str) -> Given | None:
         """What was given for the question `key`; none if nothing was."""
         with self.lock:
-            return self.known.get(key)
+            found = self.known.get(key)
+        return None if found is None else found.given()
 
-    def ahead(self) -> list[Given]:
-        """What was asked for before its question came, the oldest first."""
+    def ahead(self) -> dict[str, Kept]:
+        """What was asked for before its question came, by what it is known, the oldest first."""
         with self.lock:
-            return [it for it in self.known.values() if it.is_ahead]
+            return {key: it for key, it in self.known.items() if it.is_ahead}
 
     def put(self, it: Given) -> None:
         """Keeps `it`, in place of what was given before for its question. Raises OSError if it can't be written: then the program alone knows it."""
+        text = json.dumps(said_of(it)).encode() + b"\n"
         with self.lock:
             self.known.pop(it.key, None)
-            self.known[it.key] = it
+            self.known[it.key] = Kept(it.start, it.at, it.is_ahead, text)
         self.folder.mkdir(parents=True, exist_ok=True)
-        write_aside(self.path(it.key), json.dumps(said_of(it)).encode() + b"\n")
+        write_aside(self.path(it.key), text)
 
-    def take(self, it: Given) -> bool:
-        """Takes `it` out, which is used once; whether it was there yet."""
+    def take(self, key: str) -> Given | None:
+        """Takes out what was given for `key`, which is used once; none if it isn't there any more."""
         with self.lock:
-            is_there = self.known.get(it.key) is it
-            if is_there:
-                self.known.pop(it.key)
-        if is_there:
-            remove(self.path(it.key))
-        return is_there
+            found = self.known.pop(key, None)
+        if found is None:
+            return None
+        remove(self.path(key))
+        return found.given()
 
     def forget(self, now: int) -> None:
         """Forgets what is over at the instant `now`, and the oldest if there are too many."""
         with self.lock:
-            its = list(self.known.values())
-        for place, it in enumerate(its):
+            its = list(self.known.items())
+        for place, (key, it) in enumerate(its):
             if it.is_over(now) or len(its) - place > MOST:
-                self.take(it)
+                self.take(key)
 
     def path(self, key: str) -> Path:
         """The file of what was given for the question `key`."""

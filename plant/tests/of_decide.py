@@ -620,6 +620,9 @@ def test_both_makings_of_an_ad_are_given_by_turns(room):
         return decide.ask(f"t{number}", planned=4.0)[1]["breaks"][0]["ads"][0]["segments"][0]["uri"].split("/")[-3]
     until(lambda: decide.figure("adsplice_decide_made_total") == 2, 90, "its other making")
     seen = [folder(n) for n in range(12)]
+    for n in range(9):
+        decide.ask(f"hand{n}", planned=4.0, start=None)
+    assert folder(12) != seen[-1], seen  # (what is asked by hand isn't shown, and doesn't count)
     assert len(set(seen)) == 2 and all(seen[n] != seen[n + 1] for n in range(2, 11)), seen
     frames = []
     for name in sorted(set(seen), key=len):

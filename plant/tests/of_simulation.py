@@ -20,7 +20,7 @@ from simulation.viewers import Ads, Viewers  # noqa: E402
 from simulation.world import RulesController, World  # noqa: E402
 
 NEEDS = ()
-DRAWN = range(1, 25)  # seeds of days
+DRAWN = (*range(1, 25), *range(3_000_001, 3_000_009))  # seeds of days; of the latter each rendition is of a kind of its own
 FAILED = os.path.join(os.path.dirname(os.path.abspath(__file__)), "failed_seeds")
 
 

@@ -77,6 +77,7 @@ class Plan:
 
 SPELLED = 1_000_000  # from this seed on packagers spell their segments otherwise in each list, in one of so many ways:
 WAYS = 6
+OWN = 3_000_000  # from this seed on each rendition is of a kind of its own, and has nobody's segments; packagers spell as they do before SPELLED
 LONGER = 2_000_000  # from this seed on sound, if there is some, has segments twice as long; packagers spell as they do before SPELLED
 STYLES = ("cues", "cues", "endless cues", "ranges", "ranges")
 
@@ -147,6 +148,8 @@ def draw(seed: int, each: float = 20.0) -> Plan:
     plan = Plan(seed, names, length, target, dice.choice((6, 8, 12)), dice.choice((0, 0, 20, 700, -1)), style, speakers, dice.random() < 0.5,
                 dice.random() < 0.7, asks, dice.random() < 0.3, dice.random() < 0.8)
     breaks, faults = breaks_of(dice, length, target), faults_of(dice, length, names, each)
+    if seed >= OWN:
+        return Plan(**{**vars(plan), "breaks": breaks, "faults": faults, "kinds": True})
     if seed >= LONGER:
         return Plan(**{**vars(plan), "breaks": breaks, "faults": faults, "long": tuple(it for it in names if it == "a")})
     if seed >= SPELLED:

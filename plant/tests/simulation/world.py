@@ -203,7 +203,7 @@ class World:
         lost = {cut_of(it.uri) for one in self.packagers.values() for it in one.all if cut_of(it.uri) > min(shown, default=0)} - own - shown.keys()
         for cut in lost:
             past = min((at for number, at in shown.items() if number > cut), default=None)
-            read = [at for known in self.read.values() for uri, at in known.items() if cut_of(uri) == cut]
+            read = [at for known in ([viewers.read] if self.plan.kinds else self.read.values()) for uri, at in known.items() if cut_of(uri) == cut]
             if past is not None and all(at > past for at in read):
                 return True
         return False
