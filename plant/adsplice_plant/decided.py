@@ -234,18 +234,7 @@ def give_file(turn: Turn, name: str, it: File) -> None:
         return
     if it.looked_at is not None and not it.is_there:
         return
-    if unfit := unfit_of(turn, it.bodies):
-        refuse(turn, name, it, "Unequal", f"the renditions' files don't have the same breaks, with ads and segments of the same lengths: {unfit}")
-        return
-    if untaken := untaken_of(turn, it.bodies):
-        refuse(turn, name, it, "Unequal", untaken)
-        return
-    if it.kind == WITHDRAW and (begun := begun_of(turn, it.ids)):
-        turn.tell_decision(f"decisions/{name}", 409, "J9 Used", f"{', '.join(begun)} has begun, and keeps its pod")
-        finish(turn, name, it)
-        return
-    if wrong := note_wrong(turn, it.bodies):
-        refused_file(turn, wrong[0], Decided(0, it.bodies, it.kind, it.ids, name), 422, wrong[1])
+    if is_turned_down(turn, name, it):
         return
     if presence.waits(turn, name, it):
         return
@@ -268,6 +257,23 @@ def give_file(turn: Turn, name: str, it: File) -> None:
     turn.set(over=tuple(id_ for id_ in turn.state.over if id_ not in it.ids))
     if it.kind == WITHDRAW:
         finish(turn, name, turn.state.files[name])
+
+
+def is_turned_down(turn: Turn, name: str, it: File) -> bool:
+    """Whether the file `it` of the `name`, which all renditions have, can't be given: the renditions' files differ, a list wouldn't take one, it withdraws
+    a break that has begun, or it is wrong by the rules. What becomes of it is noted and told."""
+    if unfit := unfit_of(turn, it.bodies):
+        refuse(turn, name, it, "Unequal", f"the renditions' files don't have the same breaks, with ads and segments of the same lengths: {unfit}")
+    elif untaken := untaken_of(turn, it.bodies):
+        refuse(turn, name, it, "Unequal", untaken)
+    elif it.kind == WITHDRAW and (begun := begun_of(turn, it.ids)):
+        turn.tell_decision(f"decisions/{name}", 409, "J9 Used", f"{', '.join(begun)} has begun, and keeps its pod")
+        finish(turn, name, it)
+    elif wrong := note_wrong(turn, it.bodies):
+        refused_file(turn, wrong[0], Decided(0, it.bodies, it.kind, it.ids, name), 422, wrong[1])
+    else:
+        return False
+    return True
 
 
 def with_subtitles(turn: Turn, bodies: Mapping[str, bytes]) -> dict[str, bytes]:

@@ -266,14 +266,19 @@ def test_how_long_a_machine_is_behind_is_known_while_lines_come(room):
         sys.setswitchinterval(interval)
 
 
-def test_decision_files_of_all_machines(room):
+def sharing(room):
+    """A store, two machines, and the folders of decisions that they share."""
     clock = Clock()
     keys = Keys(clock)
-    one, two = replica(keys, clock, "m1"), replica(keys, clock, "m2")
-    folders = []
-    for name, it in (("m1", one), ("m2", two)):
+    machines, folders = [replica(keys, clock, name) for name in ("m1", "m2")], []
+    for name, it in zip(("m1", "m2"), machines):
         os.makedirs(f"{room.path}/{name}")
         folders.append(SharedFolder(DecisionFolder("news", Path(room.path) / name, 7, lambda *_: None), it))
+    return keys, *machines, folders
+
+
+def test_decision_files_of_all_machines(room):
+    keys, one, two, folders = sharing(room)
     room.write("m2/b1.json", decided(("b1", 1)))
     two.read_files()
     folders[1].look()
@@ -293,10 +298,14 @@ def test_decision_files_of_all_machines(room):
     folders[1].look()
     one.read_files()
     assert not folders[0].read().files, "one that is removed is taken out"
+
+
+def test_a_store_that_was_put_back_has_the_decision_files_of_the_folder(room):
+    keys, one, two, folders = sharing(room)
     path = room.write("m2/b3.json", decided(("b3", 1)))
     folders[1].look()
     backup = dict(keys.pairs)
-    path4 = room.write("m2/b0.json", decided(("b0", 1)))
+    room.write("m2/b0.json", decided(("b0", 1)))
     folders[1].look()
     os.unlink(path)
     keys.pairs = backup
@@ -304,9 +313,11 @@ def test_decision_files_of_all_machines(room):
     folders[1].forget()
     folders[1].look()
     one.read_files()
-    assert [*folders[0].read().files] == ["b0.json"], "a store that was put back has what the folder has"
-    os.unlink(path4)
-    folders[1].look()
+    assert [*folders[0].read().files] == ["b0.json"]
+
+
+def test_a_decision_file_that_is_too_large_for_the_store_is_told(room):
+    _, one, _, folders = sharing(room)
     said = []
     folders[1].own.say = lambda *what: said.append(what)
     with open(f"{room.path}/m2/b4.json", "wb") as it:
