@@ -12,10 +12,10 @@ from collections.abc import Iterator
 
 LIMIT, OPERATORS_LIMIT = 30, 25  # words of a sentence
 OPERATING = tuple(f"docs/operating/{it}.md" for it in ("README", "ads", "capacity", "channel", "faults", "install", "ladder", "machines", "monitoring", "security", "trials", "upgrade"))
-OPERATORS = ("README.md", "docs/first_hour.md", *OPERATING, "docs/SIGNALS.md", "docs/PACKAGERS.md")  # pages that an operator reads
-NOT_YET = ("docs/ADS.md", "docs/DECISION_FILES.md", "docs/REPLICAS.md")  # pages of an operator whose sentences are still longer, or have such words
+OPERATORS = ("README.md", "docs/first_hour.md", *OPERATING, "docs/SIGNALS.md", "docs/PACKAGERS.md",
+             "docs/ADS.md", "docs/DECISION_FILES.md", "docs/REPLICAS.md")  # pages that an operator reads
 PAGES = ("CHANGELOG.md", "CONTRIBUTING.md", "bench/HISTORY.md", "bench/README.md", "crates/README.md", "docs/ARCHITECTURE.md", "docs/CONFORMANCE.md", "docs/DECISIONS.md", "docs/LIBRARY.md",
-         "docs/PERFORMANCE.md", "docs/PROOF.md", "docs/TESTING.md", "plant/README.md", *OPERATORS, *NOT_YET)
+         "docs/PERFORMANCE.md", "docs/PROOF.md", "docs/TESTING.md", "plant/README.md", *OPERATORS)
 # Words with which a sentence hides who acts, whom it is of, or when.
 HIDING = re.compile(r"\b(?:is|are|was|were|be|been) (?:told|looked at|looked for)\b|\bso many\b|\b[Ww]hoever\b|\b[Aa]t once\b")
 ITEM = re.compile(r"^\s*(?:- |\d+\. )")
