@@ -66,8 +66,9 @@ def as_it_ran(stands: Standing, line: str) -> str:
         return line
     if run.is_turned():
         return f'{without(line, ENDED)},END-DATE="{instant_text(run.end)}"'
-    length = length_of(found)
-    if length is not None and abs(run.start + length - run.end) <= TOLERANCE:
+    length, stated = length_of(found), packaged.instant_of(found.said.get("END-DATE", ""))
+    is_by_other_clock = stated is not None and stated <= run.start
+    if length is not None and abs(run.start + length - run.end) <= TOLERANCE and not is_by_other_clock:
         return line
     return f"{without(line, ENDS)},DURATION={seconds_text(run.end - run.start)}"
 
