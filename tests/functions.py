@@ -49,6 +49,8 @@ def owner_named(head):
     """How a check names what an impl is of: the type, and after it the trait with the types that it is of, as in
     CountedSink or FaultFromAllocError."""
     trait, name, of = parts_of(head)
+    if re.match(rf"<(?:[^<>]*\W)?{name}\b", head):  # (an impl of a trait for each type that a parameter stands for)
+        name = "Any"
     if not trait and of and len(of) > 1:  # (not a parameter: as in Shared+Text)
         return f"{name}+{of}"
     return name + "".join(re.findall(r"(\w+)(?!\w|::)", re.sub(r"<T>", "", trait)))

@@ -124,6 +124,10 @@ OTHERS = (
         ("docs/operating/security.md", "{mib} MiB over all connections"),
         ("docs/PROOF.md", "would pass {mib} MiB: nothing"),
         ("README.md", "{mib} MiB of unfinished requests"))),
+    Limit("the memory of unfinished replies", ("crates/connections/src/table.rt", "MAX_REPLIES: usize = {n:_};\n"), (
+        ("docs/DECISIONS.md", "{mib} MiB for unfinished replies"),
+        ("docs/operating/security.md", "| memory of unfinished replies | {mib} MiB over all"),
+        ("README.md", "keep at most {mib} MiB"))),
     Limit("the time of a connection", (CONNECTIONS, "serving_nanos = {n}\n"), (
         ("crates/connections/src/deadlines.rt", "SERVING_MILLIS: u64 = {ms:_};"),
         ("docs/DECISIONS.md", "\n{s} seconds for the request, from its accept on, and {s} for the reply"),
@@ -177,7 +181,7 @@ def text_of(path: str, top: str = TOP) -> str:
 def number_of(limit: Limit, top: str = TOP) -> int:
     """The number that a limit's definition states. Fails if it isn't there."""
     path, pattern = limit.definition
-    found = re.findall(re.escape(pattern).replace(r"\{n\}", "([0-9]+)"), text_of(path, top))
+    found = re.findall(re.sub(r"\\\{n(:_)?\\\}", "([0-9_]+)", re.escape(pattern)), text_of(path, top))
     if len(found) != 1:
         raise ValueError(f"{path} doesn't define {limit.said} once")
     return int(found[0])

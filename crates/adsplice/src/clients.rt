@@ -1,4 +1,7 @@
 //! The clients by place: who is there, in which order they came, and what is told of one that goes.
+ghost use Rattle.std.specs.Prelude.{◌≡◌};
+ghost use Rattle.connections.specs.Lines.{after, leaves};
+
 use connections::{
     Arrivals, Client, Connections, Line, PLACES, Phase, Seat, Socket, quiet_deadline,
 };
@@ -16,6 +19,8 @@ pub struct Clients {
     pub(crate) ending: Arrivals,
     // Those of which something came last, with the instants from which on they are quiet.
     pub(crate) heard: Arrivals,
+    // Those that are answered, in the order in which they last took bytes of their replies.
+    pub(crate) took: Arrivals,
     // Those whose next bytes have no room.
     pub(crate) short: Arrivals,
     // Those whose requests are whole, and may take long.
@@ -31,6 +36,7 @@ impl Clients {
             served: Arrivals::new(alloc, PLACES)?,
             ending: Arrivals::new(alloc, PLACES)?,
             heard: Arrivals::new(alloc, PLACES)?,
+            took: Arrivals::new(alloc, PLACES)?,
             short: Arrivals::new(alloc, PLACES)?,
             line: Line::new(alloc, PLACES)?,
         })
@@ -42,15 +48,20 @@ impl Clients {
     }
 
     /// The client at `place`, from 0, is neither heard nor answered any more.
-    pub(crate) fn stop_serving(&mut self, place: usize) {
+    pub(crate) fn stop_serving(&mut self, place: usize)
+        ensures { self.new.line ≡ after (leaves place) self.old.line }
+    {
         self.served.remove(place);
         self.heard.remove(place);
+        self.took.remove(place);
         self.short.remove(place);
         self.line.leave(place);
     }
 
     /// The seat of the client at `place`, from 0, is vacant from now on, if one is there. Its connection is closed.
-    pub(crate) fn give_back(&mut self, place: usize) {
+    pub(crate) fn give_back(&mut self, place: usize)
+        ensures { self.new.line ≡ self.old.line }
+    {
         if let Some(client) = self.at.get_mut(place) {
             if let Some(client) = client.take() {
                 let _ = self.vacant.push(client.close());
@@ -59,10 +70,22 @@ impl Clients {
     }
 
     /// Something came of the client at `place`, from 0, at the instant `now`: for a while it isn't quiet.
-    pub(crate) fn note_heard(&mut self, place: usize, now: Instant) {
+    pub(crate) fn note_heard(&mut self, place: usize, now: Instant)
+        ensures { self.new.line ≡ self.old.line }
+    {
         self.heard.remove(place);
         // (its memory was taken before: what isn't noted isn't given up for others)
         let _ = self.heard.push(place, quiet_deadline(now));
+    }
+
+    /// The client at `place`, from 0, has a reply, or took bytes of it, at the instant `now`: of all that are answered it is the
+    /// last to be given up for memory.
+    pub(crate) fn note_took(&mut self, place: usize, now: Instant)
+        ensures { self.new.line ≡ self.old.line }
+    {
+        self.took.remove(place);
+        // (its memory was taken before)
+        let _ = self.took.push(place, now);
     }
 }
 

@@ -1,20 +1,23 @@
 //! Whose turn it is of all clients, who is let in, and whose time is up.
-#![tactic(auto, using(connections::proofs::Leading::stays, connections::proofs::Leading::by_one, connections::proofs::Leading::and_then))]
+#![tactic(auto, using(connections::proofs::Leading::stays, connections::proofs::Leading::by_one, connections::proofs::Leading::and_then, connections::proofs::LineLeading::line_stays, connections::proofs::LineLeading::line_goes_by_one, connections::proofs::LineLeading::line_goes_on))]
 
-ghost use Rattle.std.specs.Prelude.{◌<◌, length};
+ghost use Rattle.std.specs.Prelude.{◌≡◌, ◌<◌, length};
+ghost use Rattle.connections.specs.Inner.LineSteps.{LineGoesOn};
+ghost use Rattle.connections.specs.Lines.{LineIsCalled};
 ghost use Rattle.connections.specs.Runs.{HasRun};
 
 use crate::clients::{Clients, fault_at_socket, was_socket_granted};
 use crate::door::{Door, Opened};
 use crate::faults::Faults;
 use connections::{
-    Admission, Call, Client, Connections, NonBlocking, PLACES, Part, Phase, Seat, Socket, Turn,
+    Admission, Call, Client, Connections, MAX_REPLIES, NonBlocking, PLACES, Part, Phase, Seat, Socket, Turn,
     When, ending_deadline, has_come, serving_deadline,
 };
 use http_edge::{EdgeFault, MAX_CHANNELS};
 use mio::net::TcpStream;
 use mio::{Events, Token};
 use std::io;
+use std::marker::Model;
 use std::time::{Duration, Instant};
 
 // How many clients are let in before the others have their turn again.
@@ -35,6 +38,15 @@ pub struct Server {
     admission: Admission,
     door: Door,
     next_tick: Instant,
+}
+
+// What contracts see of a server is its line.
+impl Model for Server {
+    ghost use Rattle.connections.specs.Lines.{LineState};
+
+    ghost Value = { LineState };
+
+    ghost view = { λ s. s.clients.line };
 }
 
 fn server_tick_after(now: Instant) -> Instant {
@@ -65,7 +77,9 @@ impl Server {
     }
 
     /// Writes the line of the fault `text` to standard error, unless that would wait.
-    pub fn tell(&mut self, rt: &HostRuntime, text: &str) {
+    pub fn tell(&mut self, rt: &HostRuntime, text: &str)
+        ensures { self.new ≡ self.old }
+    {
         self.faults.tell(rt, text);
     }
 
@@ -82,7 +96,9 @@ impl Server {
     }
 
     /// Waits until a client is ready, or a tick has passed. `events` has the clients that are ready.
-    pub fn wait(&mut self, rt: &HostRuntime, events: &mut Events) -> io::Result<()> {
+    pub fn wait(&mut self, rt: &HostRuntime, events: &mut Events) -> io::Result<()>
+        ensures { self.new ≡ self.old }
+    {
         let patience = self.patience();
         self.opened.wait(rt, events, patience)
     }
@@ -98,7 +114,8 @@ impl Server {
 
     // Closes a connection, and has its seat for another.
     fn close(&mut self, connections: &mut Connections, place: usize)
-        ensures { HasRun connections.old connections.new }
+        ensures run { HasRun connections.old connections.new }
+        ensures line { LineGoesOn self.old self.new }
     {
         self.leave(connections, place);
         self.clients.stop_serving(place);
@@ -108,7 +125,8 @@ impl Server {
 
     // Waits for a client, or closes its connection if the system can't tell of it.
     fn watch(&mut self, connections: &mut Connections, place: usize, again: bool)
-        ensures { HasRun connections.old connections.new }
+        ensures run { HasRun connections.old connections.new }
+        ensures line { LineGoesOn self.old self.new }
     {
         let Some(Some(client)) = self.clients.at.get_mut(place) else {
             return;
@@ -127,7 +145,8 @@ impl Server {
 
     // Ends a connection whose reply is gone, or that is given up: what its client still sends is awaited for a while.
     fn finish(&mut self, connections: &mut Connections, place: usize, was_granted: bool)
-        ensures { HasRun connections.old connections.new }
+        ensures run { HasRun connections.old connections.new }
+        ensures line { LineGoesOn self.old self.new }
     {
         self.leave(connections, place);
         self.clients.stop_serving(place);
@@ -148,14 +167,17 @@ impl Server {
     }
 
     // Tells the fault of a connection that is given up.
-    fn tell_given_up(&mut self, rt: &HostRuntime, connections: &Connections, place: usize) {
+    fn tell_given_up(&mut self, rt: &HostRuntime, connections: &Connections, place: usize)
+        ensures { self.new ≡ self.old }
+    {
         if let Some(fault) = fault_at_socket(connections, place) {
             self.faults.tell(rt, fault.text());
         }
     }
 
     fn give_up(&mut self, rt: &HostRuntime, connections: &mut Connections, place: usize)
-        ensures { HasRun connections.old connections.new }
+        ensures run { HasRun connections.old connections.new }
+        ensures line { LineGoesOn self.old self.new }
     {
         self.tell_given_up(rt, connections, place);
         self.finish(connections, place, false);
@@ -163,7 +185,8 @@ impl Server {
 
     // Gives up a connection whose place, or whose file, another one needs.
     fn evict(&mut self, rt: &HostRuntime, connections: &mut Connections, place: usize)
-        ensures { HasRun connections.old connections.new }
+        ensures run { HasRun connections.old connections.new }
+        ensures line { LineGoesOn self.old self.new }
     {
         self.tell_given_up(rt, connections, place);
         self.close(connections, place);
@@ -178,7 +201,8 @@ impl Server {
         turn: Turn,
         was_ending: bool,
     )
-        ensures { HasRun connections.old connections.new }
+        ensures run { HasRun connections.old connections.new }
+        ensures line { LineGoesOn self.old self.new }
     {
         match turn {
             Turn::Waits => self.watch(connections, place, false),
@@ -198,7 +222,8 @@ impl Server {
 
     // From now on a client has its time.
     fn give_time(&mut self, rt: &HostRuntime, connections: &mut Connections, place: usize)
-        ensures { HasRun connections.old connections.new }
+        ensures run { HasRun connections.old connections.new }
+        ensures line { LineGoesOn self.old self.new }
     {
         self.clients.served.remove(place);
         if self
@@ -221,7 +246,8 @@ impl Server {
         place: usize,
         was_asking: bool,
     )
-        ensures { HasRun connections.old connections.new }
+        ensures run { HasRun connections.old connections.new }
+        ensures line { LineGoesOn self.old self.new }
     {
         if was_asking && matches!(connections.phase(place), Phase::Answering(_)) {
             self.give_time(rt, connections, place);
@@ -231,7 +257,8 @@ impl Server {
     // The client at a place isn't heard on before there is room for its bytes. If there is no memory to note that, it is
     // disconnected.
     fn wait_for_room(&mut self, rt: &HostRuntime, connections: &mut Connections, place: usize)
-        ensures { HasRun connections.old connections.new }
+        ensures run { HasRun connections.old connections.new }
+        ensures line { LineGoesOn self.old self.new }
     {
         self.clients.short.remove(place);
         if self.clients.short.push(place, self.opened.now).is_err() {
@@ -242,7 +269,8 @@ impl Server {
 
     // For each client whose bytes have no room one is given up that is quiet, and of whose bytes some are held.
     fn make_room(&mut self, rt: &HostRuntime, connections: &mut Connections)
-        ensures { HasRun connections.old connections.new }
+        ensures run { HasRun connections.old connections.new }
+        ensures line { LineGoesOn self.old self.new }
     {
         for _ in 0..self.clients.short.len() {
             let quiet = self
@@ -259,7 +287,8 @@ impl Server {
     // Those whose bytes had no room are heard on, as far as there is room now.
     fn hear_short(&mut self, rt: &HostRuntime, connections: &mut Connections, block: &mut [u8])
         requires { 0 < length block.old }
-        ensures { HasRun connections.old connections.new }
+        ensures run { HasRun connections.old connections.new }
+        ensures line { LineGoesOn self.old self.new }
     {
         for _ in 0..self.clients.short.len() {
             let short = self
@@ -283,7 +312,8 @@ impl Server {
         block: &mut [u8],
     )
         requires { 0 < length block.old }
-        ensures { HasRun connections.old connections.new }
+        ensures run { HasRun connections.old connections.new }
+        ensures line { LineGoesOn self.old self.new }
     {
         if connections.held() >= held {
             return;
@@ -300,7 +330,8 @@ impl Server {
         block: &mut [u8],
     )
         requires { 0 < length block.old }
-        ensures { HasRun connections.old connections.new }
+        ensures run { HasRun connections.old connections.new }
+        ensures line { LineGoesOn self.old self.new }
     {
         let place = call.place();
         let Some(Some(client)) = self.clients.at.get_mut(place) else {
@@ -311,9 +342,38 @@ impl Server {
         }
         let was_ending = client.is_ending();
         let was_asking = connections.is_asking(place);
+        let was_left = connections.left_at(place);
         let turn = client.take_turn(call, connections, block);
         self.settle(rt, connections, place, turn, was_ending);
         self.time_reply(rt, connections, place, was_asking);
+        self.note_reply(connections, place, was_left);
+    }
+
+    // Notes that the reply to the client at a place is another one, or has another rest, than before its turn: then `was_left`
+    // bytes were left.
+    fn note_reply(&mut self, connections: &Connections, place: usize, was_left: usize)
+        ensures { self.new ≡ self.old }
+    {
+        let left = connections.left_at(place);
+        if left > 0 && left != was_left {
+            self.clients.note_took(place, self.opened.now);
+        }
+    }
+
+    // While replies that clients haven't taken keep too much memory, the client is disconnected that took bytes longest ago.
+    fn bound_replies(&mut self, rt: &HostRuntime, connections: &mut Connections)
+        ensures run { HasRun connections.old connections.new }
+        ensures line { LineGoesOn self.old self.new }
+    {
+        for _ in 0..self.clients.took.len() {
+            if connections.reply_memory() <= MAX_REPLIES {
+                return;
+            }
+            let Some(place) = self.clients.took.for_texts(connections) else {
+                return;
+            };
+            self.evict(rt, connections, place);
+        }
     }
 
     // Reads a part of a request. Whether its client may be heard on at once.
@@ -325,7 +385,8 @@ impl Server {
         block: &mut [u8],
     ) -> bool
         requires { 0 < length block.old }
-        ensures { HasRun connections.old connections.new }
+        ensures run { HasRun connections.old connections.new }
+        ensures line { LineGoesOn self.old self.new }
     {
         let place = part.place();
         let Some(Some(client)) = self.clients.at.get_mut(place) else {
@@ -353,7 +414,8 @@ impl Server {
         block: &mut [u8],
     )
         requires { 0 < length block.old }
-        ensures { HasRun connections.old connections.new }
+        ensures run { HasRun connections.old connections.new }
+        ensures line { LineGoesOn self.old self.new }
     {
         match when {
             When::AtOnce(call) => {
@@ -381,7 +443,8 @@ impl Server {
         block: &mut [u8],
     )
         requires { 0 < length block.old }
-        ensures { HasRun connections.old connections.new }
+        ensures run { HasRun connections.old connections.new }
+        ensures line { LineGoesOn self.old self.new }
     {
         for _ in 0..PARTS {
             match self.when(connections, place, block) {
@@ -403,6 +466,7 @@ impl Server {
     // When the client at a place has its turn, if one is there.
     fn when(&mut self, connections: &Connections, place: usize, block: &mut [u8]) -> Option<When>
         requires { 0 < length block.old }
+        ensures { self.new ≡ self.old }
     {
         match self.clients.at.get_mut(place) {
             Some(Some(client)) => Some(client.when(connections, block)),
@@ -418,7 +482,8 @@ impl Server {
         place: usize,
         channel: usize,
     )
-        ensures { HasRun connections.old connections.new }
+        ensures run { HasRun connections.old connections.new }
+        ensures line { LineGoesOn self.old self.new }
     {
         if self.clients.line.join(place, channel).is_err() {
             self.faults.tell(rt, EdgeFault::OutOfMemory.text());
@@ -426,18 +491,33 @@ impl Server {
         }
     }
 
+    // Calls the one whose turn it is of those that stand in line, and gives it its turn. Whether another may be called in this
+    // round: its request isn't answered.
+    fn call_one(&mut self, rt: &HostRuntime, connections: &mut Connections, block: &mut [u8]) -> bool
+        requires { 0 < length block.old }
+        ensures run { HasRun connections.old connections.new }
+        ensures line { LineIsCalled self.old self.new }
+    {
+        let Some(call) = self.clients.line.call_next() else {
+            return false;
+        };
+        self.serve(rt, connections, &call, block);
+        connections.is_asking(call.place())
+    }
+
     // Calls those that stand in line, by the turns of their channels, until the request of one is answered: at most one in a
-    // round. None is called twice.
+    // round. None is called twice. If somebody stands there, the one is called whose turn it is.
     fn call_line(&mut self, rt: &HostRuntime, connections: &mut Connections, block: &mut [u8])
         requires { 0 < length block.old }
-        ensures { HasRun connections.old connections.new }
+        ensures run { HasRun connections.old connections.new }
+        ensures line { LineIsCalled self.old self.new }
     {
-        for _ in 0..self.clients.line.len() {
-            let Some(call) = self.clients.line.call_next() else {
-                return;
-            };
-            self.serve(rt, connections, &call, block);
-            if !connections.is_asking(call.place()) {
+        let waiting = self.clients.line.len();
+        if !self.call_one(rt, connections, block) {
+            return;
+        }
+        for _ in 1..waiting {
+            if !self.call_one(rt, connections, block) {
                 return;
             }
         }
@@ -451,7 +531,8 @@ impl Server {
         block: &mut [u8],
     )
         requires { 0 < length block.old }
-        ensures { HasRun connections.old connections.new }
+        ensures run { HasRun connections.old connections.new }
+        ensures line { LineGoesOn self.old self.new }
     {
         if place == PLACES {
             self.on_somebody(rt, connections);
@@ -469,7 +550,8 @@ impl Server {
         block: &mut [u8],
     )
         requires { 0 < length block.old }
-        ensures { HasRun connections.old connections.new }
+        ensures run { HasRun connections.old connections.new }
+        ensures line { LineGoesOn self.old self.new }
     {
         for event in events.iter() {
             let Token(place) = event.token();
@@ -479,7 +561,8 @@ impl Server {
 
     // Somebody waits to be let in. If no file was left for it, the client that has asked longest is disconnected.
     fn on_somebody(&mut self, rt: &HostRuntime, connections: &mut Connections)
-        ensures { HasRun connections.old connections.new }
+        ensures run { HasRun connections.old connections.new }
+        ensures line { LineGoesOn self.old self.new }
     {
         if self.door != Door::NoFile {
             self.door = Door::Open;
@@ -512,7 +595,8 @@ impl Server {
         rt: &HostRuntime,
         connections: &mut Connections,
     ) -> Option<Seat<Socket>>
-        ensures { HasRun connections.old connections.new }
+        ensures run { HasRun connections.old connections.new }
+        ensures line { LineGoesOn self.old self.new }
     {
         if self.clients.vacant.is_empty() {
             let place = self
@@ -530,7 +614,8 @@ impl Server {
         connections: &mut Connections,
         stream: TcpStream,
     ) -> Option<usize>
-        ensures { HasRun connections.old connections.new }
+        ensures run { HasRun connections.old connections.new }
+        ensures line { LineGoesOn self.old self.new }
     {
         let seat = self.seat_for_one(rt, connections)?;
         let place = seat.place();
@@ -545,7 +630,9 @@ impl Server {
     }
 
     // The next client that waits, if one does.
-    fn next_client(&mut self) -> Option<TcpStream> {
+    fn next_client(&mut self) -> Option<TcpStream>
+        ensures { self.new ≡ self.old }
+    {
         match self.opened.next_client() {
             Ok(stream) => Some(stream),
             Err(door) => {
@@ -564,7 +651,8 @@ impl Server {
         block: &mut [u8],
     )
         requires { 0 < length block.old }
-        ensures { HasRun connections.old connections.new }
+        ensures run { HasRun connections.old connections.new }
+        ensures line { LineGoesOn self.old self.new }
     {
         if self.admission.is_open() {
             self.admission.let_in();
@@ -578,7 +666,8 @@ impl Server {
     // Lets in those who wait, at most `LET_IN` of them.
     fn let_in(&mut self, rt: &HostRuntime, connections: &mut Connections, block: &mut [u8])
         requires { 0 < length block.old }
-        ensures { HasRun connections.old connections.new }
+        ensures run { HasRun connections.old connections.new }
+        ensures line { LineGoesOn self.old self.new }
     {
         for _ in 0..LET_IN {
             if self.door != Door::Open || self.is_full(connections) {
@@ -597,7 +686,8 @@ impl Server {
 
     // Closes those that had time to end.
     fn close_late(&mut self, connections: &mut Connections)
-        ensures { HasRun connections.old connections.new }
+        ensures run { HasRun connections.old connections.new }
+        ensures line { LineGoesOn self.old self.new }
     {
         for _ in 0..PLACES {
             let overdue = self
@@ -620,7 +710,8 @@ impl Server {
         block: &mut [u8],
     )
         requires { 0 < length block.old }
-        ensures { HasRun connections.old connections.new }
+        ensures run { HasRun connections.old connections.new }
+        ensures line { LineGoesOn self.old self.new }
     {
         let Some(Some(client)) = self.clients.at.get_mut(place) else {
             return;
@@ -634,7 +725,8 @@ impl Server {
     // Looks at each client whose time is up, and that doesn't stand in line.
     fn give_up_late(&mut self, rt: &HostRuntime, connections: &mut Connections, block: &mut [u8])
         requires { 0 < length block.old }
-        ensures { HasRun connections.old connections.new }
+        ensures run { HasRun connections.old connections.new }
+        ensures line { LineGoesOn self.old self.new }
     {
         for _ in 0..PLACES {
             let overdue = self
@@ -651,7 +743,8 @@ impl Server {
     // At each tick: clients whose time is up are given up, and after an error it is tried again to let clients in.
     fn tick(&mut self, rt: &HostRuntime, connections: &mut Connections, block: &mut [u8])
         requires { 0 < length block.old }
-        ensures { HasRun connections.old connections.new }
+        ensures run { HasRun connections.old connections.new }
+        ensures line { LineGoesOn self.old self.new }
     {
         if !has_come(self.next_tick, self.opened.now) {
             return;
@@ -667,7 +760,8 @@ impl Server {
     }
 
     /// A round over `connections`: of the clients that `events` name, and of those that are let in then, each has its
-    /// turn if it reads what stands, or is answered. Of the others the first one has its request applied.
+    /// turn if it reads what stands, or is answered. Of the others the one is called whose turn it is, and has its request applied.
+    /// If replies keep too much memory then, those are disconnected that took bytes longest ago.
     /// Those whose bytes had no room are heard on if there is some now. Then those are given up whose time is up, and of whom
     /// nothing is unread. `block` is room for a read.
     pub fn round(
@@ -678,12 +772,14 @@ impl Server {
         block: &mut [u8],
     )
         requires { 0 < length block.old }
-        ensures { HasRun connections.old connections.new }
+        ensures run { HasRun connections.old connections.new }
+        ensures line { LineIsCalled self.old self.new }
     {
         let held = connections.held();
         self.serve_events(rt, connections, events, block);
         self.let_in(rt, connections, block);
         self.call_line(rt, connections, block);
+        self.bound_replies(rt, connections);
         self.hear_short_if_less(rt, connections, held, block);
         self.tick(rt, connections, block);
     }

@@ -5,8 +5,8 @@ ghost use Rattle.std.specs.Io.KnownBytes.{ReadConsumes, WriteAppends};
 ghost use Rattle.byte_streams.specs.Devices.{no_failures, next_count, one_more, as_many, failures_after_read, failures_after_write};
 ghost use Rattle.byte_streams.specs.Stands.{SourceStand, SinkStand};
 
+use crate::calls::{Reads, Writes};
 use std::io;
-use std::io::{Read, Write};
 use std::marker::Model;
 
 /// The room that a read offers at least.
@@ -126,11 +126,21 @@ impl<T> Counted<T> {
     }
 }
 
-impl<R: Read> Source for Counted<R> {
+impl<R: Reads> Source for Counted<R> {
     ghost stand = { λ c. record { remaining = R.remaining c.0; called = c.2; failed = c.1 } };
 
-    fn read(&mut self, buf: &mut [u8]) -> io::Result<usize> {
-        let answer = self.inner.read(buf);
+    fn read(&mut self, buf: &mut [u8]) -> io::Result<usize>
+        requires { READ_ROOM ≤ length buf.old }
+        ensures bound { ReadsAtMost result buf.new }
+        ensures bytes { ReadConsumes (R.remaining self.old.0) (R.remaining self.new.0) result
+            buf.new }
+        ensures failures { self.new.1 ≡ failures_after_read result self.old.1 }
+        ensures calls { self.new.2 ≡ next_count self.old.2 }
+
+        // It answers what the device answered of the same room.
+        ensures answered { R.answers_read self.old.0 self.new.0 buf.old buf.new result }
+    {
+        let answer = self.inner.read_once(buf);
         self.note_read(answer)
     }
 
@@ -143,11 +153,20 @@ impl<R: Read> Source for Counted<R> {
     }
 }
 
-impl<W: Write> Sink for Counted<W> {
+impl<W: Writes> Sink for Counted<W> {
     ghost stand = { λ c. record { contents = W.contents c.0; failed = c.1 } };
 
-    fn write(&mut self, buf: &[u8]) -> io::Result<usize> {
-        let answer = self.inner.write(buf);
+    fn write(&mut self, buf: &[u8]) -> io::Result<usize>
+        requires { 0 < length buf.now }
+        ensures bound { WritesAtMost result buf.now }
+        ensures bytes { WriteAppends (W.contents self.old.0) (W.contents self.new.0) result
+            buf.now }
+        ensures failures { self.new.1 ≡ failures_after_write result self.old.1 }
+
+        // It answers what the device answered of the same bytes.
+        ensures answered { W.answers_write self.old.0 self.new.0 buf.now result }
+    {
+        let answer = self.inner.write_once(buf);
         self.note_write(answer)
     }
 

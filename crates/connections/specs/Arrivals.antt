@@ -39,6 +39,15 @@ is_asking (Some (Asking bytes pieces)) = true
 is_asking (Some (Answering rest status)) = false
 is_asking None = false
 
+-- it is answered, and its reply isn't gone
+abbrev pub is_answered : Option Conversation → Bool
+is_answered (Some (Answering rest status)) = true
+is_answered (Some (Asking bytes pieces)) = false
+is_answered None = false
+
+abbrev pub is_being_answered : State → Arrival → Bool
+is_being_answered s arrival = is_answered (at s arrival.place)
+
 abbrev pub asks : State → Arrival → Bool
 asks s arrival = is_asking (at s arrival.place)
 
@@ -68,3 +77,7 @@ is_quiet s now line arrival = is_overdue now line arrival && holds s arrival
 -- for bytes that have no room the client is given up that is quiet, and of which something came longest ago
 abbrev pub gives_room : State → Instant → LineState → List Arrival → Option ℕ
 gives_room s now line heard = first_that (is_quiet s now line) heard
+
+-- for replies that have no room the client is given up that is answered, and that took something longest ago
+abbrev pub gives_text : State → List Arrival → Option ℕ
+gives_text s took = first_that (is_being_answered s) took

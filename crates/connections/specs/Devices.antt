@@ -1,5 +1,9 @@
 -- Clients' devices, no call of which waits: what one call comes to, and how a device stands.
-use Rattle.std.specs.Prelude.{◌≡◌, ℕ, ◌≤◌, List, take, Option, Some, None}
+use Rattle.std.specs.Prelude.{◌≡◌, ℕ, ◌≤◌, Bool, true, false, List, take, Option, Some, None, Result, Ok, Err, if◌then◌else◌}
+use Rattle.std.specs.IoError.{error_kind}
+use Rattle.std.specs.declared.io.Error.{Error}
+use Rattle.std.specs.declared.io.ErrorKind.{ErrorKind}
+use Rattle.std.specs.declared.io.ErrorKind.TheVariants as kind
 use Rattle.std.specs.Io.KnownBytes.{Keeps, Consumes, Appends, IsAtEnd}
 use Rattle.byte_streams.specs.Devices.{next_count}
 use Rattle.connections.specs.declared.devices.Passage.{Passage}
@@ -34,6 +38,21 @@ abbrev pub LookPasses : Option (List ℕ) → Passage → List ℕ → Type 0
 LookPasses left (Bytes n) buf = AreNext (take n buf) left
 LookPasses left WouldWait buf = Unit {0}
 LookPasses left HasFailed buf = Unit {0}
+
+-- ---- what a call of std comes to
+
+-- it failed because it would wait
+abbrev pub device_would_wait : ErrorKind → Bool
+device_would_wait kind.WouldBlock = true
+device_would_wait _ = false
+
+abbrev pub device_passage_of : Result ℕ Error → Passage
+device_passage_of (Ok n) = Bytes n
+device_passage_of (Err e) = if device_would_wait (error_kind e) then WouldWait else HasFailed
+
+-- a call comes to this by one of these answers
+abbrev pub ComesOf : (Result ℕ Error → Type 0) → Passage → Type 0
+ComesOf Answers passage = (answer : Result ℕ Error) × Answers answer × (passage ≡ device_passage_of answer)
 
 -- ---- how a device stands
 

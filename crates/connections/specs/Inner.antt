@@ -1,3 +1,3 @@
 pub mod Giving
-pub mod Passages
+pub mod LineSteps
 pub mod Outlooks

@@ -1,7 +1,7 @@
 //! The order in which connections came, and which of them is given up if there is no room.
 ghost use Rattle.std.specs.Prelude.{◌≡◌, [], ◌∷◌, ◌++◌, filter, option_map, length, IfOk, OnOk, OnErr};
 ghost use Rattle.std.specs.List.{find};
-ghost use Rattle.connections.specs.Arrivals.{is_elsewhere, has_come, is_overdue, is_quiet, asks, first_client_arrival, first_that, gives_place, gives_room};
+ghost use Rattle.connections.specs.Arrivals.{is_elsewhere, has_come, is_overdue, is_quiet, asks, first_client_arrival, first_that, gives_place, gives_room, gives_text, is_being_answered};
 
 use crate::line::Line;
 use crate::table::{Connections, Phase};
@@ -93,6 +93,17 @@ fn first_quiet_client(
     None
 }
 
+fn first_answered_client(arrivals: &[Arrival], connections: &Connections) -> Option<usize>
+    ensures { result ≡ first_that (is_being_answered connections.now) arrivals.now }
+{
+    for arrival in arrivals {
+        if connections.is_answered(arrival.place) {
+            return Some(arrival.place);
+        }
+    }
+    None
+}
+
 fn first_client_arrival(arrivals: &[Arrival]) -> Option<usize>
     ensures { result ≡ first_client_arrival arrivals.now }
 {
@@ -165,6 +176,14 @@ impl Arrivals {
         ensures { result ≡ gives_room connections.now now line.now self.now }
     {
         first_quiet_client(self.arrivals.as_slice(), connections, now, line)
+    }
+
+    /// The place of the client that is given up if replies have no room. The arrivals are in the order in which clients last took
+    /// bytes of their replies. Of those that `connections` still answer, it is the first.
+    pub fn for_texts(&self, connections: &Connections) -> Option<usize>
+        ensures { result ≡ gives_text connections.now self.now }
+    {
+        first_answered_client(self.arrivals.as_slice(), connections)
     }
 
     /// The place of the client that is given up if another comes and no place is vacant: the one that has asked

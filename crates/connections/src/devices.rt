@@ -1,12 +1,12 @@
 //! What comes from a client and what goes to it, by calls that never wait.
 ghost use Rattle.std.specs.Prelude.{◌≡◌, ◌<◌, length};
 ghost use Rattle.std.specs.IoError.{error_kind};
-ghost use Rattle.connections.specs.Devices.{DeviceStand, no_calls, one_call, PassesAtMost, LookPasses, ReadPasses, WritePasses};
-ghost use Rattle.connections.specs.Inner.Passages.{device_would_wait, device_passage_of};
+ghost use Rattle.connections.specs.Devices.{DeviceStand, no_calls, one_call, PassesAtMost, LookPasses, ReadPasses, WritePasses, device_would_wait, device_passage_of, ComesOf};
 
+use byte_streams::{Reads, Writes};
 use mio::net::TcpStream;
 use std::io;
-use std::io::{ErrorKind, Read, Write};
+use std::io::ErrorKind;
 use std::marker::Model;
 use std::net::Shutdown;
 
@@ -138,20 +138,38 @@ impl<T> NonBlocking<T> {
     }
 }
 
-impl<R: Read> Incoming for NonBlocking<R> {
+impl<R: Reads> Incoming for NonBlocking<R> {
     ghost stand = { λ d. record { bytes = R.remaining d.0; calls = d.1 } };
 
-    fn read(&mut self, buf: &mut [u8]) -> Passage {
-        let answer = self.inner.read(buf);
+    fn read(&mut self, buf: &mut [u8]) -> Passage
+        requires { 0 < length buf.old }
+        ensures bound { PassesAtMost result (length buf.new) }
+        ensures bytes { ReadPasses (R.remaining self.old.0) (R.remaining self.new.0) result
+            buf.new }
+        ensures calls { self.new.1 ≡ one_call result self.old.1 }
+
+        // It comes to what the device answered of the same room.
+        ensures answered { ComesOf (R.answers_read self.old.0 self.new.0 buf.old buf.new) result }
+    {
+        let answer = self.inner.read_once(buf);
         self.note(answer)
     }
 }
 
-impl<W: Write> Outgoing for NonBlocking<W> {
+impl<W: Writes> Outgoing for NonBlocking<W> {
     ghost stand = { λ d. record { bytes = W.contents d.0; calls = d.1 } };
 
-    fn write(&mut self, buf: &[u8]) -> Passage {
-        let answer = self.inner.write(buf);
+    fn write(&mut self, buf: &[u8]) -> Passage
+        requires { 0 < length buf.now }
+        ensures bound { PassesAtMost result (length buf.now) }
+        ensures bytes { WritePasses (W.contents self.old.0) (W.contents self.new.0) result
+            buf.now }
+        ensures calls { self.new.1 ≡ one_call result self.old.1 }
+
+        // It comes to what the device answered of the same bytes.
+        ensures answered { ComesOf (W.answers_write self.old.0 self.new.0 buf.now) result }
+    {
+        let answer = self.inner.write_once(buf);
         self.note(answer)
     }
 }

@@ -23,6 +23,6 @@ pub use deadlines::{ending_deadline, quiet_deadline, serving_deadline};
 pub use devices::{Ending, Incoming, Looking, NonBlocking, Outgoing, Passage, Socket};
 pub use line::{Call, Line, Part, Standing, When};
 pub use seats::Seat;
-pub use table::{Connections, MAX_HELD, NewTable, PLACES, Phase};
+pub use table::{Connections, MAX_HELD, MAX_REPLIES, NewTable, PLACES, Phase};
 pub use turns::{Turn, drain, is_client_read_out, listen, speak};
 pub use wire::{Moved, hear, say};

@@ -1,5 +1,5 @@
 //! The connections by their places.
-ghost use Rattle.std.specs.Prelude.{◌≡◌, ◌<◌, ◌≤◌, ◌+◌, ◌++◌, [], true, None, Some, nat_le, length, take, drop, replicate, IfOk, IfErr, OnOk, OnErr, IsErrOf};
+ghost use Rattle.std.specs.Prelude.{◌≡◌, ◌<◌, ◌≤◌, ◌+◌, ◌++◌, [], true, false, not, None, Some, nat_le, length, take, drop, replicate, IfOk, IfErr, OnOk, OnErr, IsErrOf};
 ghost use Rattle.std.specs.List.{list_all};
 ghost use Rattle.http_edge.specs.Edges.{RepresentsRequests};
 ghost use Rattle.http_edge.specs.Waiting.{turn_of};
@@ -8,7 +8,7 @@ ghost use Rattle.connections.specs.Conversing.{HasTooManyAt};
 ghost use Rattle.connections.specs.Inner.Giving.{IsFaultOfGiving};
 ghost use Rattle.connections.specs.Inner.Outlooks.{IsOutlook, outlook_of_request};
 ghost use Rattle.connections.specs.Limits.{most_held, place_count};
-ghost use Rattle.connections.specs.Arrivals.{is_asking};
+ghost use Rattle.connections.specs.Arrivals.{is_answered, is_asking};
 ghost use Rattle.connections.specs.Table.{at, held_of, held_in, has_room, left_of, part_of_request, with_left, phase_of, PutsAtPlace, Happens};
 ghost use Rattle.connections.specs.Table.{arrival, request_bytes, reply_bytes, departure};
 ghost use Rattle.connections.specs.Seats.{places_below};
@@ -27,6 +27,9 @@ pub const MAX_HELD: usize = 67_108_864;
 // So many of them are for all connections alike. The rest is for the one of which most are held: it has room for a longest
 // request, and a read.
 const MAX_SHARED: usize = 62_832_640;
+
+/// The most bytes of memory that replies which clients haven't taken may keep, over all connections.
+pub const MAX_REPLIES: usize = 67_108_864;
 
 /// The places for connections. A process may have 1,024 files open, if nobody says otherwise.
 pub const PLACES: usize = 512;
@@ -88,6 +91,28 @@ fn bytes_held_by_connection(it: &Option<Conversation>) -> usize
         Some(Conversation::Asking(arriving, _)) => arriving.len(),
         _ => 0,
     }
+}
+
+fn memory_of_reply(it: &Option<Conversation>) -> usize
+    ensures none { is_answered it.now ≡ false → result ≡ 0 }
+    ensures some { is_answered it.now ≡ true → 0 < result }
+{
+    match it {
+        Some(Conversation::Answering(leaving, _)) => leaving.memory(),
+        _ => 0,
+    }
+}
+
+// The memory of all replies at these places.
+fn memory_of_replies(places: &[Option<Conversation>]) -> usize
+    ensures none { list_all (λ it. not (is_answered it)) places.now ≡ true → result ≡ 0 }
+    ensures some { list_all (λ it. not (is_answered it)) places.now ≡ false → 0 < result }
+{
+    let mut memory: usize = 0;
+    for it in places {
+        memory = memory.saturating_add(memory_of_reply(it));
+    }
+    memory
 }
 
 // Whether of none of these connections more bytes are held than so many.
@@ -166,6 +191,33 @@ impl Connections {
         ensures { result ≡ is_asking (at self.now place) }
     {
         self.phase(place) == Phase::Asking
+    }
+
+    /// Whether a client is at `place`, from 0, whose reply isn't gone.
+    pub fn is_answered(&self, place: usize) -> bool
+        ensures { result ≡ is_answered (at self.now place) }
+    {
+        matches!(self.phase(place), Phase::Answering(_))
+    }
+
+    /// How many bytes are left of the reply to the client at `place`, from 0; 0 if it isn't answered.
+    pub fn left_at(&self, place: usize) -> usize
+        ensures { result ≡ length (left_of (at self.now place)) }
+    {
+        match self.places.get(place) {
+            Some(Some(Conversation::Answering(leaving, _))) => leaving.len(),
+            _ => 0,
+        }
+    }
+
+    /// The bytes of memory that replies keep which clients haven't taken, a text with several owners by the shares of these replies.
+    /// It is 0 exactly if nobody is answered.
+    pub fn reply_memory(&self) -> usize
+        ensures none { list_all (λ it. not (is_answered it)) self.now.places ≡ true → result ≡ 0 }
+        ensures some { list_all (λ it. not (is_answered it)) self.now.places ≡ false →
+            0 < result }
+    {
+        memory_of_replies(self.places.as_slice())
     }
 
     /// How many bytes are held of the request of the client at `place`, from 0, that isn't whole; 0 if there is none.

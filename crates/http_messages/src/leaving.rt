@@ -1,17 +1,20 @@
 //! A reply that its client takes in parts.
-ghost use Rattle.std.specs.Prelude.{◌≡◌, ◌≤◌, ◌+◌, ◌++◌, drop, length};
+ghost use Rattle.std.specs.Prelude.{◌≡◌, ◌<◌, ◌≤◌, ◌+◌, ◌++◌, drop, length};
 ghost use Rattle.http_messages.specs.Replies.{text_sent};
 
-use crate::message::Reply;
+use crate::message::{Content, Reply};
 use crate::reply_head::reply_head_of;
 use crate::sending::reply_body_sent;
 use arrayvec::ArrayString;
 use std::marker::Model;
 
+// The bytes of a reply's head at the most.
+const HEAD_MEMORY: usize = 256;
+
 /// What a client hasn't taken yet of a reply. The body is not copied: it stays where the reply has it.
 #[derive(Drop)]
 pub struct Leaving {
-    head: ArrayString<256>,
+    head: ArrayString<HEAD_MEMORY>,
     reply: Reply,
     with_body: bool,
     taken: usize,
@@ -59,6 +62,17 @@ impl Leaving {
         head.len() + body.len()
     }
 
+    /// The bytes of memory that the reply keeps for its client: its head, and of its text an equal share for each owner of the text.
+    /// So replies with one text keep together no more than the text has, and their heads.
+    pub fn memory(&self) -> usize
+        ensures { 0 < result }
+    {
+        match &self.reply.content {
+            Some(content) => HEAD_MEMORY.saturating_add(text_share(content)),
+            None => HEAD_MEMORY,
+        }
+    }
+
     /// The client took `count` bytes more.
     pub fn advance(&mut self, count: usize)
         requires { count ≤ length self.old }
@@ -67,6 +81,11 @@ impl Leaving {
         let len = self.head.len() + reply_body_sent(&self.reply, self.with_body).len();
         self.taken = place_after_reply_bytes(self.taken, count, len);
     }
+}
+
+// The bytes of a text that one of its owners keeps, if all keep alike.
+fn text_share(content: &Content) -> usize {
+    content.text.as_str().len() / content.text.owners()
 }
 
 // Two texts from a place of both on.

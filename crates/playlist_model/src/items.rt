@@ -1,5 +1,5 @@
 //! Owned lists and texts that contracts see as lists, and values with several owners.
-ghost use Rattle.std.specs.Prelude.{◌≡◌, ℕ, List, length, IfOk, string_bytes, IsTrue};
+ghost use Rattle.std.specs.Prelude.{◌≡◌, ◌<◌, ℕ, List, length, IfOk, string_bytes, IsTrue};
 ghost use Rattle.std.specs.Str.{is_utf8};
 
 use std::alloc::{AllocError, Global};
@@ -114,6 +114,15 @@ impl<T: Drop> Shared<T> {
     {
         let owned = Rc::new(alloc, value)?;
         Ok(Shared { owned })
+    }
+}
+
+impl<T> Shared<T> {
+    /// How many own the value, this owner among them.
+    pub fn owners(&self) -> usize
+        ensures { 0 < result }
+    {
+        Rc::strong_count(&self.owned).max(1)
     }
 }
 
