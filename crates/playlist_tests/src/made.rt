@@ -71,7 +71,6 @@ pub(crate) fn listed<'a>(
     match stitch(
         alloc,
         marked,
-        0,
         &PodStore::new(alloc, hashing),
         first,
         &ends,
