@@ -8,7 +8,7 @@ after_both line [] before = refl
 after_both line (e ∷ later) before = ap (after e) (after_both line later before)
 
 calls_in_both : (later before : List LineEvent) → calls_in (later ++ before) ≡ calls_in later + calls_in before
-calls_in_both [] before = refl
+calls_in_both [] before = omega arith
 calls_in_both (e ∷ later) before = grind (arith, calls_in_both later before)
 
 leads_on : (first middle last : LineState) (before later : List LineEvent) → middle ≡ line_after first before → last ≡ line_after middle later

@@ -1,4 +1,4 @@
-use Rattle.std.proofs.Common.{◌≡◌, ◌<◌, ◌×◌, ◌⊎◌, drop, not, true, false}
+use Rattle.std.proofs.Common.{◌≡◌, ◌<◌, ◌⊎◌, drop, not, true, false}
 use Rattle.std.specs.List.{list_all}
 use Rattle.connections.specs.Arrivals.{is_answered}
 use Rattle.connections.proofs.table.memory_of_replies.Given as goal

@@ -1,4 +1,3 @@
-use Rattle.std.proofs.Common.{◌×◌}
 use Rattle.connections.specs.Lines.{LineIsCalled}
 use Rattle.connections.specs.Runs.{HasRun}
 use Rattle.adsplice.proofs.server.Server.call_line.Given as goal

@@ -1,4 +1,3 @@
-use Rattle.std.proofs.Common.{◌×◌}
 use Rattle.connections.specs.Inner.LineSteps.{LineGoesOn}
 use Rattle.connections.specs.Runs.{HasRun}
 use Rattle.adsplice.proofs.server.Server.serve_events.Given as goal
