@@ -248,9 +248,9 @@ def may_begin(turn: Turn) -> bool:
 
 def is_in_step(turn: Turn) -> bool:
     """Whether all renditions' newest lists have as many segments, and the same first media number or the same first instant. Those of renditions
-    whose segments aren't as long begin at instants that are less than a segment apart."""
+    whose segments aren't as long begin at instants that are less than a segment apart. (How long segments are, the newest one doesn't say: it may grow.)"""
     listed = [segments_of(it.came) if it.came is not None else [] for _, it in turn.renditions()]
-    if not all(listed):
+    if any(len(it) < 2 for it in listed):
         return False
     begins = [it[0].stated or 0 for it in listed]
     paces = [pace_of(it) for it in listed]
@@ -331,10 +331,11 @@ def siblings_of(turn: Turn, channel: str, found: dict[str, Taken]) -> Siblings:
     pace = pace_of(mine.stands.repairer.last or segments_of(mine.came or b""))
     siblings = []
     for name, it in turn.renditions():
-        segments = it.stands.repairer.past[-MOST_REMEMBERED:] + it.stands.repairer.last or (found[name].found().segments if name in found else [])
-        is_like = is_alike(pace, pace_of(segments))
+        listed, new = it.stands.repairer.past[-MOST_REMEMBERED:] + it.stands.repairer.last, found[name].found().segments if name in found else []
+        is_like = is_alike(pace, pace_of(listed or new))
         if name != channel:
-            siblings.append(Sibling(it.settings.base, segments, it.stands.repairer.held_since is not None, is_like and it.settings.group == mine.settings.group, is_like))
+            fresh = [one for one in new if listed and one.number > listed[-1].number]
+            siblings.append(Sibling(it.settings.base, listed or new, it.stands.repairer.held_since is not None, is_like and it.settings.group == mine.settings.group, is_like, fresh))
     return Siblings(siblings)
 
 

@@ -229,7 +229,8 @@ class Translator:
         for it in self.breaks.known:
             found = self.cuts[rendition][it.id]
             for place, instant in enumerate((it.start if it.said is None else it.said, it.until)):
-                if instant is not None and found[place] is None and line.is_reached(instant) and (not place or line.has_turned(it)):
+                is_by_old_clock = not place and it.said is not None
+                if instant is not None and found[place] is None and line.is_reached(instant) and (is_by_old_clock or line.has_turned(it)):
                     known = line.end_before(it) if place else line.begin_by_number(it, instant, self.breaks.set_at)
                     own = known if known is not None else line.aligned(instant) if line.has_turned(it) else instant
                     found[place] = own if abs(own - instant) > self.tolerance else instant
