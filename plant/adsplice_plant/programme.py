@@ -538,8 +538,9 @@ def text_of(turn: Turn, channel: str, it: Taken, translator: Translator) -> byte
     rendition that has come farther."""
     found, rendition = it.repaired.found, turn.state.renditions[channel]
     if found is not None and len(turn.state.renditions) > 1:
-        others = [one.stands for name, one in turn.renditions() if name != channel]
-        lines = [as_elsewhere(rendition.stands, others, line) for line in found.date_ranges() if packaged.id_in(line) not in rendition.stands.pods.missed]
+        others, pace = [one.stands for name, one in turn.renditions() if name != channel], pace_of(rendition.stands.repairer.last)
+        others.sort(key=lambda it: not is_alike(pace, pace_of(it.repairer.last)))
+        lines = [as_elsewhere(rendition.stands, others, line, found.segments) for line in found.date_ranges() if packaged.id_in(line) not in rendition.stands.pods.missed]
         if lines != found.date_ranges():
             found.signals = lines
     if found is not None and found.segments:

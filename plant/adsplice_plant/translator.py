@@ -234,6 +234,8 @@ class Translator:
                     known = line.end_before(it) if place else line.begin_by_number(it, instant, self.breaks.set_at)
                     own = known if known is not None else line.aligned(instant) if line.has_turned(it) else instant
                     found[place] = own if abs(own - instant) > self.tolerance else instant
+            if found[0] is None and it.said is not None and line.has_turned(it) and (first := line.nearest(it.start)) is not None:
+                found[0] = first.begins  # (here the clock changed with the segment with which it begins, or before)
 
     def begin_at(self, rendition: str, lines: list[str] | None, began: int, begins: int) -> list[str] | None:
         """A segment of the `rendition`, which began at the instant `began`, has the instant `begins`: so have the breaks that begin with it. The
