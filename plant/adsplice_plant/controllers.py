@@ -399,7 +399,7 @@ def told_at_once(it: Rendition, stands: Standing, translator: Translator) -> Sta
     said, told = translator.take(found, it.settings.rendition()), ranges.ids_in(ranges.ranges_in(text))
     if said.ranges is None:
         return stands
-    lines, viewed = [line for line in said.ranges if packaged.id_in(line) in told], stands.viewed.copy()
+    lines, viewed = [replay.as_it_runs(stands, line, translator.breaks.named(packaged.id_in(line))) for line in said.ranges if packaged.id_in(line) in told], stands.viewed.copy()
     viewed.note(lines, stands.repairer.last[-1].number)
     return replace(stands, viewed=viewed, text=packaged.write(found, lines))
 

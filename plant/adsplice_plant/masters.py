@@ -19,7 +19,7 @@ from .bounded_files import Unread
 from .location import LocalFile, Location, Url
 from .origin import Origin, origin_of, read_whole
 from .pauses import Pauses
-from .renditions import Names
+from .renditions import FileNames, Kept, Names
 from .settings import SUBTITLES, Settings
 from .siblings import absolute
 from .traits import Traits, traits_of
@@ -184,12 +184,13 @@ class Feeds:
 
 class Programme:
     """The programme that `programme` tells of, whose origin is a master playlist. `client` asks for it, `say` prints a line, and `feeds` feeds its
-    channels."""
+    channels. `kept`: where their names are kept."""
 
-    def __init__(self, programme: Settings, client: Client, say: Callable[[str], None], feeds: Feeds) -> None:
+    def __init__(self, programme: Settings, client: Client, say: Callable[[str], None], feeds: Feeds, kept: Kept | None = None) -> None:
         self.settings, self.say, self.feeds = programme, say, feeds
         self.origin: Origin = origin_of(programme.origin, client)
-        self.names = renditions.load(known_at(programme))
+        self.kept: Kept = kept or FileNames(known_at(programme))
+        self.names: Names = {}
         self.fed: dict[str, Settings] = {}  # the channels by their names
         self.others: frozenset[str] = frozenset()  # the names of those that it has in place of them, since `others_at`
         self.others_at = self.changed_at = float("-inf")
@@ -223,7 +224,11 @@ class Programme:
     def take(self, found: Master, now: float) -> None:
         """Feeds the renditions of `found`, and writes the master playlist for viewers. Others than before are fed once they stay so from one look to
         the next, `now`."""
-        names = names_of(found, self.settings.names, self.names)
+        def add(known: Names) -> Names:
+            return names_of(found, self.settings.names, known)
+        if not self.fed:
+            self.names = self.kept.agree(add)
+        names = add(self.names)
         channels = {it.name: it for it in channels_of(found, self.settings, names)}
         if not self.fed:
             self.feeds.begin(list(channels.values()))
@@ -235,8 +240,7 @@ class Programme:
             self.fed, self.changed_at = channels, now
         self.others, self.pause = frozenset(), AGAIN
         if names != self.names:
-            self.names = names
-            renditions.save(known_at(self.settings), names)
+            self.names = self.kept.agree(add)
         for name, it in channels.items():
             if it.origin != self.fed[name].origin:
                 self.feeds.move(name, it.origin)

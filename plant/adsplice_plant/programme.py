@@ -248,9 +248,9 @@ def may_begin(turn: Turn) -> bool:
 
 def is_in_step(turn: Turn) -> bool:
     """Whether all renditions' newest lists have as many segments, and the same first media number or the same first instant. Those of renditions
-    whose segments aren't as long begin at instants that are less than a segment apart."""
+    whose segments aren't as long begin at instants that are less than a segment apart. (How long segments are, the newest one doesn't say: it may grow.)"""
     listed = [segments_of(it.came) if it.came is not None else [] for _, it in turn.renditions()]
-    if not all(listed):
+    if any(len(it) < 2 for it in listed):
         return False
     begins = [it[0].stated or 0 for it in listed]
     paces = [pace_of(it) for it in listed]
@@ -331,10 +331,11 @@ def siblings_of(turn: Turn, channel: str, found: dict[str, Taken]) -> Siblings:
     pace = pace_of(mine.stands.repairer.last or segments_of(mine.came or b""))
     siblings = []
     for name, it in turn.renditions():
-        segments = it.stands.repairer.past[-MOST_REMEMBERED:] + it.stands.repairer.last or (found[name].found().segments if name in found else [])
-        is_like = is_alike(pace, pace_of(segments))
+        listed, new = it.stands.repairer.past[-MOST_REMEMBERED:] + it.stands.repairer.last, found[name].found().segments if name in found else []
+        is_like = is_alike(pace, pace_of(listed or new))
         if name != channel:
-            siblings.append(Sibling(it.settings.base, segments, it.stands.repairer.held_since is not None, is_like and it.settings.group == mine.settings.group, is_like))
+            fresh = [one for one in new if listed and one.number > listed[-1].number]
+            siblings.append(Sibling(it.settings.base, listed or new, it.stands.repairer.held_since is not None, is_like and it.settings.group == mine.settings.group, is_like, fresh))
     return Siblings(siblings)
 
 
@@ -537,8 +538,9 @@ def text_of(turn: Turn, channel: str, it: Taken, translator: Translator) -> byte
     rendition that has come farther."""
     found, rendition = it.repaired.found, turn.state.renditions[channel]
     if found is not None and len(turn.state.renditions) > 1:
-        others = [one.stands for name, one in turn.renditions() if name != channel]
-        lines = [as_elsewhere(rendition.stands, others, line) for line in found.date_ranges() if packaged.id_in(line) not in rendition.stands.pods.missed]
+        others, pace = [one.stands for name, one in turn.renditions() if name != channel], pace_of(rendition.stands.repairer.last)
+        others.sort(key=lambda it: not is_alike(pace, pace_of(it.repairer.last)))
+        lines = [as_elsewhere(rendition.stands, others, line, found.segments) for line in found.date_ranges() if packaged.id_in(line) not in rendition.stands.pods.missed]
         if lines != found.date_ranges():
             found.signals = lines
     if found is not None and found.segments:

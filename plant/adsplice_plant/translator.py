@@ -229,10 +229,13 @@ class Translator:
         for it in self.breaks.known:
             found = self.cuts[rendition][it.id]
             for place, instant in enumerate((it.start if it.said is None else it.said, it.until)):
-                if instant is not None and found[place] is None and line.is_reached(instant) and (not place or line.has_turned(it)):
+                is_by_old_clock = not place and it.said is not None
+                if instant is not None and found[place] is None and line.is_reached(instant) and (is_by_old_clock or line.has_turned(it)):
                     known = line.end_before(it) if place else line.begin_by_number(it, instant, self.breaks.set_at)
                     own = known if known is not None else line.aligned(instant) if line.has_turned(it) else instant
                     found[place] = own if abs(own - instant) > self.tolerance else instant
+            if found[0] is None and it.said is not None and line.has_turned(it) and (first := line.nearest(it.start)) is not None:
+                found[0] = first.begins  # (here the clock changed with the segment with which it begins, or before)
 
     def begin_at(self, rendition: str, lines: list[str] | None, began: int, begins: int) -> list[str] | None:
         """A segment of the `rendition`, which began at the instant `began`, has the instant `begins`: so have the breaks that begin with it. The
