@@ -8,7 +8,6 @@ import os
 import socket
 import ssl
 import time
-import urllib.parse
 from collections.abc import Iterator
 from concurrent.futures import ThreadPoolExecutor
 from dataclasses import dataclass
@@ -17,7 +16,7 @@ from pathlib import Path
 from adsplice_rules.edge import Edge, Reply, Request
 from adsplice_rules.values import NotModelled
 
-from . import judge, masters, playlist, status, words
+from . import judge, masters, playlist, status, urls, words
 from .decisions import MAX_BYTES, said_by
 from .handover import absolute
 from .location import Location
@@ -156,8 +155,10 @@ class Check:
         """Whether the ad server of `url` takes a connection; nothing is asked."""
         if url == FOLDER:
             return Fact("ask", True, "who watches the folder of decisions is asked by files in `asked`")
-        parts = urllib.parse.urlsplit(url)
-        host, is_secret = parts.hostname or "", parts.scheme == "https"
+        parts = urls.parts_of(url)
+        if parts is None:
+            return Fact("ask", False, words.NO_URL)
+        host, is_secret = parts.host, parts.scheme == "https"
         try:
             with socket.create_connection((host, parts.port or (443 if is_secret else 80)), min(CONNECT, self.timeout)) as it:
                 if is_secret:

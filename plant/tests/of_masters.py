@@ -140,7 +140,8 @@ STRAYS = (
     ("http://127.0.0.1:23202/direct.m3u8", "of another host, port or scheme"), ("http://other.example/v.m3u8", "of another host, port or scheme"),
     ("//other.example/v.m3u8", "of another host, port or scheme"), ("http://origin.example:8080/v.m3u8", "of another host, port or scheme"),
     ("https://origin.example/v.m3u8", "of another host, port or scheme"), ("http://169.254.169.254/latest", "of another host, port or scheme"),
-    ("file:///etc/passwd", "isn't a URL that begins with"), ("data:text/plain,x", "isn't a URL that begins with"))
+    ("file:///etc/passwd", "isn't a URL that begins with"), ("data:text/plain,x", "isn't a URL that begins with"),
+    ("http://..[../v.m3u8", "isn't a URL"), ("//..[../v.m3u8", "isn't a URL"), ("http://[v1]/v.m3u8", "isn't"), ("http://a\u2100b/v.m3u8", "isn't"))
 OF_FILES = (("/etc/passwd", "isn't in the master playlist's folder"), ("../v.m3u8", "isn't in the master playlist's folder"), ("a/../../v.m3u8", "isn't in the master playlist's folder"))
 
 
