@@ -85,6 +85,8 @@ def read(body: bytes, base: str, types: tuple[str, ...] = MEDIA_TYPES) -> Master
             is_rendition = is_media and said.get("TYPE") in types and "URI" in said
             found.has_captions = found.has_captions or (is_media and said.get("TYPE") == CAPTIONS)
             found.has_others = found.has_others or (is_media and said.get("TYPE") == SUBTITLES and not is_rendition)
+            if urls.joined(base, said.get("URI", "")) is None:
+                raise Fault(f"it names what isn't a URL: {said['URI'][:100]!r}")
             found.add(line if is_rendition else absolute(line, base), said["URI"] if is_rendition else "", said.get("TYPE", ""))
             found.others += not is_rendition
             if found.others > MOST_OTHERS:
