@@ -147,7 +147,7 @@ class Check:
         if reply is not None and reply.status != 204:
             return Fact("origin", False, f"{place}: adsplice would refuse the list: {reply.body.strip()}")
         listed = playlist.read(body)
-        return Fact("origin", True, f"{place} answers a list of {len(listed.segments)} segments, with a target duration of {listed.target} s")
+        return Fact("origin", True, f"{place} answers a playlist of {len(listed.segments)} segments, with a target duration of {listed.target} s")
 
     # ---- the ad server
 

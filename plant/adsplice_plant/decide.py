@@ -30,7 +30,7 @@ A section of FILE is a channel, or a ladder's programme, by the name that the fe
 
   vast       URL of the ad server, with macros: [BREAKMAXDURATION], [CACHEBUSTING], [TIMESTAMP], [ADCOUNT] and the others of VAST 4.2
   macros     lines NAME=VALUE for others, as CONTENTID=news-1
-  ladder     file of adsplice-condition --profile; without it the lists are looked at that the feed reads
+  ladder     file of adsplice-condition --profile; without it the playlists are looked at that the feed reads
   slate      file of a film that fills up what the ads leave
   timeout    seconds that the ad server has (0.7); less than the feed's `hold`
   length     seconds of a break whose signal says none

@@ -17,7 +17,7 @@ LINES = 100_000  # of a list: adsplice takes 10,000 segments
 NAME = 255  # bytes of a break's ID and of a key's format
 WRITTEN = 4 * MAX_BYTES  # bytes that may be written of a list: of a list of 10,000 segments that is as much as a base or a key of 1,200 bytes
 NEWLINE = b"\n"
-CUT_OFF = "the list is cut off within its last line"
+CUT_OFF = "the playlist is cut off within its last line"
 
 
 @dataclass(frozen=True)

@@ -30,8 +30,8 @@ have an initialisation section and some haven't, an ad with several keys.
 Several files are those of a ladder's renditions: it prints what of one doesn't fit the first one.
 With --verify it requests each URI that the file names, by HEAD or by its first byte, and prints a line for one that doesn't exist.
 
---vmap (IAB VMAP 1.0) and --breaks put breaks into the list of a programme on demand: before it, within it where a segment begins, and after
-it. No segment goes. The ads are those that adsplice-condition made in folders of --ads, by their IDs. DIR gets the list with signals, and the
+--vmap (IAB VMAP 1.0) and --breaks put breaks into the playlist of a programme on demand: before it, within it where a segment begins, and after
+it. No segment goes. The ads are those that adsplice-condition made in folders of --ads, by their IDs. DIR gets the playlist with signals, and the
 decision file, for `adsplice vod`. It leaves out an ad or a break that can't be put in, and prints a line for it.
 
 Exit status: 0 done (or right); 1 a fault, or a wrong file; 2 invalid arguments; with --strict also 1 after a warning."""

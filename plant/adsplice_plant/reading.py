@@ -126,7 +126,7 @@ class Reading:
             self.noting.note(Note(name, "read", found.status, found.why))
             self.telling.tell(name, "origin", found.status, "CutOff" if found.why == CUT_OFF else "", f"{found.why}; reads it again with growing pauses")
         elif not self.is_well:
-            self.telling.tell(name, "origin", 200, "", "the list is read again")
+            self.telling.tell(name, "origin", 200, "", "the playlist is read again")
         self.is_well = not found.why
         if found.body is not None:
             self.stated = target_in(found.body) or self.stated

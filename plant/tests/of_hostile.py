@@ -252,7 +252,7 @@ def test_what_is_passed_over_is_told(room):
     os.mkdir(f"{room.path}/k")
     feed = room.feed(*words)
     for word in ("decisions/notes.txt - Passed: it isn't a file whose name ends in .json", "decisions/gone.json - Passed", "decisions/long.json - Passed: it has 4194305 bytes, over 4194304",
-                 "fallback - Other: .* it has `breaks` and no `fallback`", "Idle: `hold` has no effect without ask", "adsplice 204 -: the list is taken"):
+                 "fallback - Other: .* it has `breaks` and no `fallback`", "Idle: `hold` has no effect without ask", "adsplice 204 -: the playlist is taken"):
         feed.sees(word)
     assert not any("hidden" in line or "secret" in line for line in feed.lines), feed.lines
     assert json.loads(next(body for method, path, body in controller.asked if path == "/channels/news"))["base"] == origin.url
@@ -295,7 +295,7 @@ test_what_would_be_written_of_a_list_is_bounded.needs = ("httpx",)
 def test_a_list_that_would_be_written_long_is_told_and_not_given(room):
     controller, origin = room.server(FakeController()), room.server(FakeOrigin(listed(0, 5)))
     feed = room.feed("--channel", "news", "--origin", origin.url, "--at", controller.url, "--base", f"http://origin.example/{'b' * 2000}/i.m3u8")
-    feed.sees("news adsplice 204 -: the list is taken")
+    feed.sees("news adsplice 204 -: the playlist is taken")
     origin.text = listed(1, 9_000)
     feed.sees("news origin 200 -: what is written of it may have more than 16777216 bytes: 90[0-9]+ references under a base of 2029 bytes", 30)
     assert len(controller.puts("origin")) == 1

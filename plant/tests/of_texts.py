@@ -110,8 +110,8 @@ def test_sections_field_by_field(room):
 
 def test_levels_of_lines(room):
     for line, owed in (("adsplice 201 -: makes the channel", 6), ("adsplice 409 -: the channel is there already; goes on with it", 6), ("adsplice 404 -: the channel isn't there; makes it", 4),
-                       ("adsplice - -: Connection refused; tries again with growing pauses", 4), ("origin 200 -: the list is read again", 6), ("origin 503 -: the origin answers 503", 4),
-                       ("origin - -: no answer within 5 s", 4), ("origin 200 CutOff: the list is cut off", 4), ("list - Repaired: EXT-X-VERSION", 5), ("list - -: the lists go on", 6),
+                       ("adsplice - -: Connection refused; tries again with growing pauses", 4), ("origin 200 -: the playlist is read again", 6), ("origin 503 -: the origin answers 503", 4),
+                       ("origin - -: no answer within 5 s", 4), ("origin 200 CutOff: the playlist is cut off", 4), ("list - Repaired: EXT-X-VERSION", 5), ("list - -: the playlists go on", 6),
                        ("decisions/a b.json 422 J2 Shape break 0: a member is missing", 4), ("decisions/one.json - -: b1 is no longer listed; moves the file to done", 6), ("ask/b1 - Asked: x", 6),
                        ("decisions/one.json 204 -: decides b1", 6), ("decisions/one.json 409 J9 Used: b1 has begun", 4), ("origins - Second: the first origin fails", 4), ("origins - First: x", 6), ("decisions/one.json 204 Removed: x", 6), ("decisions/one.json - Removed: x", 6),
                        ("feed - KeyError: 1; goes on with the next turn", 3), ("journal - Unkept: /kept/news.events: No space left on device; goes on without it", 4), ("journal - -: /kept/news.events: events are kept again", 6), ("ladder - Apart: x", 4), ("", 6), ("x", 6)):
