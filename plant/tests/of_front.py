@@ -19,8 +19,8 @@ NEEDS = ("program", "nginx")
 LIVE = f"{PLANT}/../examples/live"
 CONF, FRONT = f"{LIVE}/nginx.conf", f"{LIVE}/nginx-front.conf"
 NGINX = shutil.which("nginx") or "/usr/sbin/nginx"
-TYPED = ("browser", "configured_lists", "day_faults", "day_measures", "day_plant", "day_table", "lip_sync", "media", "plant", "relay", "replicas_lab", "stories", "tools", "viewers")
-TYPED_SCRIPTS = ("check_day", "check_ladder", "check_replicas", "hand_over", "measure_refreshes")
+TYPED = ("attackers", "browser", "configured_lists", "day_faults", "day_measures", "day_plant", "day_table", "lip_sync", "media", "plant", "relay", "replicas_lab", "stories", "tools", "viewers")
+TYPED_SCRIPTS = ("check_attacks", "check_day", "check_ladder", "check_replicas", "hand_over", "measure_refreshes")
 
 
 HANGS = 4.0  # seconds
