@@ -270,7 +270,7 @@ def test_a_hand_over_that_no_list_follows_is_taken_back(room):
         assert put(url, b'{"base":"http://h/i.m3u8"}') == 201 and put(f"{url}/origin", listed(0, 5).encode()) == 204
         old = home_of(room, "news")
         status, lines = hand_over(room, old, spare, "--seconds", 1)
-        assert status == 1 and f"news: stays at {old}: no list came to {spare}" in lines, lines
+        assert status == 1 and f"news: stays at {old}: no playlist came to {spare}" in lines, lines
         until(lambda: put(f"{url}/origin", listed(1, 6).encode()) == 204, 5, "the next list")
         assert ends_with(old, "s6.ts") and get(f"http://127.0.0.1:{spare}/channels/news/live.m3u8")[0] == 404
         assert hand_over(room, spare, old)[1].startswith("examples/live/hand_over: news: ")
