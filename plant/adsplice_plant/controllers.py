@@ -29,7 +29,7 @@ BETWEEN_DROPS = 120.0  # seconds between two times that a machine's channel is m
 STAYS = "if that stays, only a new channel takes it, which a person makes by a DELETE of this one"
 SEQUENCES = tuple(re.compile(rb"^#EXT-X-%s-SEQUENCE:(\d+)$" % name, re.M) for name in (b"MEDIA", b"DISCONTINUITY"))
 EXTINF, END = b"\n#EXTINF:", b"#EXT-X-ENDLIST"
-LISTED = "the list is taken"
+LISTED = "the playlist is taken"
 
 
 # ---- requests
@@ -51,7 +51,7 @@ def next_request(turn: Turn, channel: str) -> Request | None:
     """What the controller of the `channel` is to be sent next; none if it has all."""
     it = turn.state.renditions[channel]
     if turn.state.life and has_missed(it):
-        drop(turn, channel, "the channel has missed lists", True)
+        drop(turn, channel, "the channel has missed playlists", True)
         it = turn.state.renditions[channel]
     if it.controller.way is Way.UNKNOWN:
         return Request(What.MAKE, it.settings.body())
@@ -264,7 +264,7 @@ def unanswered(turn: Turn, event: Answered) -> None:
     """The controller did nothing that is known: it is away, or was started anew (404)."""
     if event.status == 404:
         turn.put_controller(event.channel, way=Way.UNKNOWN, trials=0)
-        failed(turn, event, "makes it, and gives it fallback, decisions and list")
+        failed(turn, event, "makes it, and gives it fallback, decisions and playlist")
     else:
         wait(turn, event.channel)
         failed(turn, event, "tries again with growing pauses")
@@ -308,11 +308,11 @@ def looked(turn: Turn, event: Answered) -> None:
     """It was asked whether a channel that is there has a list."""
     if event.status == 0 or event.status >= 500:
         wait(turn, event.channel)
-        failed(turn, event, "looks again whether the channel has a list as soon as it can")
+        failed(turn, event, "looks again whether the channel has a playlist as soon as it can")
         return
     it = turn.put_controller(event.channel, trials=0)
     if event.status != 404 and turn.state.life and it.took < 0 and not it.led:
-        drop(turn, event.channel, "the channel is there, with a list of which this machine doesn't know what it is", True)
+        drop(turn, event.channel, "the channel is there, with a playlist of which this machine doesn't know what it is", True)
         return
     turn.tell(event.channel, "adsplice", 409, "", "the channel is there already; goes on with it")
     if event.status == 404:
@@ -474,7 +474,7 @@ def list_refused(turn: Turn, event: Answered) -> None:
     is_unfit = faults.follows_badly(line)
     controller = turn.put_controller(channel, listed=turn.state.renditions[channel].stands.entry, unfit=it.controller.unfit + 1 if is_unfit else 0)
     if controller.unfit >= UNFIT and may_drop(turn, controller):
-        drop(turn, channel, f"adsplice refuses two lists in a row ({line})")
+        drop(turn, channel, f"adsplice refuses two playlists in a row ({line})")
         return
     if controller.unfit >= UNFIT and not turn.state.life and it.settings.repair and it.came is not None and faults.code_of(line) not in ("N4", "N9"):
         afresh = Repairer(it.stands.repairer.choices).take(it.came, turn.at, turn.clock).found
@@ -488,7 +488,7 @@ def list_refused(turn: Turn, event: Answered) -> None:
 def tell_refused(turn: Turn, channel: str, status: int, line: str, is_unfit: bool) -> None:
     """Tells that the list of the `channel` was refused; `is_unfit`: since it doesn't go on after the last one."""
     what = faults.meaning(status, line) + (f" ({line})" if is_unfit else "")
-    turn.tell(channel, "adsplice", status, line, f"{what}; waits for the next list" + (f"; {STAYS}" if is_unfit else ""))
+    turn.tell(channel, "adsplice", status, line, f"{what}; waits for the next playlist" + (f"; {STAYS}" if is_unfit else ""))
 
 
 def found(turn: Turn, event: Found) -> None:
@@ -499,7 +499,7 @@ def found(turn: Turn, event: Found) -> None:
         return
     turn.put_controller(channel, sent=None)
     if list_ is None:
-        turn.tell(channel, "adsplice", 409, "Unfound", f"the numbers of its list aren't known; waits for the next list; {STAYS}")
+        turn.tell(channel, "adsplice", 409, "Unfound", f"the numbers of its playlist aren't known; waits for the next playlist; {STAYS}")
         return
     entry = turn.next_entry()
     repairer = Repairer(it.stands.repairer.choices)
@@ -528,10 +528,10 @@ def checked(turn: Turn, event: Answered) -> None:
         turn.tell(channel, "written", 0, "", "")
         return
     if viewed.reckoned is not None and may_drop(turn, it.controller):
-        drop(turn, channel, f"adsplice's list ends with media number {end[0]} and discontinuity number {end[1]}, and not as the log says")
+        drop(turn, channel, f"adsplice's playlist ends with media number {end[0]} and discontinuity number {end[1]}, and not as the log says")
         return
     if viewed.reckoned is not None:
-        turn.tell(channel, "written", 0, "Others", f"adsplice's list ends with media number {end[0]} and discontinuity number {end[1]}, and not with "
+        turn.tell(channel, "written", 0, "Others", f"adsplice's playlist ends with media number {end[0]} and discontinuity number {end[1]}, and not with "
                                                    "what it was given here: perhaps somebody else gave it a decision; goes by what it wrote")
     viewed.see(numbers.items_of(event.body), last)
     viewed.learn(last, [line for line, number in viewed.ranges.values() if number >= last[-1].number])

@@ -242,7 +242,7 @@ def may_begin(turn: Turn) -> bool:
     targets = [read(it.came[:HEAD]).target or 1 for _, it in turn.renditions() if it.came is not None]
     if turn.at - since < STEP * max(targets, default=1):
         return False
-    turn.tell("", "ladder", 0, "Unequal", "the renditions' lists don't begin and end with the same media numbers; gives them all the same")
+    turn.tell("", "ladder", 0, "Unequal", "the renditions' playlists don't begin and end with the same media numbers; gives them all the same")
     return True
 
 
@@ -342,7 +342,7 @@ def siblings_of(turn: Turn, channel: str, found: dict[str, Taken]) -> Siblings:
 def tell_why(turn: Turn, channel: str, repaired: Repaired) -> None:
     """Tells why nothing is given of a list, or that lists are given again."""
     word = WORDS.get(repaired.why, "Held" if repaired.waits else "Untaken")
-    turn.tell(channel, "list", 0, word, repaired.why or "the lists go on", is_quiet=True)
+    turn.tell(channel, "list", 0, word, repaired.why or "the playlists go on", is_quiet=True)
 
 
 def tell_repairs(turn: Turn, channel: str, repaired: Repaired) -> None:
@@ -524,7 +524,7 @@ def tell_behind(turn: Turn, translator: Translator, before: frozenset[str]) -> N
         late = [channel for channel, it in turn.renditions() if channel not in begun and one.id not in it.stands.pods.missed and turn.at >= patience_ends(it, turn.target())]
         if begun and late and one.id not in before:
             turn.tell("", f"breaks/{shown(one.id)}", 0, "Behind", f"{', '.join(late)} has had no new segment for two target durations: it begins in the other renditions, and there once "
-                      "its list goes on", is_again=True)
+                      "its playlist goes on", is_again=True)
 
 
 def is_front_alone(turn: Turn, channel: str, it: Taken) -> bool:

@@ -176,7 +176,7 @@ class Feeding:
                     self.begin()
                 self.turn()
             except Unkept as fault:
-                self.telling.tell(self.name, "log", 0, "Unkept", f"{fault}; gives nothing until it can be kept; viewers keep the last list")
+                self.telling.tell(self.name, "log", 0, "Unkept", f"{fault}; gives nothing until it can be kept; viewers keep the last playlist")
                 pause = self.unkept.next()
                 self.rests_until = time.monotonic() + (pause if self.replica is None else min(pause, SELDOM))
             except Exception as fault:  # noqa: BLE001  (a programme's fault isn't to end the others)

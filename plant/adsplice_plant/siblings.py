@@ -1,7 +1,6 @@
 """The other renditions of a programme, as one of them sees them: one clock, and equal numbers at equal instants (RFC 8216, 6.2.4)."""
 from __future__ import annotations
 
-import urllib.parse
 from bisect import bisect_left
 from collections.abc import Sequence
 from dataclasses import replace
@@ -10,6 +9,7 @@ from typing import NamedTuple
 from . import packaged, playlist
 from .breaks import Numbering
 from .packaged import InitSection, Key, PackagedSegment
+from .urls import joined_or_same
 
 FAR = 10  # segments after a list's end at which it may come next
 NEAR = 30  # segments by which the ends of two lists may be apart that are of one clock
@@ -157,7 +157,7 @@ def middle_of(it: PackagedSegment) -> int:
 def moved(it: PackagedSegment, base: str) -> PackagedSegment:
     """A copy of the segment `it` whose references, which were relative to `base`, are absolute."""
     section = it.section and InitSection(absolute(it.section.text, base), tuple(moved_key(key, base) for key in it.section.keys))
-    return replace(it, uri=urllib.parse.urljoin(base, it.uri), keys=tuple(moved_key(key, base) for key in it.keys), section=section,
+    return replace(it, uri=joined_or_same(base, it.uri), keys=tuple(moved_key(key, base) for key in it.keys), section=section,
                    tags=[line for line in it.tags if line.startswith(packaged.EXTINF)], discontinuities=0, stated=it.begins)
 
 
@@ -169,4 +169,4 @@ def moved_key(key: Key, base: str) -> Key:
 def absolute(text: str, base: str) -> str:
     """The attribute list `text` with an absolute URI."""
     uri = packaged.attributes_of(text).get("URI")
-    return text if uri is None else text.replace(f'URI="{uri}"', f'URI="{urllib.parse.urljoin(base, uri)}"', 1)
+    return text if uri is None else text.replace(f'URI="{uri}"', f'URI="{joined_or_same(base, uri)}"', 1)

@@ -194,11 +194,11 @@ class Translator:
         `fresh`: the place of its first new segment."""
         names = {signals.style_of(line) for it in found.segments[fresh:] for line in it.tags if not line.startswith(DATE_RANGE)} - {""}
         if is_untimed and (names or any(it.is_splice() for it in ranges)):
-            self.breaks.tell("signals", "NoTimes", "no segment has an instant, so no break of this list is entered")
+            self.breaks.tell("signals", "NoTimes", "no segment has an instant, so no break of this playlist is entered")
         for it in sorted(names - self.styles):
             if not signals.is_translated(it) and len(self.styles) < MOST_STYLES:
                 self.styles.add(it)
-                self.breaks.tell("signals", "Untranslated", f"the list signals by {it}, a style that isn't translated: it begins no break")
+                self.breaks.tell("signals", "Untranslated", f"the playlist signals by {it}, a style that isn't translated: it begins no break")
 
     def tellings(self) -> list[Line]:
         """What is to be told since the last time; one line in place of many."""
@@ -206,7 +206,7 @@ class Translator:
         if len(told) <= MOST_LINES:
             return told
         one = next((it for it in told if it.word == "TooMany"), told[0])
-        return [Line(one.who, one.word, f"{one.text}; {len(told) - 1} more that this list says isn't told")]
+        return [Line(one.who, one.word, f"{one.text}; {len(told) - 1} more that this playlist says isn't told")]
 
     # ---- what is written
 
