@@ -1,8 +1,9 @@
 """Lists of refreshes in which each text is the last one, moved on, with a random edit: a line changed, lost, doubled or moved,
 a tag changed in the middle of what stood, a header tag behind a segment, other line ends.
 
-Two channels are given the same. One goes on from the text that it read last (`refresh`), the other reads each text whole
-(`refresh_owned`). Their answers, their playlists and what they say of breaks have to be the same.
+Two channels are given the same, but for a comment at each segment. It stays for one channel, which so goes on from the text that it
+read last. For the other one each text has another comment, so that it reads each text whole. Their answers, their playlists and what
+they say of breaks have to be the same.
 """
 import random
 from dataclasses import dataclass, field
@@ -12,6 +13,7 @@ from events import escaped
 
 BASE = "http://origin.example/ch/index.m3u8"
 OUT = "0xFC302000000000000000FFF00F05000000017FFFFE002932E00001" + "0" * 16
+COMMENT = "# each list has this comment"
 SECONDS = 10
 BEGIN = datetime(2024, 5, 1, 12)
 
@@ -45,7 +47,7 @@ class Origin:
     def segment(self, number: int) -> list[str]:
         """The lines of a segment, with the tags before it."""
         if number not in self.lines:
-            draw, made = self.draw, []
+            draw, made = self.draw, [COMMENT]
             if draw.random() < 0.1:
                 made.append("#EXT-X-DISCONTINUITY")
             if draw.random() < 0.15:
@@ -170,12 +172,12 @@ def lists_of(seed: int, number: int, refreshes: int = 12) -> list[str]:
     return events
 
 
-def asked(event: str, back: str, word: str) -> list[str]:
+def asked(event: str, back: str) -> list[str]:
     """The lines for the test driver that give an event to a channel, and ask what that one writes and says then."""
-    lines = [f"to {back}", event.replace("refresh ", word, 1) if event.startswith("refresh ") else event]
+    lines = [f"to {back}", event]
     return [*lines, "playlist", "known"] if event.startswith("refresh ") else lines
 
 
 def both_ways(events: list[str]) -> list[tuple[list[str], list[str]]]:
     """The lines for each event: those for the channel that goes on from the last text, and those for the other one."""
-    return [(asked(event, "1", "refresh "), asked(event, "0", "refresh_owned ")) for event in events]
+    return [(asked(event, "1"), asked(event.replace(COMMENT, f"# list {number}"), "0")) for number, event in enumerate(events)]

@@ -94,14 +94,6 @@ pub back_stands : (found list before after : List Entrance) (place : ℕ) → li
 back_stands found list before after place is (front, back, these, at) =
     (front ++ before, back, these ∙ ap (λ l. front ++ (l ++ back)) is ∙ ap (λ l. front ++ l) (append_assoc before after back) ∙ sym (append_assoc front before (after ++ back)), length-append front before ∙ ap (λ n. n + length before) at)
 
-pub first_stands : (found list : List Entrance) (e : Entrance) (place : ℕ) (later : List Entrance) → list ≡ e ∷ later → StandAt found place list → slice_get found place ≡ Some e
-first_stands found list e place later is (front, back, these, at) =
-    ap (λ n. slice_get found n) (sym at) ∙ (ap (λ l. slice_get l (length front)) (these ∙ ap (λ l. front ++ (l ++ back)) is) ∙ there front e (later ++ back))
-  where
-    there : (front : List Entrance) (e : Entrance) (later : List Entrance) → slice_get (front ++ (e ∷ later)) (length front) ≡ Some e
-    there [] e later = refl
-    there (x ∷ front) e later = there front e later
-
 pub whole_stands : (list : List Entrance) → StandAt list 0 list
 whole_stands list = ([], [], sym (append-nil list), refl)
 

@@ -134,16 +134,6 @@ times_of (s ∷ later) ended =
     let begun = begins_at ended s later in
     ap (λ ss. item_segment (read_item s begun) ∷ ss) (times_of later (ends_at begun s.duration))
 
--- ---- each number fits
-
-abbrev pub has_numbers_that_fit : Segment → Bool
-has_numbers_that_fit s = nat_lt s.media_sequence (2 ^ 64) && nat_lt s.discontinuity_sequence (2 ^ 64)
-
-reads_fit : (segments : List Segment) (instants : List (Option ℤ)) → list_all has_numbers_that_fit segments ≡ true → list_all can_be_numbered (read_items segments instants) ≡ true
-reads_fit [] instants h = refl
-reads_fit (s ∷ later) [] h = refl
-reads_fit (s ∷ later) (i ∷ instants) h = let a = and_parts _ _ h in and_from _ _ a.0 (reads_fit later instants a.1)
-
 -- ---- a first refresh
 
 abbrev here_of : Moment → Segment → List Segment → Marked
@@ -203,15 +193,6 @@ module _ (tolerance : ℕ) (p : Playlist) (s : Segment) (later : List Segment) (
 
   segments_are : numbers_rise segment_numbers p.segments ≡ true → map item_segment (window_after then p) ≡ with_times p.segments (instants_after None p.segments)
   segments_are r = ap (map item_segment) (items_are r) ∙ times_of p.segments None
-
-  -- no number of the stitched list passes its range
-  pub whole_fits : numbers_rise segment_numbers p.segments ≡ true → list_all has_numbers_that_fit p.segments ≡ true → list_all can_be_numbered (whole_stitched_list then) ≡ true
-  whole_fits r h =
-      let whole : whole_stitched_list then ≡ numbered (first_numbers hist) (map kept_piece hist) =
-      ap (λ (x : List Marked). due_list p.end_list x) history_is ∙ ap (numbered (first_numbers hist)) (due_plain p.end_list hist linked unmarked) in
-      ap (list_all can_be_numbered) whole
-      ∙ (sym (list_all-reverse can_be_numbered (numbered (first_numbers hist) (map kept_piece hist)))
-      ∙ (ap (list_all can_be_numbered) (sym window_is ∙ items_are r) ∙ reads_fit p.segments (instants_after None p.segments) h))
 
   none_of_pod : (id : List ℕ) (first : Numbers) (history : List Marked) → list_any (is_of_pod id) (numbered first (map kept_piece history)) ≡ false
   none_of_pod id first [] = refl

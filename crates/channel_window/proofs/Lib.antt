@@ -16,6 +16,4 @@ pub mod Starting
 pub mod TakenOver
 pub mod Few
 pub mod Since
-pub mod ListEnds
-pub mod NewItems
 pub mod KnownBreaks

@@ -1,5 +1,4 @@
 pub mod Checked
-pub mod NewItems
 pub mod Listed
 pub mod Placing
 pub mod Terms

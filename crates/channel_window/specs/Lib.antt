@@ -4,6 +4,4 @@ pub mod MarkingLaws
 pub mod Listed
 pub mod WindowLaws
 pub mod Showing
-pub mod ListEnd
-pub mod Stepped
 pub mod Inner

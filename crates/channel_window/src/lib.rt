@@ -9,7 +9,6 @@ mod placing;
 mod row;
 mod showing;
 mod state;
-mod stepping;
 mod successor;
 mod writing;
 
@@ -18,12 +17,9 @@ pub use marking::mark_text_in_window;
 pub use placing::newest_run_place;
 pub use row::WindowRow;
 pub use showing::{Showing, shown_with};
-pub use state::{Before, ChannelState, Ending, Shown};
-pub use stepping::{SteppedList, stepped_window_of, window_end_within, window_run_end};
+pub use state::{Before, ChannelState, Shown};
 pub use successor::{
     check_successor, first_shown_number, first_successor_number, shown_have_init_sections,
     successor_has_init_sections,
 };
-pub use writing::{
-    PlacedList, date_ranges_left, is_any_window_item_timed, placed_of, window_head_numbers,
-};
+pub use writing::{PlacedList, date_ranges_left, placed_of, window_head_numbers};

@@ -25,15 +25,13 @@ pub struct Shown {
     pub so_far: Nanos,
     /// The rest of a pod that the window starts with.
     pub rest: Option<Rest>,
-    /// The end from which the stitched list goes on with the next refresh, if one is known.
-    pub ending: Option<Ending>,
 }
 
 impl Shown {
     /// What a channel knows that was given nothing. `hashing`: the keys for a table of IDs, which strangers choose. Fails
     /// only if an allocation fails.
     pub fn new(alloc: Global, hashing: RandomState) -> Result<Shown, AllocError>
-        ensures { IfOk result (λ shown. shown ≡ record { knowledge = []; entered = None; numbers = record { media_sequence = 0; discontinuity_sequence = 0; discontinuities = 0 }; so_far = 0; rest = None; ending = None }) }
+        ensures { IfOk result (λ shown. shown ≡ record { knowledge = []; entered = None; numbers = record { media_sequence = 0; discontinuity_sequence = 0; discontinuities = 0 }; so_far = 0; rest = None }) }
     {
         Ok(Shown {
             knowledge: Knowledge::new(alloc, hashing)?,
@@ -41,20 +39,8 @@ impl Shown {
             numbers: Numbers::zero(),
             so_far: Nanos(0),
             rest: None,
-            ending: None,
         })
     }
-}
-
-/// The end of a stitched list, from which it goes on with the next refresh: a run begins there.
-#[derive(Clone, Copy)]
-pub struct Ending {
-    /// How many of the segments that are shown stand there, the last ones.
-    pub segments: usize,
-    /// How many items of the window stand for them, the last ones.
-    pub items: usize,
-    /// The numbers of the first of these items.
-    pub numbers: Numbers,
 }
 
 /// What a channel keeps of all that it was given, its text apart: one window and a few numbers, and no history.

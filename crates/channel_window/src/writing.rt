@@ -31,15 +31,12 @@ use playlist_model::{DateRange, SegmentRef, Shared, Text};
 use pod_store::{IdSet, PodStore};
 use std::alloc::{AllocError, Global};
 use std::hash::RandomState;
-use stitcher::{
-    Ends, MarkedSegment, Numbers, Rest, StitchFault, StitchedItems, StitchedList, TextRef, stitch,
-};
+use stitcher::{Ends, MarkedSegment, Numbers, Rest, StitchFault, StitchedList, TextRef, stitch};
 
 // The stitched list of these segments between these ends, whose first item has these numbers.
 fn stitch_window_segments<'a>(
     alloc: Global,
     list: &'a [MarkedSegment],
-    cut: usize,
     store: &PodStore,
     first: Numbers,
     ends: &Ends,
@@ -54,15 +51,15 @@ fn stitch_window_segments<'a>(
         (λ e. RefusesList e (list_all item_fits
         (stitched_segments store.now first ends.now list.now) ≡ false)) }
 {
-    match stitch(alloc, list, cut, store, first, ends) {
+    match stitch(alloc, list, store, first, ends) {
         Ok(items) => Ok(items),
         Err(StitchFault::NumberRange) => Err(RefreshFault::NumberRange),
         Err(StitchFault::OutOfMemory) => Err(RefreshFault::OutOfMemory),
     }
 }
 
-/// Another owner of `rest`. Fails only if an allocation fails.
-pub(crate) fn copied_window_rest(rest: &Option<Rest>) -> Result<Option<Rest>, AllocError>
+// Another owner of `rest`. Fails only if an allocation fails.
+fn copied_window_rest(rest: &Option<Rest>) -> Result<Option<Rest>, AllocError>
     ensures { IfOk result (λ r. r ≡ rest.now) }
 {
     let Some(rest) = rest else {
@@ -136,13 +133,13 @@ fn window_rest_of(
     }))
 }
 
-/// Where a window starts in a stitched list.
+// Where a window starts in a stitched list.
 #[derive(Drop)]
-pub(crate) struct Start {
-    /// The place of its first item, from 0.
-    pub place: usize,
-    /// The rest of a pod that it starts with.
-    pub rest: Option<Rest>,
+struct Start {
+    // The place of its first item, from 0.
+    place: usize,
+    // The rest of a pod that it starts with.
+    rest: Option<Rest>,
 }
 
 // The start of a window whose first segment has the number `number`, if the last window, of `stood` items, began with
@@ -182,9 +179,9 @@ fn later_window_start(
     Ok(Start { place, rest })
 }
 
-/// The start of the window of the playlist that was `read` in the stitched list of `list`, after the rest that a channel kept in
-/// `before` (RFC 8216, section 6.2.2). The last window had `stood` items. Fails only if an allocation fails.
-pub(crate) fn window_start_of(
+// The start of the window of the playlist that was `read` in the stitched list of `list`, after the rest that a channel kept in
+// `before` (RFC 8216, section 6.2.2). The last window had `stood` items. Fails only if an allocation fails.
+fn window_start_of(
     alloc: Global,
     before: &Before<'_>,
     read: &Read<'_>,
@@ -280,8 +277,7 @@ pub fn placed_of<'a>(
     let (store, shown) = (&before.state.store, &before.state.shown);
     let ends = window_ends_of(&shown.rest, read.playlist.end_list, lasted)?;
     let first = window_numbers_on(&before.state.last, shown.numbers, list, store, &ends)?;
-    let cut = before.list.len();
-    let whole = stitch_window_segments(alloc, list, cut, store, first, &ends)?;
+    let whole = stitch_window_segments(alloc, list, store, first, &ends)?;
     let start = window_start_of(alloc, before, read, list, stood)?;
     Ok(PlacedList {
         whole,
@@ -294,14 +290,7 @@ pub fn placed_of<'a>(
 pub fn window_head_numbers(items: &StitchedList<'_>) -> Numbers
     ensures { result ≡ head_of items.now }
 {
-    first_window_numbers_in(items.items())
-}
-
-/// The numbers of the first of `items`, which are still to come; all are 0 if there is none.
-pub(crate) fn first_window_numbers_in(items: StitchedItems<'_>) -> Numbers
-    ensures { result ≡ head_of items.entry }
-{
-    let mut items = items;
+    let mut items = items.items();
     match items.next() {
         Some(first) => Numbers {
             media_sequence: first.media_sequence,
@@ -312,8 +301,8 @@ pub(crate) fn first_window_numbers_in(items: StitchedItems<'_>) -> Numbers
     }
 }
 
-/// Whether one of `items` states a time. Mostly the first one does, if one does.
-pub fn is_any_window_item_timed(items: &StitchedList<'_>) -> bool
+// Whether one of `items` states a time. Mostly the first one does, if one does.
+fn is_any_window_item_timed(items: &StitchedList<'_>) -> bool
     ensures { result ≡ list_any writes_time items.now }
 {
     let mut items = items.items();

@@ -23,7 +23,6 @@ use Rattle.channel_spec.specs.Live.{states_instant, date_ranges_left}
 use Rattle.channel_spec.specs.Kept.{Kept, head_numbers, window_on, items_on, kept_items, kept_list, kept_length}
 use Rattle.channel_spec.specs.Live.{date_range_text}
 use Rattle.channel_window.specs.Marking.{history_in}
-use Rattle.channel_window.specs.ListEnd.{IsLastEnding}
 use Rattle.channel_window.specs.Showing.{AreKept, kept_in, IsShown}
 use Rattle.channel_window.specs.declared.showing.Showing.{Showing}
 use Rattle.channel_window.specs.declared.state.ChannelState.{ChannelState}
@@ -113,8 +112,8 @@ before_is state before come list stood long list_is is = grind (arith, take_at)
 
 -- what is to hold when the window is written holds if these segments were put behind those that are shown
 pub ready : (tolerance : ℕ) (state before : ChannelState) (p : Playlist) (come list : List Held) (showing : Showing) (written : Option WrittenText) → before ≡ state → list ≡ state.list ++ come → IsShown tolerance state p (state.list ++ come) showing
-    → StoodIn (kept_in state) (kept_items tolerance (kept_in state) p) written → AreKept state.store state → IsLastEnding (kept_in state) state.shown.ending → IsReady before written p list showing.entered showing.so_far
-ready tolerance state before p come list showing written e f shown stood kept ending = grind (arith, items_kept, take_at)
+    → StoodIn (kept_in state) (kept_items tolerance (kept_in state) p) written → AreKept state.store state → IsReady before written p list showing.entered showing.so_far
+ready tolerance state before p come list showing written e f shown stood kept = grind (arith, items_kept, take_at)
 
 -- ---- a refresh is accepted
 

@@ -1,11 +1,10 @@
 -- The last text, from refresh to refresh.
-use Rattle.std.proofs.Common.{◌≡◌, ℕ, ◌-◌, ◌<◌, true, not, cond, List, [], ◌∷◌, ◌++◌, map, reverse, length, take, drop, refl, ap, sym, ◌∙◌, subst, arith}
+use Rattle.std.proofs.Common.{◌≡◌, ℕ, ◌-◌, ◌<◌, true, cond, List, [], ◌∷◌, ◌++◌, map, reverse, length, take, drop, refl, ap, sym, ◌∙◌, subst, arith}
 use Rattle.std.specs.Prelude.{Option, Some, None, Ok, is_none}
 use Rattle.std.specs.List.{list_all}
 use Rattle.std.proofs.lemmas.List.{append-nil, map-append, reverse-append, take_at, length-map, length-reverse}
 use Rattle.url.specs.Parts.{Parts}
 use Rattle.playlist_model.specs.declared.Playlist.{Playlist}
-use Rattle.playlist_model.specs.LookBack.{or_earlier}
 use Rattle.playlist_model.specs.Reading.{reading, limited}
 use Rattle.stitcher.specs.Stitched.{Piece, Item, Numbers, numbered, can_be_numbered}
 use Rattle.stitcher.specs.Written.{written_item}
@@ -15,21 +14,16 @@ use Rattle.playlist_write.specs.Laid.{IsLaid, IsFrontLength, StandsAgain}
 use Rattle.read_is_writable.proofs.Whole.{can_be_written}
 use Rattle.owed_is_denoted.proofs.Given.{is_read}
 use Rattle.pod_store.specs.Store.{Store}
-use Rattle.channel_spec.specs.declared.fault.RefreshFault.TheVariants.{NumberRange}
-use Rattle.channel_spec.specs.Successor.{fault_if}
 use Rattle.channel_spec.specs.LiveLaws.{GoesOn}
 use Rattle.channel_spec.specs.Live.{Told, told, refusal, last_playlist, after_refresh, window_after}
 use Rattle.channel_spec.specs.Live as live
-use Rattle.channel_spec.specs.Kept.{Kept, kept_of, kept_succession, kept_after, kept_items, kept_length, kept_list, kept_window, kept_refusal, shown_from, window_by}
-use Rattle.channel_spec.specs.Successor.{first_number}
-use Rattle.channel_window.specs.ListEnd.{IsEndingOf, IsLastEnding, heading_has_ended, last_window}
+use Rattle.channel_spec.specs.Kept.{Kept, kept_of, kept_succession, kept_items, kept_window, kept_refusal, window_by}
 use Rattle.channel_window.specs.Showing.{kept_in}
 use Rattle.channel_window.specs.declared.state.ChannelState.{ChannelState}
-use Rattle.channel_window.specs.declared.state.Ending.{Ending}
 use Rattle.channel_spec.specs.LastWindow.{last_pieces, last_items}
 use Rattle.channel_spec.proofs.KeptWhole.{kept_follows, items_go_on}
 use Rattle.live_channel.specs.Channel.{Given, refreshed, readable, events_of, told_by}
-use Rattle.live_channel.specs.LastText.{IsLaidOut, IsLast}
+use Rattle.live_channel.specs.LastText.{IsLaidOut}
 use Rattle.live_channel.specs.Inner.LastText.{StoodIn, StoodBefore}
 use Rattle.live_channel.proofs.Steps.{all_given}
 
@@ -96,27 +90,9 @@ pub laid_next : (base : Parts) (tolerance : ℕ) (given : List Given) (bytes : L
     → IsLaid (map written_item (kept_window tolerance k p)) w → IsLaidOut k' (Some w)
 laid_next base tolerance given bytes p k k' w e e' read follows fit laid = grind (arith, window_written, reverse)
 
--- and the end is known from which the list goes on then
-pub ending_next : (base : Parts) (tolerance : ℕ) (given : List Given) (bytes : List ℕ) (p : Playlist) (k k' : Kept) (e : Option Ending) → k ≡ kept_of (told_by base tolerance given) → k' ≡ kept_of (told_by base tolerance (refreshed bytes ∷ given))
-    → reading limited base bytes ≡ Ok p → kept_succession k p ≡ None → list_all can_be_numbered (kept_items tolerance k p) ≡ true
-    → IsEndingOf (shown_from (first_number p.segments) (kept_list tolerance k p)) p.end_list (kept_length tolerance k p) (map written_item (kept_window tolerance k p)) e → IsLastEnding k' e
-ending_next base tolerance given bytes p k k' ending e e' read follows fit end =
-    let t = told_by base tolerance given in
-    let unrefused : kept_refusal tolerance k p ≡ None = ap (λ o. or_earlier o (fault_if (not (list_all can_be_numbered (kept_items tolerance k p))) NumberRange)) follows ∙ ap (λ b. fault_if (not b) NumberRange) fit in
-    let there : kept_refusal tolerance (kept_of t) p ≡ None = ap (λ x. kept_refusal tolerance x p) (sym e) ∙ unrefused in
-    let sound = is_read p (can_be_written limited base bytes p read) in
-    let f = kept_follows tolerance p (events_of base given) (sound, all_given base given) in
-    let none : refusal tolerance t p ≡ None = sym f.refused ∙ there in
-    let is = window_written base tolerance given bytes p read there in
-    let now : told_by base tolerance (refreshed bytes ∷ given) ≡ told tolerance (live.refreshed p ∷ events_of base given) = ap (λ r. told tolerance (readable r ++ events_of base given)) read in
-    let after : k' ≡ kept_after tolerance k p = e' ∙ (ap kept_of now ∙ (sym (f.kept none) ∙ ap (λ x. kept_after tolerance x p) (sym e))) in
-    let window : map written_item (kept_window tolerance k p) ≡ last_window k' =
-    ap (map written_item) (ap (λ x. kept_window tolerance x p) e ∙ (sym is ∙ ap (λ x. reverse (last_items x)) (sym e'))) in
-    subst (λ (x : Kept). IsEndingOf x.shown (heading_has_ended x.last) x.so_far (last_window k') ending) (sym after)
-    (subst (λ w. IsEndingOf (shown_from (first_number p.segments) (kept_list tolerance k p)) p.end_list (kept_length tolerance k p) w ending) window end)
-
 -- ---- decisions leave it
 
-pub last_still : (old : ChannelState) (store : Store) (written : Option WrittenText) → (kept_in (record old { store = store })).shown ≡ (kept_in old).shown
-    → last_items (kept_in (record old { store = store })) ≡ last_items (kept_in old) → IsLast old written → IsLast (record old { store = store }) written
-last_still old store written s e h = grind arith
+pub last_still : (old : ChannelState) (store : Store) (written : Option WrittenText) → last_items (kept_in (record old { store = store })) ≡ last_items (kept_in old)
+    → IsLaidOut (kept_in old) written → IsLaidOut (kept_in (record old { store = store })) written
+last_still old store None e h = h
+last_still old store (Some w) e h = subst (λ items. IsLaid (map written_item (reverse items)) w) (sym e) h

@@ -11,5 +11,3 @@ pub mod Rises
 pub mod LastText
 pub mod Listing
 pub mod Taking
-pub mod Windows
-pub mod Undecided

@@ -58,9 +58,6 @@ taken_over (Some source) state read h t =
       same = ap (map kept_parts) t ∙ (between read.from read.till source.segments.items ∙ (ap (λ xs. drop read.from (take read.till xs)) (sym h) ∙ sym (between read.from read.till held)));
     }
 
-pub nothing_taken : (old taken : List Segment) → taken ≡ [] → AreTaken old taken
-nothing_taken old taken none = record { from = 0; till = 0; same = ap (map kept_parts) none }
-
 -- ---- after an accepted refresh they are those of its playlist
 
 pub listed_next : (base : Parts) (tolerance : ℕ) (given : List Given) (bytes : List ℕ) (p : Playlist) (state : ChannelState) → reading limited base bytes ≡ Ok p

@@ -1,7 +1,6 @@
 -- A channel that takes a playlist that was read.
-use Rattle.std.proofs.Common.{◌≡◌, ◌≤◌, ℕ, List, [], map, length, Ok, ap, sym, ◌∙◌, subst, drop, arith}
+use Rattle.std.proofs.Common.{◌≡◌, ◌≤◌, ℕ, List, map, length, Ok, ap, sym, ◌∙◌, subst, arith}
 use Rattle.std.specs.Prelude.{Option, None, Some, MatchOption}
-use Rattle.std.proofs.Math.Seq.{take-nil, drop-nil}
 use Rattle.url.specs.Parts.{Parts}
 use Rattle.playlist_model.specs.Segments.{Segment}
 use Rattle.playlist_model.specs.declared.DateRange.{DateRange}
@@ -23,20 +22,19 @@ use Rattle.playlist_write.specs.declared.resumed.WrittenText.{WrittenText}
 use Rattle.live_channel.specs.declared.channel.Refreshed.{Refreshed}
 use Rattle.live_channel.specs.Channel.{WasGivenSomething, IsListed, channel_with, told_by, text_in, Refreshes}
 use Rattle.live_channel.specs.Inner.Accepting.{Accepts, IsJudged, BytesAreReadAs}
-use Rattle.live_channel.specs.LastText.{IsLast}
-use Rattle.channel_window.specs.ListEnd.{IsLastEnding}
+use Rattle.live_channel.specs.LastText.{IsLaidOut}
 use Rattle.live_channel.proofs.Listing.{listed_next, contiguous_too}
 use Rattle.live_channel.proofs.LastEntered.{is_last_entered}
 use Rattle.live_channel.proofs.Rises.{rises_next}
 use Rattle.live_channel.proofs.Refreshing.{goes, read_rises, unrefused}
-use Rattle.live_channel.proofs.LastText.{ending_next, laid_next, stood_before}
+use Rattle.live_channel.proofs.LastText.{laid_next, stood_before}
 
 -- what holds of a channel, but for what it keeps of the text that was read
 pub record IsSound (base : Parts) (tolerance : ℕ) (state : ChannelState) (written : Option WrittenText) : Type 0 where
   pub stands : WasGivenSomething (channel_with base tolerance state (text_in written))
   pub kept : AreKept state.store state
   pub contiguous : AreContiguous (window_segments_in state.list)
-  pub laid : IsLast state written
+  pub laid : IsLaidOut (kept_in state) written
 
 module _ (base : Parts) (tolerance : ℕ) (state : ChannelState) (written : Option WrittenText) (bytes : List ℕ) (read : Read) (sound : IsSound base tolerance state written)
     (here : BytesAreReadAs base bytes (playlist_in read)) where
@@ -45,7 +43,7 @@ module _ (base : Parts) (tolerance : ℕ) (state : ChannelState) (written : Opti
       let s = sound.stands in
       let p = playlist_in read in
       record {
-        stood = stood_before base tolerance s.0 bytes p (kept_in state) written s.1.kept here.read sound.laid.text;
+        stood = stood_before base tolerance s.0 bytes p (kept_in state) written s.1.kept here.read sound.laid;
         contiguous = here.numbers;
         decided = sound.kept;
         entered = subst IsLastEntered (sym s.1.kept) (is_last_entered (told_by base tolerance s.0));
@@ -53,7 +51,6 @@ module _ (base : Parts) (tolerance : ℕ) (state : ChannelState) (written : Opti
         last = sound.contiguous;
         taken = taken;
         front = front;
-        ending = sound.laid.ending;
       }
 
   module _ (new : ChannelState) (text : Option WrittenText) (done : Refreshed) (taken : Accepts tolerance state (playlist_in read) new text done) where
@@ -74,10 +71,8 @@ module _ (base : Parts) (tolerance : ℕ) (state : ChannelState) (written : Opti
         let g = goes base tolerance state (text_in written) bytes p taken.held taken.next here f new done taken.state_is taken.done_is s in
         let r = (g.refreshes s.0 s.1).stands in
         let laid = laid_next base tolerance s.0 bytes p (kept_in state) (kept_in new) taken.next.written s.1.kept r.kept here.read f.succeeds f.accepted.fit f.accepted.laid in
-        let end = ending_next base tolerance s.0 bytes p (kept_in state) (kept_in new) taken.next.shown.ending s.1.kept r.kept here.read f.succeeds f.accepted.fit f.accepted.ending in
-        let ending = subst (λ (x : ChannelState). IsLastEnding (kept_in new) x.shown.ending) (sym taken.state_is) end in
         subst (IsSound base tolerance new) (sym taken.written_is)
-        (record { stands = g.stands; kept = g.decided; contiguous = contiguous_too (window_segments_in new.list) p.segments is_listed here.numbers; laid = record { text = laid; ending = ending } })
+        (record { stands = g.stands; kept = g.decided; contiguous = contiguous_too (window_segments_in new.list) p.segments is_listed here.numbers; laid = laid })
 
     pub refreshes : Refreshes (channel_with base tolerance state (text_in written)) bytes (Ok done) (channel_with base tolerance new (text_in text))
     refreshes =
@@ -88,10 +83,6 @@ module _ (base : Parts) (tolerance : ℕ) (state : ChannelState) (written : Opti
 
 pub read_as : (base : Parts) (bytes : List ℕ) (p : Playlist) → reading limited base bytes ≡ Ok p → BytesAreReadAs base bytes p
 read_as base bytes p is = record { read = is; numbers = read_rises base bytes p is }
-
--- nothing is taken over where nothing is kept
-pub alone : (read : Read) → IsTakenFrom [] read → read.taken.now ≡ []
-alone read taken = taken ∙ ap (drop read.from) (take-nil read.till) ∙ drop-nil read.from
 
 -- ---- what is kept of the text
 

@@ -136,11 +136,6 @@ AnswersRefresh old bytes given result new = AnswersUnless (is_out_of_memory resu
 abbrev pub Refreshes : Channel → List ℕ → Result Refreshed RefreshFault → Channel → Type 0
 Refreshes old bytes result new = (given : List Given) → Represents old given → AnswersRefresh old bytes given result new
 
--- a refresh by these bytes would be answered with this text, which the channel would write then, or with this fault
-abbrev pub WouldWrite : Channel → List ℕ → Result (List ℕ) RefreshFault → Type 0
-WouldWrite old bytes (Ok text) = (done : Refreshed) × (new : Channel) × Refreshes old bytes (Ok done) new × (new.text ≡ Some text)
-WouldWrite old bytes (Err fault) = (new : Channel) × Refreshes old bytes (Err fault) new
-
 -- ---- the same from what is kept
 
 abbrev pub live_playlist_after : ℕ → Kept → Playlist → OutPlaylist

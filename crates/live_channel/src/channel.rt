@@ -2,7 +2,7 @@
 ghost use Rattle.std.specs.Prelude.{◌≡◌, ◌<◌, ◌≤◌, [], Some, None, IfOk, IsErrOf, IsSome, length, option_map, slice_get};
 ghost use Rattle.std.specs.Option.{option_copied};
 ghost use Rattle.playlist_model.specs.Uri.{base_of};
-ghost use Rattle.live_channel.specs.Channel.{decided, withdrawn, ChangesStore, ChangesStoreExactly, after_bytes, StandsOn, AlwaysStandsOn, Represents, Decides, Withdraws, WritesWhatIsOwed, Refreshes, WouldWrite, Knows, Explains, explained};
+ghost use Rattle.live_channel.specs.Channel.{decided, withdrawn, ChangesStore, ChangesStoreExactly, after_bytes, StandsOn, AlwaysStandsOn, Represents, Decides, Withdraws, WritesWhatIsOwed, Refreshes, Knows, Explains, explained};
 ghost use Rattle.channel_window.specs.Listed.{window_segments_in};
 ghost use Rattle.pod_store.specs.Store.{withdrawn as without_break};
 ghost use Rattle.pod_store.specs.Store.{is_used};
@@ -10,7 +10,7 @@ ghost use Rattle.break_finder.specs.Entering.{id_of_break, why};
 ghost use Rattle.channel_spec.specs.Successor.{has_init_sections};
 ghost use Rattle.channel_spec.specs.Limits.{max_tolerance};
 
-use crate::refresh::{accept_live_refresh, live_playlist_after, live_playlist_of};
+use crate::refresh::{accept_live_refresh, live_playlist_after};
 use break_finder::Why;
 use channel_spec::{MAX_TOLERANCE, RefreshFault};
 use channel_window::{ChannelState, Shown, WindowRow, shown_have_init_sections};
@@ -18,7 +18,6 @@ use decision_files::read_decisions;
 use fixed_duration::Nanos;
 use playlist_kept::LastPlaylist;
 use playlist_model::{Shared, Text};
-use playlist_write::as_read::text_as_read;
 use playlist_write::resumed::WrittenText;
 use pod_store::{DecisionFault, PodStore};
 use std::alloc::{AllocError, Global};
@@ -60,12 +59,12 @@ impl Model for Channel {
 
     ghost view = { λ a. channel_with a.base a.tolerance a.state (text_in a.written) };
 
-    ghost use Rattle.channel_window.specs.Showing.{AreKept};
+    ghost use Rattle.channel_window.specs.Showing.{AreKept, kept_in};
     ghost use Rattle.channel_window.specs.Checked.{AreContiguous};
     ghost use Rattle.channel_window.specs.Listed.{window_segments_in};
-    ghost use Rattle.live_channel.specs.LastText.{IsLast};
+    ghost use Rattle.live_channel.specs.LastText.{IsLaidOut};
 
-    ghost invariant = { λ a. WasGivenSomething (channel_with a.base a.tolerance a.state (text_in a.written)) × AreKept a.state.store a.state × (IsListed a.source a.state.list × AreContiguous (window_segments_in a.state.list)) × IsLast a.state a.written × IsKeptUnderBase a.base a.source };
+    ghost invariant = { λ a. WasGivenSomething (channel_with a.base a.tolerance a.state (text_in a.written)) × AreKept a.state.store a.state × (IsListed a.source a.state.list × AreContiguous (window_segments_in a.state.list)) × IsLaidOut (kept_in a.state) a.written × IsKeptUnderBase a.base a.source };
 }
 
 /// Why a channel can't be made.
@@ -184,39 +183,6 @@ impl Channel {
         let step = read.step();
         self.source = step.after(alloc, self.source.take());
         Ok(refreshed)
-    }
-
-    /// Takes `bytes` as `refresh` does, with its answers and its faults, and gives their memory back once they are
-    /// read. So a large input and the text that is written of it needn't be held at once. Nothing of the text is kept
-    /// for the next refresh, which reads its own whole.
-    pub fn refresh_owned(
-        &mut self,
-        alloc: Global,
-        bytes: Vec<u8>,
-    ) -> Result<Refreshed, RefreshFault>
-        ensures { Refreshes self.old bytes.items result self.new }
-    {
-        let read = live_playlist_of(alloc, bytes.as_slice(), &self.base)?;
-        drop(bytes);
-        let (state, written) = (&mut self.state, &mut self.written);
-        let refreshed = accept_live_refresh(alloc, self.tolerance, state, written, &read)?;
-        self.source = None;
-        Ok(refreshed)
-    }
-
-    #[tactic(auto, using(crate::proofs::Undecided::would_write, crate::proofs::Undecided::would_refuse))]
-    /// The text that the channel would write after a refresh by `input`, the origin's playlist, if nothing was given to it. It is
-    /// written from what was read, without a list of shown segments, and the channel is as it was. So a run that ends then takes
-    /// less memory than by `refresh_owned`. The faults are those of reading `input` (P1 to P24); `OutOfMemory` only if an
-    /// allocation fails.
-    pub fn first_text(&self, alloc: Global, input: Vec<u8>) -> Result<Shared<Text>, RefreshFault>
-        requires nothing_given { Represents self.now [] }
-        ensures { WouldWrite self.now input.items result }
-    {
-        let first = live_playlist_of(alloc, input.as_slice(), &self.base)?;
-        drop(input);
-        let text = text_as_read(alloc, &first.playlist)?;
-        Ok(Shared::new(alloc, text)?)
     }
 
     /// Takes `bytes`, a decision file. The faults, in this order: those of reading it (J1 to J7), then those of

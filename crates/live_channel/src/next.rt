@@ -1,5 +1,5 @@
 //! What a channel comes to by a refresh that shows these segments: what it keeps then, and the text that it writes.
-ghost use Rattle.std.specs.Prelude.{◌≡◌, ◌⊎◌, [], None, IfOk, IfErr, IfSome, true, false, drop, map};
+ghost use Rattle.std.specs.Prelude.{◌≡◌, None, IfOk, IfErr, false, drop, map};
 ghost use Rattle.std.specs.List.{list_all, list_any};
 ghost use Rattle.stitcher.specs.Stitched.{can_be_numbered};
 ghost use Rattle.playlist_kept.specs.Kept.{playlist_in};
@@ -11,7 +11,6 @@ ghost use Rattle.channel_window.specs.Showing.{kept_before, kept_in};
 ghost use Rattle.channel_window.specs.Listed.{RefusesList, writes_time};
 ghost use Rattle.owed_is_denoted.specs.Owed.{out_playlist};
 ghost use Rattle.playlist_write.specs.Laid.{IsLaid};
-ghost use Rattle.channel_window.specs.ListEnd.{IsEndOf};
 ghost use Rattle.live_channel.specs.Inner.Accepting.{IsNext, IsReady, IsRefreshReady, IsRefreshWindow, refresh_items};
 ghost use Rattle.live_channel.specs.Inner.LastText.{Stood, StandIn, count_in_live_text};
 
@@ -19,15 +18,14 @@ use crate::channel::Refreshed;
 use crate::in_use::live_breaks_in_use;
 use channel_spec::RefreshFault;
 use channel_window::{
-    Before, Ending, PlacedList, Showing, Shown, date_ranges_left, first_successor_number,
-    is_any_window_item_timed, place_of_number, placed_of, stepped_window_of, window_end_within,
-    window_head_numbers, window_run_end,
+    Before, PlacedList, Showing, Shown, date_ranges_left, first_successor_number, place_of_number,
+    placed_of, window_head_numbers,
 };
 use fixed_duration::Nanos;
 use playlist_kept::Read;
 use playlist_model::{Items, Playlist, Shared, Text};
 use playlist_write::OutPlaylist;
-use playlist_write::resumed::{WrittenText, front_length, laid_after, laid_out, text_laid_out_on};
+use playlist_write::resumed::{WrittenText, front_length, laid_after, laid_out};
 use std::alloc::{AllocError, Global};
 use std::hash::RandomState;
 use stitcher::{MarkedSegment, Numbers, Rest, StitchedList, TextRef};
@@ -185,93 +183,14 @@ pub struct NextWindow {
     pub count: usize,
     /// The rest of a pod that it starts with.
     pub rest: Option<Rest>,
-    /// The end from which the stitched list goes on with the next refresh, if one is known.
-    pub ending: Option<Ending>,
     /// The breaks in use.
     pub in_use: Vec<Shared<Text>>,
     /// Its text.
     pub written: WrittenText,
 }
 
-// Whether the date ranges that are written can be told from these items, the first of a window.
-fn live_playlist_tells_times(playlist: &Playlist, first: &StitchedList<'_>) -> bool
-    ensures { result ≡ true → (playlist.now.date_ranges ≡ [])
-        ⊎ (list_any writes_time first.now ≡ true) }
-{
-    playlist.date_ranges.as_slice().is_empty() || is_any_window_item_timed(first)
-}
-
-// The window, if most of its text stands in the last one: its first segment, and what is new of the stitched list, are written.
-fn stepped_live_window(
-    alloc: Global,
-    refresh: &ShownRefresh<'_, '_>,
-) -> Result<Option<NextWindow>, AllocError>
-    requires { IsRefreshReady refresh.now }
-    ensures { IfOk result (λ some. IfSome some (IsRefreshWindow refresh.now)) }
-{
-    let (before, read, list) = (refresh.before, refresh.read, refresh.list);
-    let Some(last) = refresh.written else {
-        return Ok(None);
-    };
-    let Some(ending) = &before.state.shown.ending else {
-        return Ok(None);
-    };
-    let (lasted, stood) = (refresh.lasted, last.count);
-    let Some(stepped) = stepped_window_of(alloc, before, read, list, lasted, stood, ending)? else {
-        return Ok(None);
-    };
-    let Some(length) = front_length(alloc, &stepped.front, stepped.start)? else {
-        return Ok(None);
-    };
-    let mut first = stepped.front;
-    first.leave_out(stepped.start);
-    if !live_playlist_tells_times(&read.playlist, &first) {
-        return Ok(None);
-    }
-    let numbers = window_head_numbers(&first);
-    let (number, entered) = (first_successor_number(read), refresh.entered);
-    let store = &before.state.store;
-    let in_use = live_breaks_in_use(alloc, store, number, list, entered, &stepped.rest)?;
-    let hashing = store.hashing();
-    let out = live_playlist_written_of(alloc, hashing, &read.playlist, in_use.as_slice(), first)?;
-    let again = stood - stepped.start;
-    let fresh = &stepped.fresh;
-    let Some(written) = text_laid_out_on(alloc, &out, last, length, again, fresh, stepped.count)?
-    else {
-        return Ok(None);
-    };
-    Ok(Some(NextWindow {
-        numbers,
-        count: stepped.count,
-        rest: stepped.rest,
-        ending: stepped.ending,
-        in_use,
-        written,
-    }))
-}
-
-// The end from which a list goes on that was made whole. It is sought from the second refresh on: the first one's list would have to
-// be walked through.
-fn whole_live_end(
-    alloc: Global,
-    refresh: &ShownRefresh<'_, '_>,
-    items: &StitchedList<'_>,
-) -> Result<Option<Ending>, AllocError>
-    requires { IsRefreshReady refresh.now }
-    ensures { IfOk result
-        (λ some. IfSome some
-        (IsEndOf (kept_before refresh.now.before.now).store (playlist_in refresh.now.read.now).end_list refresh.now.lasted refresh.now.list.now items.now)) }
-{
-    if refresh.before.list.is_empty() {
-        return Ok(None);
-    }
-    let store = &refresh.before.state.store;
-    let ended = refresh.read.playlist.end_list;
-    window_run_end(alloc, store, refresh.list, ended, refresh.lasted, items)
-}
-
-// The window, of a stitched list that is made whole.
-fn whole_live_window(
+// The window.
+fn next_live_window(
     alloc: Global,
     refresh: &ShownRefresh<'_, '_>,
 ) -> Result<NextWindow, RefreshFault>
@@ -284,40 +203,21 @@ fn whole_live_window(
     let (lasted, stood) = (refresh.lasted, count_in_live_text(refresh.written));
     let PlacedList { whole, start, rest } = placed_of(alloc, before, read, list, lasted, stood)?;
     let again = live_lines_again(alloc, refresh.written, &whole, start)?;
-    let end = whole_live_end(alloc, refresh, &whole)?;
     let mut items = whole;
     items.leave_out(start);
     let number = first_successor_number(read);
     let store = &before.state.store;
     let in_use = live_breaks_in_use(alloc, store, number, list, refresh.entered, &rest)?;
     let (numbers, count) = (window_head_numbers(&items), items.count());
-    let gone = place_of_number(number, list);
     let hashing = store.hashing();
     let out = live_playlist_written_of(alloc, hashing, &read.playlist, in_use.as_slice(), items)?;
     Ok(NextWindow {
         numbers,
         count,
         rest,
-        ending: window_end_within(end, list.len() - gone, count),
         in_use,
         written: lay_live_text(alloc, &out, &again)?,
     })
-}
-
-// The window, whichever way it is made.
-fn next_live_window(
-    alloc: Global,
-    refresh: &ShownRefresh<'_, '_>,
-) -> Result<NextWindow, RefreshFault>
-    requires { IsRefreshReady refresh.now }
-    ensures ok { IfOk result (IsRefreshWindow refresh.now) }
-    ensures err { IfErr result
-        (λ e. RefusesList e (list_all can_be_numbered (refresh_items refresh.now) ≡ false)) }
-{
-    match stepped_live_window(alloc, refresh)? {
-        Some(window) => Ok(window),
-        None => whole_live_window(alloc, refresh),
-    }
 }
 
 /// What a channel that kept `before` comes to by the playlist that was `read`, if it shows the segments `list` then, of which
@@ -367,7 +267,6 @@ pub fn next_live_state_of<'a>(
         numbers: window.numbers,
         so_far,
         rest: window.rest,
-        ending: window.ending,
     };
     Ok(NextState {
         gone: place_of_number(first_successor_number(read), list),

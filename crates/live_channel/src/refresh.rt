@@ -1,6 +1,6 @@
 //! A refresh in its phases: the playlist is read, it may follow the last one, it is shown, its text is written, and what the
 //! channel comes to is kept.
-ghost use Rattle.std.specs.Prelude.{◌≡◌, ◌≤◌, ℕ, [], None, Some, IfOk, IfErr, OnOk, OnErr, false, length};
+ghost use Rattle.std.specs.Prelude.{◌≡◌, ◌≤◌, ℕ, None, Some, IfOk, IfErr, OnOk, OnErr, false, length};
 ghost use Rattle.std.specs.List.{list_all};
 ghost use Rattle.stitcher.specs.Stitched.{can_be_numbered};
 ghost use Rattle.stitcher.specs.StitchedSegments.{KnowCommon};
@@ -8,7 +8,6 @@ ghost use Rattle.channel_spec.specs.Kept.{kept_items, kept_refusal, kept_success
 ghost use Rattle.channel_spec.specs.Successor.{answer_of};
 ghost use Rattle.channel_window.specs.Checked.{AreContiguous, AreTaken};
 ghost use Rattle.playlist_kept.specs.Kept.{AreKeptLines, IsKeptUnderBase, IsTakenFrom, kept_segments, playlist_in};
-ghost use Rattle.channel_window.specs.ListEnd.{IsLastEnding};
 ghost use Rattle.channel_window.specs.Showing.{AreKept, IsLastEntered, kept_in};
 ghost use Rattle.live_channel.specs.Inner.Accepting.{Accepts, FollowsLastPlaylist, HasGrown, IsAccepted, IsJudged, BytesAreReadAs, Refused, RefusesNext, state_with};
 ghost use Rattle.channel_window.specs.Listed.{RefusesList, RisesOn, window_segments_in};
@@ -57,7 +56,6 @@ fn next_kept_live_state(
     requires rising { RisesOn state.old.list (playlist_in read.now).segments }
     requires taken { AreTaken (window_segments_in state.old.list) read.now.taken.now }
     requires front { read.now.front ≤ length read.now.playlist.segments }
-    requires ending { IsLastEnding (kept_in state.old) state.old.shown.ending }
     ensures ok { IfOk result
         (λ a. IsAccepted tolerance (kept_in state.old) (playlist_in read.now) state.new.list a) }
     ensures err { IfErr result
@@ -109,25 +107,7 @@ pub fn live_playlist_after<'a>(
     ensures err { IfErr result
         (λ e. (tolerance : ℕ) (state : LiveState) → Refused base.now tolerance state bytes.now e) }
 {
-    Ok(read(alloc, bytes, base, source, true)?)
-}
-
-#[tactic(auto, using(crate::proofs::Taking::alone))]
-/// The playlist that `bytes` are read as under `base`, of whose text nothing is kept. The faults are those of
-/// `live_playlist_after`.
-pub fn live_playlist_of<'a>(
-    alloc: Global,
-    bytes: &[u8],
-    base: &Base,
-) -> Result<Read<'a>, RefreshFault>
-    ensures ok { IfOk result (λ read. BytesAreReadAs base.now bytes.now (playlist_in read)) }
-    ensures taken { IfOk result (λ read. read.taken.now ≡ []) }
-    ensures front { IfOk result (λ read. read.front ≤ length read.playlist.segments) }
-    ensures err { IfErr result
-        (λ e. (tolerance : ℕ) (state : LiveState) → Refused base.now tolerance state bytes.now e) }
-{
-    let nothing = None;
-    Ok(read(alloc, bytes, base, &nothing, false)?.alone())
+    Ok(read(alloc, bytes, base, source)?)
 }
 
 // Keeps in `state` what an accepted refresh by a playlist of the heading `last` comes to, which is `next`, and in `written`

@@ -5,4 +5,3 @@ pub mod Given
 pub mod Told
 pub mod Whole
 pub mod Always
-pub mod AsRead

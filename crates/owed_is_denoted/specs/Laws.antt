@@ -11,7 +11,6 @@ use Rattle.read_is_writable.specs.Read.{AreRead}
 use Rattle.channel_spec.specs.Sound.{AllPods}
 use Rattle.channel_spec.specs.Live.{Event, decided, refreshed, told, last_playlist, refusal, owed_for}
 use Rattle.pod_store.specs.Rules.{ads_keep}
-use Rattle.playlist_write.specs.AsRead.{written_as_read}
 use Rattle.owed_is_denoted.specs.Owed.{owed_playlist, owed_text}
 
 -- a playlist as it is read by the reader with limits, which is what its bytes denote
@@ -49,9 +48,3 @@ abbrev pub AlwaysDenotes : Type 0
 AlwaysDenotes = (tolerance : ℕ) (events : List Event) (playlist : Playlist) (base : Parts) → AllByRecursion CanBeGiven events →
     last_playlist (told tolerance events).accepted ≡ Some playlist →
     Denotes base (owed_text (told tolerance events) playlist) (owed_for (told tolerance events) playlist)
-
--- without decisions a first refresh is accepted, and it is written as it was read
-abbrev pub UndecidedIsAsRead : Type 0
-UndecidedIsAsRead = (tolerance : ℕ) (playlist : Playlist) → CanBeRead playlist →
-    (refusal tolerance (told tolerance []) playlist ≡ None)
-    × (owed_playlist (told tolerance (refreshed playlist ∷ [])) playlist ≡ written_as_read playlist)

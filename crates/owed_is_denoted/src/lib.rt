@@ -2,7 +2,7 @@
 //! owed, under every base. Each function's contract is its law; calling it does nothing.
 #![tactic(auto)]
 
-ghost use Rattle.owed_is_denoted.specs.Laws.{OwedIsWellFormed, OwedIsDenoted, TextDenotesOwed, AlwaysDenotes, UndecidedIsAsRead};
+ghost use Rattle.owed_is_denoted.specs.Laws.{OwedIsWellFormed, OwedIsDenoted, TextDenotesOwed, AlwaysDenotes};
 
 /// What is owed after an accepted refresh can be written.
 pub fn owed_is_well_formed()
@@ -22,9 +22,4 @@ pub fn text_denotes_owed()
 /// After any events the text of what is owed denotes it, under every base.
 pub fn always_denotes()
     ensures { AlwaysDenotes }
-{}
-
-/// Without decisions a first refresh is accepted, and it is written with the segments that were read.
-pub fn undecided_is_as_read()
-    ensures { UndecidedIsAsRead }
 {}

@@ -50,24 +50,6 @@ impl<'a> Read<'a> {
     {
         self.playlist.segments.len() as u128 + self.taken.len() as u128
     }
-
-    /// The same playlist by itself, if nothing was taken over.
-    pub fn alone<'b>(self) -> Read<'b>
-        requires { self.taken.now ≡ [] }
-        ensures playlist { playlist_in result ≡ playlist_in self.entry }
-        ensures taken { result.taken.now ≡ [] }
-        ensures front { result.front ≡ self.entry.front }
-        ensures playlist_read { result.playlist ≡ self.entry.playlist }
-    {
-        Read {
-            playlist: self.playlist,
-            front: self.front,
-            taken: &[],
-            from: self.from,
-            till: self.till,
-            lines: self.lines,
-        }
-    }
 }
 
 /// Where segments stand that were taken over: from `start` up to `end` in the new playlist, from `from` up to `till` in the

@@ -34,11 +34,6 @@ pub flagged : (found : Tag) (colon : Bool) → tag_view (if colon then Unknown e
 flagged found true = refl
 flagged found false = refl
 
-weaker : (result : Result (Unit {0}) FaultKind) (P : Type 0) (o : Outcome Said)
-    → MatchResult result (λ _. P) (λ e. o ≡ Err e) → MatchResult result (λ _. P) (λ e. e ≢ fault.OutOfMemory → o ≡ Err e)
-weaker (Ok x) P o h = h
-weaker (Err e) P o h = λ _. h
-
 -- what takes a tag with no memory, takes it
 pub exactly : (name : Name) (rest : List ℕ) (old new : Progress) (result : Result (Unit {0}) FaultKind) → TakesTagExactly name rest old new result → TakesTag name rest old new result
 exactly name rest old new result takes = grind arith

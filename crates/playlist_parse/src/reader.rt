@@ -92,15 +92,13 @@ fn read_tail_lines<'a>(
 }
 
 #[tactic(none)]
-// Reads the lines after the header. `is_plain` says that none of them has a control character, and `keeps` that they
-// are kept for the next text.
+// Reads the lines after the header. `is_plain` says that none of them has a control character.
 fn read_lines_after_header<'a>(
     alloc: Global,
     body: &'a str,
     is_plain: bool,
     base: &'a Base,
     source: &'a Option<LastPlaylist>,
-    keeps: bool,
 ) -> Result<Read<'a>, PlaylistFault>
     requires few { length (lines body.now) < 2 ^ 63 }
     requires plain { is_plain ≡ true → list_all is_free (lines body.now) ≡ true }
@@ -121,7 +119,7 @@ fn read_lines_after_header<'a>(
         Ok(places) => places,
         Err(fault) => return Err(fault),
     };
-    let lines = match source_lines_of_reading(alloc, cut.front, &reading, keeps) {
+    let lines = match source_lines_of_reading(alloc, cut.front, &reading) {
         Ok(lines) => lines,
         Err(_) => return Err(fault_at_line(FaultKind::OutOfMemory, 0)),
     };
@@ -141,18 +139,17 @@ fn read_lines_after_header<'a>(
 /// allocation fails.
 ///
 /// `source` is what was kept of the last playlist, if anything was. What both texts have in common is taken over from
-/// there. `keeps` says that the lines are kept for the next text.
+/// there.
 ///
 /// ```text
-/// read(alloc, b"#EXTM3U\n#EXT-X-TARGETDURATION:6\n#EXTINF:6,\ns0.ts\n", &base, &None, false)    Ok: one segment
-/// read(alloc, b"#EXTM3U\n#EXTINF:6,\ns0.ts\n", &base, &None, false)                            Err: P18 NoTarget
+/// read(alloc, b"#EXTM3U\n#EXT-X-TARGETDURATION:6\n#EXTINF:6,\ns0.ts\n", &base, &None)    Ok: one segment
+/// read(alloc, b"#EXTM3U\n#EXTINF:6,\ns0.ts\n", &base, &None)                            Err: P18 NoTarget
 /// ```
 pub fn read<'a>(
     alloc: Global,
     bytes: &'a [u8],
     base: &'a Base,
     source: &'a Option<LastPlaylist>,
-    keeps: bool,
 ) -> Result<Read<'a>, PlaylistFault>
     requires { IsKeptUnderBase base.now source.now }
     ensures answer { AnswersRead result (reading limited base.now bytes.now) }
@@ -190,5 +187,5 @@ pub fn read<'a>(
         return Err(fault_at_line(FaultKind::NoHeader, 1));
     }
     let is_plain = has_plain_line_bytes(bytes);
-    read_lines_after_header(alloc, lines.left(), is_plain, base, source, keeps)
+    read_lines_after_header(alloc, lines.left(), is_plain, base, source)
 }

@@ -230,21 +230,17 @@ pub fn take_over_source_lines<'a>(
 }
 
 /// What is kept of `text`, all of whose lines `reading` has read; none if it has no segment, or tags of a further one at
-/// its end, or if `keeps` is false. Fails only if an allocation fails.
+/// its end. Fails only if an allocation fails.
 pub fn source_lines_of_reading(
     alloc: Global,
     text: &str,
     reading: &Reading<'_>,
-    keeps: bool,
 ) -> Result<Option<KeptLines>, AllocError>
     ensures lines { IfOk result
         (λ lines. MatchOption lines (Unit {0})
         (λ kept. AreLinesOf text.now reading.now.progress reading.now.number kept)) }
     ensures none { reading.now.progress.segments ≡ [] → result ≡ Ok None }
 {
-    if !keeps {
-        return Ok(None);
-    }
     let Some(segments) = reading.progress.segment_count() else {
         return Ok(None);
     };

@@ -19,5 +19,4 @@ pub mod CommonKeys
 pub mod OnlyKey
 pub mod PaddedTexts
 pub mod PlainLines
-pub mod ReadItems
 pub mod SameFronts

@@ -1,6 +1,5 @@
 pub mod Owed
 pub mod Header
-pub mod AsRead
 pub mod DateRangeParts
 pub mod KeyParts
 pub mod Taken

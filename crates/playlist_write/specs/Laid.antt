@@ -43,16 +43,3 @@ pub record StandsAgain (segments : List OutSegment) (w : WrittenText) (len again
   pub laid : IsLaid (take (gone + again) before) w
   pub on : drop gone before ≡ segments
   pub front : IsFrontLength before gone len
-
--- these segments, of which the text has lines, are so many; the first of them is that of this playlist, and these are fresh after those
--- that stand in the text
-pub record HasEnds (playlist : OutPlaylist) (w : WrittenText) (len again : ℕ) (fresh : List OutSegment) (count : ℕ) (segments : List OutSegment) : Type 0 where
-  pub stands : StandsAgain segments w len again
-  pub first : take 1 segments ≡ take 1 playlist.segments
-  pub new : drop again segments ≡ fresh
-  pub counted : count ≡ length segments
-
--- it is the text of this playlist with these segments, and has their lines
-pub record IsTextWith (playlist : OutPlaylist) (segments : List OutSegment) (w : WrittenText) : Type 0 where
-  pub text : w.text ≡ playlist_text (record playlist { segments = segments })
-  pub laid : IsLaid segments w

@@ -1,6 +1,5 @@
 pub mod Spelling
 pub mod Owed
-pub mod AsRead
 pub mod WellFormed
 pub mod Denoted
 pub mod Laws

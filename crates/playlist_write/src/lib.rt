@@ -7,12 +7,11 @@ ghost use Rattle.url.specs.Parts.{Parts};
 ghost use Rattle.byte_streams.specs.Devices.{FailedAtLast, NoneFailed};
 ghost use Rattle.playlist_model.specs.Reading.{Denotes};
 ghost use Rattle.playlist_write.specs.Owed.{playlist_text, said_text, header_owed, ended_owed, with_feed};
-ghost use Rattle.playlist_write.specs.Inner.Header.{header_said};
 ghost use Rattle.playlist_write.specs.WellFormed.{well_formed};
 ghost use Rattle.playlist_write.specs.Denoted.{denoted};
 ghost use Rattle.byte_streams.specs.Handed.{TookFront};
 
-use crate::header::{WrittenHeader, header_of, write_end_line, write_header_lines};
+use crate::header::{header_of, write_end_line, write_header_lines};
 use crate::in_force::InForce;
 use crate::lines::write_line;
 use crate::pieces::{PIECE_ROOM, write_pieces_of_date_ranges, write_pieces_of_segments};
@@ -22,7 +21,6 @@ use playlist_model::{Items, Keys, PlaylistKind};
 use std::alloc::{AllocError, Global};
 use stitcher::{StitchedList, TextRef};
 
-pub mod as_read;
 mod date_ranges;
 mod digits;
 mod header;
@@ -87,22 +85,6 @@ impl From<SinkFailed> for WriteFault {
     }
 }
 
-// The lines that state this header, in a text with so much room.
-fn written_header_text(
-    alloc: Global,
-    room: usize,
-    header: &WrittenHeader,
-) -> Result<String, AllocError>
-    ensures { IfOk result
-        (λ text. string_bytes text
-        ≡ with_feed (codes "#EXTM3U") ++ said_text (header_said header.now)) }
-{
-    let mut text = String::with_capacity(alloc, room)?;
-    write_line(&mut text, "#EXTM3U")?;
-    write_header_lines(&mut text, header)?;
-    Ok(text)
-}
-
 // The lines before the date ranges, in a text with so much room.
 fn written_lines_before_date_ranges(
     alloc: Global,
@@ -113,7 +95,10 @@ fn written_lines_before_date_ranges(
         (λ text. string_bytes text
         ≡ with_feed (codes "#EXTM3U") ++ said_text (header_owed playlist.now)) }
 {
-    written_header_text(alloc, room, &header_of(playlist))
+    let mut text = String::with_capacity(alloc, room)?;
+    write_line(&mut text, "#EXTM3U")?;
+    write_header_lines(&mut text, &header_of(playlist))?;
+    Ok(text)
 }
 
 // Adds the end to what is held, and hands all of it out.

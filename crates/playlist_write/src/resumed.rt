@@ -1,9 +1,8 @@
 //! The text of a playlist as it is written: made whole, or from the text that was written last. The lines of a segment depend on
 //! the segment before it alone, so those of segments that stood there are copied in one piece.
 ghost use Rattle.std.specs.Prelude.{◌≡◌, ◌++◌, ◌+◌, List, drop, take, length, IfOk, OnOk, IfSome, string_bytes};
-ghost use Rattle.stitcher.specs.declared.OutSegment.{OutSegment};
 ghost use Rattle.playlist_write.specs.Owed.{none_yet, said_text, segments_owed, ended_owed, playlist_text};
-ghost use Rattle.playlist_write.specs.Laid.{after_segments, first_written_segment_states_all, current_of, IsLaid, IsFrontLength, StandsAgain, HasEnds, IsTextWith};
+ghost use Rattle.playlist_write.specs.Laid.{after_segments, first_written_segment_states_all, current_of, IsLaid, IsFrontLength, StandsAgain};
 ghost use Rattle.playlist_write.specs.Inner.Laid.{front_text};
 
 use crate::header::{write_date_range_lines, write_end_line};
@@ -268,34 +267,4 @@ pub fn laid_after(
     let fresh = playlist.segments.items_from(again);
     let (room, count) = (written_text_room_for(playlist), playlist.segments.count());
     Ok(join_written_parts(alloc, room, playlist, last, lines, fresh, count)?)
-}
-
-/// The text of a playlist of `count` segments, of which lines are copied from `last`, the text that was written last. It is
-/// `playlist` with more segments: the first one is that of `playlist`, the first `again` are the last ones of `last`, and
-/// `fresh` come after these. `length` is what `front_length` gives for those in front of them, in bytes. None if `last`
-/// hasn't so many bytes. Fails only if an allocation fails.
-pub fn text_laid_out_on(
-    alloc: Global,
-    playlist: &OutPlaylist<'_>,
-    last: &WrittenText,
-    length: usize,
-    again: usize,
-    fresh: &StitchedList<'_>,
-    count: usize,
-) -> Result<Option<WrittenText>, AllocError>
-    ensures { IfOk result
-        (λ some. IfSome some (λ w. (segments : List OutSegment)
-        → HasEnds playlist.now last.now length again fresh.now count segments
-        → IsTextWith playlist.now segments w)) }
-{
-    let Some(lines) = written_lines_after(last, length) else {
-        return Ok(None);
-    };
-    let room = last
-        .text
-        .as_str()
-        .len()
-        .saturating_add(written_text_room_for(playlist));
-    let text = join_written_parts(alloc, room, playlist, last, lines, fresh.items(), count)?;
-    Ok(Some(text))
 }

@@ -1,10 +1,9 @@
 //! How much room the text of a playlist is given before it is made.
-ghost use Rattle.std.specs.Prelude.{◌≤◌, ◌+◌, ◌*◌, length, map, sum};
-ghost use Rattle.playlist_write.specs.AsRead.{attributes_of};
+ghost use Rattle.std.specs.Prelude.{◌≤◌, map, sum};
 ghost use Rattle.playlist_write.specs.Inner.Room.{most_room, date_range_room, text_room};
 
 use crate::OutPlaylist;
-use playlist_model::{DateRange, Playlist, SegmentRef, SegmentSlice, Shared};
+use playlist_model::SegmentRef;
 use stitcher::{StitchedItems, TextRef};
 
 // So many segments are looked at to reckon how much room all of them take.
@@ -59,43 +58,4 @@ pub(crate) fn written_text_room_for(playlist: &OutPlaylist<'_>) -> usize
         .count()
         .saturating_mul(written_segment_room(segments.items()));
     room.saturating_add(date_ranges).saturating_add(256)
-}
-
-// The same of segments that were read.
-fn read_segment_room(segments: SegmentSlice<'_>) -> usize
-    ensures { result ≤ most_room }
-{
-    let mut rest = segments;
-    let mut most: usize = 0;
-    for _ in 0..FEW {
-        let Some((segment, later)) = rest.split_first() else {
-            break;
-        };
-        most = most.max(written_segment_room_of(&segment));
-        rest = later;
-    }
-    MAX_ROOM.min(most)
-}
-
-// The room that the lines of date ranges are given that were read.
-fn read_date_ranges_room(date_ranges: &[Shared<DateRange>]) -> usize
-    ensures { result ≤ sum (map date_range_room (map attributes_of date_ranges.now)) }
-{
-    let mut room: usize = 0;
-    for date_range in date_ranges {
-        room = room
-            .saturating_add(date_range.attributes.as_str().len())
-            .saturating_add(24);
-    }
-    room
-}
-
-/// How many bytes most texts of `playlist` take at most, if it is written as it was read.
-pub(crate) fn read_text_room_for(playlist: &Playlist) -> usize
-    ensures { result ≤ 256 + sum (map date_range_room (map attributes_of playlist.now.date_ranges)) + length playlist.now.segments * most_room }
-{
-    let date_ranges = read_date_ranges_room(playlist.date_ranges.as_slice());
-    let segments = playlist.segments.as_slice();
-    let room = segments.len().saturating_mul(read_segment_room(segments));
-    date_ranges.saturating_add(room).saturating_add(256)
 }

@@ -12,10 +12,8 @@ use Rattle.channel_spec.specs.Successor.{owed_heading_of}
 use Rattle.channel_spec.specs.Live.{told}
 use Rattle.channel_spec.specs.Kept.{Kept, kept_of}
 use Rattle.channel_window.specs.declared.state.ChannelState.{ChannelState}
-use Rattle.pod_store.specs.Marks.{Marked}
 use Rattle.stitcher.specs.declared.OutSegment.{OutSegment}
 use Rattle.channel_window.specs.Listed.{head_of, window_segments_in}
-use Rattle.channel_window.specs.ListEnd.{begins_run, heading_has_ended, last_window}
 use Rattle.live_channel.specs.declared.channel.Refreshed.{Refreshed}
 use Rattle.live_channel.specs.Channel.{Channel, Given, decided, withdrawn, refreshed, channel_with, with_store, text_in, owed_answer, is_out_of_memory, store_by}
 use Rattle.worked_examples.specs.Breaks.{nothing_said}
@@ -40,7 +38,6 @@ state = record {
     numbers = record { media_sequence = 8; discontinuity_sequence = 4; discontinuities = 2 };
     so_far = 7;
     rest = Some (record { id = codes "b"; place = 3 });
-    ending = None;
   };
 }
 
@@ -91,36 +88,6 @@ written = record { text = codes "x"; from = 0; till = 1; count = 1; keys = []; i
 abbrev pub TextsAreKept : Type 0
 TextsAreKept = HasValues text_in ((None, None) ∷ (Some written, Some (codes "x")) ∷ [])
 
--- ---- the end from which a stitched list goes on
-
-abbrev pub of_a : ℕ → Marked
-of_a number = marked (record { id = codes "a"; pod = short 1 }) (stepped number 3 0)
-
-abbrev pub of_b : ℕ → Marked
-of_b number = marked (record { id = codes "b"; pod = short 1 }) (stepped number 3 0)
-
-abbrev pub of_none : ℕ → Marked
-of_none number = unmarked (stepped number 3 0)
-
--- it is asked of the oldest of the first segments whether it goes on the break of the newest of the others
-abbrev pub RunsBegin : Type 0
-RunsBegin = HasValues (λ (it : List Marked × List Marked). begins_run it.0 it.1) (
-    (([], []), false)
-    ∷ (([], of_a 6 ∷ []), false)
-    ∷ ((of_none 5 ∷ [], []), true)
-    ∷ ((of_a 5 ∷ [], []), true)
-    ∷ ((of_a 6 ∷ [], of_none 5 ∷ []), true)
-    ∷ ((of_a 7 ∷ [], of_a 6 ∷ []), false)
-    ∷ ((of_b 7 ∷ [], of_a 6 ∷ []), true)
-    ∷ ((of_none 7 ∷ [], of_a 6 ∷ []), true)
-    ∷ ((of_none 8 ∷ of_a 7 ∷ [], of_a 6 ∷ []), false)
-    ∷ ((of_a 8 ∷ of_none 7 ∷ [], of_a 6 ∷ []), true)
-    ∷ ((of_none 12 ∷ of_none 11 ∷ of_none 10 ∷ of_none 9 ∷ of_none 8 ∷ of_a 7 ∷ [], of_a 6 ∷ []), false) ∷ [])
-
-abbrev pub EndsAreTold : Type 0
-EndsAreTold = HasValues heading_has_ended (
-    (None, false) ∷ (Some (owed_heading_of five), false) ∷ (Some (record (owed_heading_of five) { end_list = true }), true) ∷ [])
-
 -- a segment of the origin as it is written
 abbrev pub written_as : ℕ → ℕ → ℕ → ℕ → OutSegment
 written_as number media discontinuity steps = record { segment = stepped number 3 0; media_sequence = media; discontinuity_sequence = discontinuity; discontinuities = steps; program_date_time = None }
@@ -129,15 +96,6 @@ abbrev pub FirstNumbersAreTold : Type 0
 FirstNumbersAreTold = HasValues head_of (
     ([], record { media_sequence = 0; discontinuity_sequence = 0; discontinuities = 0 })
     ∷ (written_as 5 8 4 2 ∷ written_as 6 9 5 1 ∷ [], record { media_sequence = 8; discontinuity_sequence = 4; discontinuities = 2 }) ∷ [])
-
--- the window is written in the order of a playlist, with its numbers counted on from the first; before the first refresh there is none
-abbrev pub LastWindowsAreTold : Type 0
-LastWindowsAreTold = HasValues last_window (
-    (record kept { last = None }, [])
-    ∷ (
-      record kept { shown = of_none 9 ∷ of_none 8 ∷ of_none 7 ∷ of_none 6 ∷ of_none 5 ∷ []; rest = None },
-      written_as 5 8 4 2 ∷ written_as 6 9 4 0 ∷ written_as 7 10 4 0 ∷ written_as 8 11 4 0 ∷ written_as 9 12 4 0 ∷ [],
-    ) ∷ [])
 
 -- ---- what is answered
 

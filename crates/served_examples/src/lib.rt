@@ -7,7 +7,7 @@ ghost use Rattle.served_examples.specs.Requests.{NamesAreChecked, QueriesArePass
 ghost use Rattle.served_examples.specs.Answers.{ChannelsAreMade, RefreshesAreAnswered, PlaylistsAreRead, DecisionsAreAnswered, DecisionFaultsAreAnswered, RefreshFaultsAreAnswered, WordsOfWhyAreTold, ReasonsAreAnswered, TablesAreLimited, ChannelsAreApart, LongNamesAreServed, LongNamesAreApart, RequestsAreServed, RequestsWereAsked, RequestsWereAnswered, OthersStay, BodyFaultsAreAnswered, BodyFaultsAreTold, ChannelsAreOnce};
 ghost use Rattle.served_examples.specs.Clients.{ClientsAreLimited, PlacesAreGiven, RepliesAreGivenUpLast, RoomIsGiven, RoomIsLeft, BytesAreHeld, RepliesAreLeft, PartsAreRead, BytesAreTaken, VisitsAreCounted, WordsAreSaid, BytesAreSent, PiecesAreJoined, CallsAreCounted, FailuresAreCounted, OthersAreApart, TurnsAreTaken, ChannelsHaveTurns, TurnsAreCounted, PlacesAhead, ClientsJoin, ClientsLeave};
 ghost use Rattle.served_examples.specs.Gone.{ChannelsAreMadeOnce};
-ghost use Rattle.served_examples.specs.Kept.{StatesAreMeant, SegmentsAreHeld, StoresAreReplaced, TextsAreKept, RefreshesAreOwed, LackOfMemoryIsSeen, DecisionsAreStored, ShownAreMeant, RunsBegin, EndsAreTold, FirstNumbersAreTold, LastWindowsAreTold};
+ghost use Rattle.served_examples.specs.Kept.{StatesAreMeant, SegmentsAreHeld, StoresAreReplaced, TextsAreKept, RefreshesAreOwed, LackOfMemoryIsSeen, DecisionsAreStored, ShownAreMeant, FirstNumbersAreTold};
 ghost use Rattle.served_examples.specs.Runs.{ReadsAreLimited, FilesAreTold, FilesAreGiven, BytesAreTold, UrisAreWhole, ReadNumbersRise, ReadSegmentsAreWritten, LinesKeepTheirLimit, InputsAreReadUnderBases, RunsAreTold};
 
 /// What a request names, the length of its body, and how a reply is written.
@@ -103,8 +103,5 @@ pub fn kept_have_their_values()
     ensures lack_of_memory_is_seen { LackOfMemoryIsSeen }
     ensures decisions_are_stored { DecisionsAreStored }
     ensures shown_are_meant { ShownAreMeant }
-    ensures runs_begin { RunsBegin }
-    ensures ends_are_told { EndsAreTold }
     ensures first_numbers_are_told { FirstNumbersAreTold }
-    ensures last_windows_are_told { LastWindowsAreTold }
 {}

@@ -1,4 +1,4 @@
--- Segments that are put in two parts.
+-- Stretches that are passed over.
 use Rattle.std.proofs.Common.{◌≡◌, ℕ, zero, suc, ◌+◌, ◌-◌, ◌≤◌, Bool, true, false, cond, List, [], ◌∷◌, ◌++◌, map, length, drop, refl, ap, sym, ◌∙◌, subst, arith}
 use Rattle.std.proofs.lemmas.List.{append-nil, map-append, drop_at, drop-drop}
 use Rattle.std.specs.Prelude.{nat_le}
@@ -10,31 +10,7 @@ use Rattle.stitcher.specs.Stretches.{stretch_items, stretches_items}
 use Rattle.stitcher.specs.declared.stitched_list.Stretch.{Stretch}
 use Rattle.stitcher.specs.Inner.Cuts.{stretches_within, items_left_from_stretches}
 use Rattle.stitcher.proofs.Cursors.{length_stretch}
-use Rattle.stitcher.specs.Stitched.{Piece}
 use Rattle.stitcher.specs.declared.OutSegment.{OutSegment}
-use Rattle.stitcher.specs.declared.marked.MarkedSegment.{MarkedSegment}
-use Rattle.stitcher.specs.Making.{unmarked_piece}
-use Rattle.stitcher.specs.Inner.Making.{Made, PutsPieces, Passes, numbers_fit}
-use Rattle.stitcher.proofs.Putting.{Walks, walks_none, walks_on, walked, passes_there, passes_longer}
-
-half_way : (old mid : Made) (xs ys : List Piece) → PutsPieces old mid xs → Walks old mid (xs ++ ys) (ys ++ [])
-half_way old mid xs ys p = subst (λ rest. Walks old mid (xs ++ ys) rest) (sym (append-nil ys)) (walks_on old old mid (xs ++ ys) xs ys (walks_none old (xs ++ ys)) p)
-
-pub puts_twice : (old mid new : Made) (front back kept : List MarkedSegment) → kept ≡ front ++ back → PutsPieces old mid (map unmarked_piece front) → PutsPieces mid new (map unmarked_piece back) → PutsPieces old new (map unmarked_piece kept)
-puts_twice old mid new front back kept e p q =
-    subst (λ ps. PutsPieces old new ps) (sym (ap (map unmarked_piece) e ∙ map-append unmarked_piece front back))
-    (walked old new (map unmarked_piece front ++ map unmarked_piece back) (walks_on old mid new (map unmarked_piece front ++ map unmarked_piece back) (map unmarked_piece back) [] (half_way old mid (map unmarked_piece front) (map unmarked_piece back) p) q))
-
-pub passes_first : (old : Made) (front back kept : List MarkedSegment) → kept ≡ front ++ back → Passes old (map unmarked_piece front) → Passes old (map unmarked_piece kept)
-passes_first old front back kept e p = grind (arith, map-append, passes_longer)
-
-pub passes_second : (old mid : Made) (front back kept : List MarkedSegment) → kept ≡ front ++ back → PutsPieces old mid (map unmarked_piece front) → Passes mid (map unmarked_piece back) → Passes old (map unmarked_piece kept)
-passes_second old mid front back kept e p q =
-    subst (λ ps. Passes old ps) (sym (ap (map unmarked_piece) e ∙ map-append unmarked_piece front back))
-    (passes_there old mid (map unmarked_piece front ++ map unmarked_piece back) (map unmarked_piece back) [] (half_way old mid (map unmarked_piece front) (map unmarked_piece back) p) q)
-
-pub fits_still : (old mid : Made) (pieces : List Piece) → PutsPieces old mid pieces → numbers_fit old.first ≡ true → numbers_fit mid.first ≡ true
-fits_still old mid pieces p h = ap numbers_fit p.first ∙ h
 
 -- a stretch is passed over
 pub drop_over : (count items : ℕ) (a b : List OutSegment) → items ≡ length a → items ≤ count → drop (count - items) b ≡ drop count (a ++ b)

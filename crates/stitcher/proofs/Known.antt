@@ -23,11 +23,6 @@ known_taken zero previous list k = tt
 known_taken (suc n) previous [] k = tt
 known_taken (suc n) previous (m ∷ later) k = (k.0, known_taken n m.mark later k.1)
 
--- the last of them knows its run
-pub known_last : (previous : Option (List ℕ)) (front : List MarkedSegment) (before m : MarkedSegment) → KnowRuns previous ((front ++ before ∷ []) ++ m ∷ []) → KnowsRun before.mark m
-known_last previous [] before m k = k.1.0
-known_last previous (x ∷ front) before m k = known_last x.mark front before m k.1
-
 pub known_on : (previous : Option (List ℕ)) (front tail : List MarkedSegment) → KnowRuns previous front → KnowRuns (mark_after previous front) tail → KnowRuns previous (front ++ tail)
 known_on previous [] tail k h = h
 known_on previous (m ∷ front) tail k h = (k.0, known_on m.mark front tail k.1 h)

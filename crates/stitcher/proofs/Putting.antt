@@ -20,9 +20,6 @@ pub puts_one : (made : Made) (p : Piece) (n : Numbers) → n ≡ numbers_after m
     → PutsPieces made (pushed made (written_segment p n) p.instant n (origin_discontinuity p)) (p ∷ [])
 puts_one made p n same fits = grind (arith, append_assoc, list_all-append, false_and)
 
-pub passes_longer : (made : Made) (pieces more : List Piece) → Passes made pieces → Passes made (pieces ++ more)
-passes_longer made pieces more h later = grind (arith, append_assoc)
-
 -- ---- a walk over pieces
 
 -- of all the pieces, those of the rest are still to be put

@@ -426,33 +426,11 @@ impl<'a> Stitching<'a> {
         self.push_kept(alloc, kept, numbers, last)
     }
 
-    // Puts segments of the origin at the end, which follow each other: those before the cut as one stretch, and those after it as
-    // another.
-    fn keep_in_two(
-        &mut self,
-        alloc: Global,
-        kept: &'a [MarkedSegment],
-        cut: usize,
-    ) -> Result<(), StitchFault>
-        requires fits { numbers_fit self.old.first ≡ true }
-        requires common { KnowCommon None kept.now }
-        ensures ok { OnOk result (PutsPieces self.old self.new (map unmarked_piece kept.now)) }
-        ensures err { IfErr result
-            (λ e. RefusesNumber e (Passes self.old (map unmarked_piece kept.now))) }
-    {
-        let (before, after) = kept.split_at(cut.min(kept.len()));
-        self.keep(alloc, before)?;
-        self.keep(alloc, after)?;
-        Ok(())
-    }
-
-    // Puts the unmarked segments in front of these at the end, in two stretches if the cut is among them. Answers those after
-    // them.
+    // Puts the unmarked segments in front of these at the end. Answers those after them.
     fn keep_front(
         &mut self,
         alloc: Global,
         segments: &'a [MarkedSegment],
-        cut: usize,
     ) -> Result<&'a [MarkedSegment], StitchFault>
         requires fits { numbers_fit self.old.first ≡ true }
         requires common { KnowCommon None segments.now }
@@ -466,7 +444,7 @@ impl<'a> Stitching<'a> {
             (map unmarked_piece (take (unmarked_front_to_stitch segments.now) segments.now)))) }
     {
         let (kept, left) = segments.split_at(unmarked_front_to_stitch(segments));
-        self.keep_in_two(alloc, kept, cut)?;
+        self.keep(alloc, kept)?;
         Ok(left)
     }
 
@@ -595,7 +573,6 @@ impl<'a> Stitching<'a> {
         &mut self,
         alloc: Global,
         segments: &'a [MarkedSegment],
-        cut: usize,
         previous: &Option<Shared<Text>>,
         pods: &mut RunPods<'_>,
         ends: &Ends,
@@ -617,7 +594,7 @@ impl<'a> Stitching<'a> {
             return Ok(segments);
         };
         if marked.mark.is_none() {
-            return self.keep_front(alloc, segments, cut);
+            return self.keep_front(alloc, segments);
         }
         if stitched_run_goes_on(marked, previous) {
             return Ok(later);
@@ -652,8 +629,7 @@ impl<'a> Stitching<'a> {
 
 /// The items of the `marked` segments, in the order of a playlist, the first item with the numbers `first`. A rest of
 /// a pod, as `ends` names it, comes first. Each run of one mark is replaced by the pod that its break has in `store`,
-/// or by its due prefix if `ends` says that the last run is open. A stretch of items ends before the segment at the place
-/// `cut` of `marked`, from 0, so that the items from there on are found at once.
+/// or by its due prefix if `ends` says that the last run is open.
 ///
 /// `NumberRange` exactly if a number would pass 2^64 - 1 (RFC 8216, sections 4.3.3.2 and 4.3.3.3); `OutOfMemory` only
 /// if an allocation fails.
@@ -666,7 +642,6 @@ impl<'a> Stitching<'a> {
 pub fn stitch<'a>(
     alloc: Global,
     marked: &'a [MarkedSegment],
-    cut: usize,
     store: &PodStore,
     first: Numbers,
     ends: &Ends,
@@ -688,8 +663,7 @@ pub fn stitch<'a>(
     let mut previous = &unmarked;
     let mut rest = marked;
     while let Some((here, _)) = rest.split_first() {
-        let left = cut.saturating_sub(marked.len().saturating_sub(rest.len()));
-        rest = stitching.put_front(alloc, rest, left, previous, &mut pods, ends)?;
+        rest = stitching.put_front(alloc, rest, previous, &mut pods, ends)?;
         previous = &*here.mark;
     }
     stitching.finish(alloc)

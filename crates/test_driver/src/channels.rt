@@ -2,7 +2,7 @@
 use crate::escapes::bytes_of;
 use fixed_duration::Nanos;
 use http_edge::why_word;
-use live_channel::{Channel, ChannelFault, RefreshFault, Refreshed};
+use live_channel::{Channel, ChannelFault};
 use std::alloc::Global;
 use std::hash::RandomState;
 use std::io;
@@ -77,34 +77,19 @@ fn print_withdrawal(rt: &impl Print, channel: &mut Channel, id: &str) -> io::Res
     }
 }
 
-fn print_refreshed(rt: &impl Print, outcome: Result<Refreshed, RefreshFault>) -> io::Result<()> {
-    match outcome {
-        Ok(done) => println!(rt;
-            "ok {} {} {}",
-            done.media_sequence, done.segments, done.fresh
-        ),
-        Err(fault) => println!(rt; "{fault}"),
-    }
-}
-
 fn print_refresh(
     rt: &impl Print,
     alloc: Global,
     channel: &mut Channel,
     body: &str,
 ) -> io::Result<()> {
-    let outcome = channel.refresh(alloc, bytes_of(alloc, body)?.as_slice());
-    print_refreshed(rt, outcome)
-}
-
-fn print_refresh_owned(
-    rt: &impl Print,
-    alloc: Global,
-    channel: &mut Channel,
-    body: &str,
-) -> io::Result<()> {
-    let outcome = channel.refresh_owned(alloc, bytes_of(alloc, body)?);
-    print_refreshed(rt, outcome)
+    match channel.refresh(alloc, bytes_of(alloc, body)?.as_slice()) {
+        Ok(done) => println!(rt;
+            "ok {} {} {}",
+            done.media_sequence, done.segments, done.fresh
+        ),
+        Err(fault) => println!(rt; "{fault}"),
+    }
 }
 
 fn print_playlist(rt: &impl Print, channel: &Channel) -> io::Result<()> {
@@ -136,7 +121,6 @@ fn print_on_channel(
         "decide" => print_decision(rt, alloc, channel, rest),
         "withdraw" => print_withdrawal(rt, channel, rest),
         "refresh" => print_refresh(rt, alloc, channel, rest),
-        "refresh_owned" => print_refresh_owned(rt, alloc, channel, rest),
         "playlist" => print_playlist(rt, channel),
         "known" => print_known(rt, channel),
         _ => println!(rt; "{}", why_word(channel.explain(rest))),

@@ -26,7 +26,6 @@
 //! - `withdraw ID`: the pod of a break is taken away.
 //! - `refresh BODY`: a refresh of the origin's playlist. Printed is `ok MEDIA SEGMENTS FRESH`: the first number and the
 //!   count that are written, and how many of the origin's segments are shown for the first time.
-//! - `refresh_owned BODY`: the same, by the call that keeps nothing of the text, so that the next one is read whole.
 //! - `playlist`: `playlist` and then the text that is written, or `none`.
 //! - `known`: `known`, and a line for each known break with its ID and why it is filled or not.
 //! - `why ID`: the word for why a break is filled or not.
@@ -111,7 +110,7 @@ fn print_line(rt: &impl Print, alloc: Global, session: &mut Session, line: &str)
             session.channels.go_back(rest);
             Ok(())
         }
-        "decide" | "withdraw" | "refresh" | "refresh_owned" | "playlist" | "known" | "why" => {
+        "decide" | "withdraw" | "refresh" | "playlist" | "known" | "why" => {
             print_event(rt, alloc, &mut session.channels, word, rest)
         }
         "edge" => make_edge(alloc, session),

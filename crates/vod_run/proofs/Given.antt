@@ -132,6 +132,9 @@ module _ (c : Channel) (bytes : List ℕ) (given : List Given) where
 
 -- ---- the input of a source as the refresh
 
+pub gave_same : (source_old source_new : SourceStand) (bytes input : List ℕ) → bytes ≡ input → GaveAll source_old source_new input → GaveAll source_old source_new bytes
+gave_same source_old source_new bytes input same given = subst (GaveAll source_old source_new) (sym same) given
+
 module _ (source_old source_new : SourceStand) (c : Channel) (input : List ℕ) (given : GaveAll source_old source_new input) where
   pub refreshes : (done : Refreshed) (new : Channel) → ((events : List Given) → Represents c events → AnswersRefresh c input events (Ok done) new) → RefreshesFrom source_old source_new c new
   refreshes done new h = record {

@@ -1,6 +1,6 @@
 -- What a run comes to: a channel that was given the decision file, if there is one, and then one refresh.
-use Rattle.std.proofs.Common.{◌≡◌, ℕ, true, List, [], ◌∷◌, ◌++◌, cond, ap, sym, ◌∙◌, subst, rules, arith}
-use Rattle.std.specs.Prelude.{Option, Some, None, Result, Ok, Err, OnOk, IfErr, IfSome, IsErrOf, IsOk, IsSome, ◌≢◌, is_ok, is_some, is_none, option_map, unwrap_or}
+use Rattle.std.proofs.Common.{◌≡◌, ℕ, List, [], ◌∷◌, ◌++◌, cond, ap, sym, ◌∙◌, subst, rules, arith}
+use Rattle.std.specs.Prelude.{Option, Some, None, Result, Ok, Err, OnOk, IfErr, IsErrOf, IsOk, IsSome, ◌≢◌, is_ok, is_some, is_none, option_map, unwrap_or}
 use Rattle.std.specs.Result.{IsErrAnd}
 use Rattle.url.specs.Parts.{Parts}
 use Rattle.byte_streams.specs.Stands.{GaveAll, SourceStand, SinkStand, TookAll, FailedAfterFront}
@@ -12,7 +12,7 @@ use Rattle.channel_spec.specs.declared.fault.RefreshFault.TheVariants.{NumberRan
 use Rattle.channel_spec.specs.Live.{Event, Told, told, refusal, after_refresh, last_playlist, owed_for}
 use Rattle.owed_is_denoted.specs.Owed.{owed_text}
 use Rattle.live_channel.specs.Channel as channel
-use Rattle.live_channel.specs.Channel.{Channel, Represents, readable, refreshed, told_by, WritesOwed}
+use Rattle.live_channel.specs.Channel.{Channel, readable, refreshed, told_by, WritesOwed}
 use Rattle.live_channel.proofs.Steps.{live_writes}
 use Rattle.channel_spec.specs.Limits.{default_tolerance}
 use Rattle.vod_run.specs.declared.fault.VodFault.{VodFault}
@@ -118,23 +118,6 @@ module _ (base : List ℕ) (file : Option (List ℕ)) (c : Channel) (d : IsGiven
         let number_range : PassesItsRange c refused.input (given_by file) = refused.refused file d.stands in
         judged old new refused.input refused.given number_range.playlist number_range.read (Some PassesRange) number_range.refused
 
--- without a decision file nothing was given
-pub given_nothing : (base : List ℕ) (file : Option (List ℕ)) (c : Channel) → IsGivenFile base file c → is_none file ≡ true → Represents c []
-given_nothing base None c d h = d.stands
-given_nothing base (Some bytes) c d h = absurd (cc)
-
--- the channel that made the text, if one was needed
-pub given_if : (P : Channel → Type 0) (some : Option Channel) (new : Channel) → IfSome some (λ c. c ≡ new) → P new → IfSome some P
-given_if P None new is p = tt
-given_if P (Some c) new is p = subst P (sym is) p
-
--- the same text was taken, or a front of it
-pub took_same : (old new : SinkStand) (one other : Option (List ℕ)) → one ≡ other → TookAll old new (unwrap_or one []) → TookAll old new (unwrap_or other [])
-took_same old new one other e w = subst (λ o. TookAll old new (unwrap_or o [])) e w
-
-pub failed_same : (old new : SinkStand) (one other : Option (List ℕ)) → one ≡ other → FailedAfterFront old new (unwrap_or one []) → FailedAfterFront old new (unwrap_or other [])
-failed_same old new one other e w = subst (λ o. FailedAfterFront old new (unwrap_or o [])) e w
-
 -- ---- faults that are handed on
 
 pub handed_on : {A : Type 0} (r : Result A VodFault) (e : VodFault) (P : VodFault → Type 0) → IsErrAnd r (λ d. d ≡ e) → P e → IfErr r P
@@ -194,9 +177,6 @@ fair_sink_on k e old new h f = grind arith
 
 pub write_is_no_read : (Write ≢ Read) × (Write ≢ TooManyReads)
 write_is_no_read = (λ same. absurd (cc), λ same. absurd (cc))
-
-pub memory_is_no_read : (OutOfMemory ≢ Read) × (OutOfMemory ≢ TooManyReads)
-memory_is_no_read = (λ same. absurd (cc), λ same. absurd (cc))
 
 pub write_is_no_playlist : {A : Type 0} (fault : Fault) → Write ≡ PlaylistOf fault → A
 write_is_no_playlist fault same = absurd (cc)

@@ -33,7 +33,6 @@ use Rattle.live_channel.specs.declared.next.ShownRefresh.{ShownRefresh}
 use Rattle.channel_window.specs.Marking.{history_in}
 use Rattle.channel_window.specs.Showing.{AreKept, IsLastEntered, kept_before, kept_in}
 use Rattle.channel_window.specs.Listed.{AreRising, IsRestDecided, RisesOn, window_segments_in}
-use Rattle.channel_window.specs.ListEnd.{IsEndingOf, IsLastEnding}
 use Rattle.channel_window.specs.Checked.{AreContiguous, AreTaken}
 use Rattle.playlist_kept.specs.Kept.{playlist_in}
 use Rattle.playlist_kept.specs.declared.read_playlist.Read.{Read}
@@ -67,7 +66,6 @@ pub record IsNext (kept : Kept) (p : Playlist) (known : List Break) (held : List
   pub refreshed : next.refreshed ≡ refreshed_with (window_on kept p list so_long) fresh
   pub text : next.written.text ≡ text_with_window p (breaks_after kept p list) (window_on kept p list so_long)
   pub laid : IsLaid (map written_item (window_on kept p list so_long)) next.written
-  pub ending : IsEndingOf (shown_from (first_number p.segments) list) p.end_list so_long (map written_item (window_on kept p list so_long)) next.shown.ending
 
 -- the window of the stitched list of these segments, the newest run of which has lasted so long: its text is written, and each number
 -- of the list fits
@@ -80,7 +78,6 @@ pub record IsWindow (kept : Kept) (p : Playlist) (list : List Marked) (so_long :
   pub rest_decided : IsRestDecided kept.store w.rest
   pub text : w.written.text ≡ text_with_window p (breaks_after kept p list) (window_on kept p list so_long)
   pub laid : IsLaid (map written_item (window_on kept p list so_long)) w.written
-  pub ending : IsEndingOf (shown_from (first_number p.segments) list) p.end_list so_long (map written_item (window_on kept p list so_long)) w.ending
 
 -- what holds when the window of these segments is to be written: some of them stood in the last text, this break was entered last, and the
 -- newest run has lasted so long
@@ -92,7 +89,6 @@ pub record IsReady (state : ChannelState) (written : Option WrittenText) (p : Pl
   pub rising : AreRising held
   pub entered_is : entered ≡ or_earlier (last_entered (history_in state.store held)) state.shown.entered
   pub rest : IsRestDecided state.store state.shown.rest
-  pub ending : IsLastEnding (kept_in state) state.shown.ending
 
 -- the same of a refresh whose segments are shown
 abbrev pub refresh_shown : ShownRefresh → List Marked
@@ -157,7 +153,6 @@ pub record IsJudged (tolerance : ℕ) (state : ChannelState) (written : Option W
   pub last : AreContiguous (window_segments_in state.list)
   pub taken : AreTaken (window_segments_in state.list) read.taken.now
   pub front : read.front ≤ length read.playlist.segments
-  pub ending : IsLastEnding (kept_in state) state.shown.ending
 
 -- ---- the segments that are shown, before a refresh is accepted
 

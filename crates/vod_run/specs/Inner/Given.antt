@@ -1,6 +1,6 @@
 -- What proofs and inner functions say with the definitions of `Given`.
 use Rattle.vod_run.specs.Given.{given_by}
-use Rattle.std.specs.Prelude.{◌≡◌, ℕ, List, ◌∷◌, Option, Some, None, Ok, Err, IfSome}
+use Rattle.std.specs.Prelude.{◌≡◌, ℕ, List, ◌∷◌, Option, Some, None, Ok, Err}
 use Rattle.playlist_model.specs.declared.Playlist.{Playlist}
 use Rattle.playlist_model.specs.Reading.{reading, limited}
 use Rattle.playlist_model.specs.Uri.{base_of}
@@ -11,7 +11,6 @@ use Rattle.channel_spec.specs.Limits.{default_tolerance}
 use Rattle.live_channel.specs.Channel as channel
 use Rattle.live_channel.specs.Channel.{Channel, Given, refreshed, Represents, told_by}
 use Rattle.vod_run.specs.declared.fault.VodFault.{VodFault}
-use Rattle.vod_run.specs.declared.run.VodText.{VodText}
 use Rattle.vod_run.specs.declared.fault.VodFault.TheVariants.{BadBase, Decision, Playlist as PlaylistOf, NumberRange, OutOfMemory}
 use Rattle.vod_run.specs.Events.{events_of}
 use Rattle.vod_run.specs.Inner.Vod.{IsOfReading}
@@ -70,13 +69,6 @@ pub record RefreshesFrom (source_old source_new : SourceStand) (old new : Channe
   pub input : List ℕ
   pub given : GaveAll source_old source_new input
   pub refreshed : RefreshesWhateverFile old input new
-
--- the same, and this is the text that the channel writes then
-pub record MakesFrom (source_old source_new : SourceStand) (old : Channel) (made : VodText) : Type 0 where
-  pub new : Channel
-  pub refreshes : RefreshesFrom source_old source_new old new
-  pub text : made.text ≡ new.text
-  pub channel : IfSome made.channel (λ c. c ≡ new)
 
 -- the source gave an input to its end, which has this fault
 pub record RefusesInput (e : VodFault) (source_old source_new : SourceStand) (old : Channel) : Type 0 where

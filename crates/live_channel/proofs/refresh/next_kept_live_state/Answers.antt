@@ -21,7 +21,6 @@ next_live_state_of-requires c =
     let list_is : list ≡ s.list ++ come = c.as_slice-list.ensures ∙ c.in_ok-append.ensures.ok in
     let before : kept_before c.before-before.result ≡ s = before_is s (kept_before c.before-before.result) come c.append.new.self c.len-stood.result c.len-stood.ensures c.in_ok-append.ensures.ok c.before-before.ensures in
     ready _ _ _ _ _ _ _ _ before list_is c.in_ok-showing.ensures c.requires.stood c.requires.decided
-    c.requires.ending
 
 pub returns : goal.returns
 returns c =

@@ -2,5 +2,5 @@ use Rattle.std.specs.Prelude.{None}
 use Rattle.stitcher.proofs.Known.{common_taken}
 use Rattle.stitcher.proofs.making.Stitching.keep_front.Goals as goal
 
-pub keep_in_two-requires-clause-common : goal.keep_in_two-requires-clause-common
-keep_in_two-requires-clause-common c = rw c.split_at.ensures.front (common_taken c.unmarked_front_to_stitch.result None c.args.segments.now c.requires.common)
+pub keep-requires-clause-common : goal.keep-requires-clause-common
+keep-requires-clause-common c = rw c.split_at.ensures.front (common_taken c.unmarked_front_to_stitch.result None c.args.segments.now c.requires.common)

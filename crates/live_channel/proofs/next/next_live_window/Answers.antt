@@ -9,14 +9,13 @@ use Rattle.playlist_write.specs.Laid.{IsLaid}
 use Rattle.channel_spec.specs.Kept.{shown_from, window_on}
 use Rattle.channel_spec.specs.Marking.{last_entered}
 use Rattle.channel_spec.specs.Successor.{first_number}
-use Rattle.channel_window.proofs.NewItems.{end_of}
 use Rattle.channel_window.specs.Marking.{history_in}
 use Rattle.channel_window.specs.Showing.{kept_before, kept_in}
 use Rattle.live_channel.specs.Inner.Accepting.{breaks_after}
 use Rattle.live_channel.specs.Inner.Marks.{breaks_held}
 use Rattle.live_channel.proofs.Accepting.{numbers_seen, text_seen}
 use Rattle.live_channel.proofs.Marks.{breaks_seen}
-use Rattle.live_channel.proofs.next.whole_live_window.Goals as goal
+use Rattle.live_channel.proofs.next.next_live_window.Goals as goal
 
 pub live_lines_again-requires : goal.live_lines_again-requires
 live_lines_again-requires c = grind (arith, common_steps)
@@ -39,7 +38,6 @@ returns-clause-ok c =
     let breaks : NameTheSame ids (breaks_after (kept_in s) p seen) =
     subst (λ xs. NameTheSame ids xs) (breaks_seen s (kept_in s) p held entered (or_earlier (last_entered seen) s.shown.entered) rest c.requires.decided c.requires.entered_is c.in_ok-whole.ensures.rest c.in_ok-whole.ensures.left) breaks_are in
     let long : c.count-count.result ≡ length whole - start = c.count-count.ensures ∙ (ap length c.leave_out.ensures ∙ length-drop start whole) in
-    let number = ap (λ k. shown_from k seen) c.first_successor_number-number.ensures in
     record {
       fit = c.in_ok-whole.ensures.fit;
       in_use = breaks;
@@ -49,6 +47,4 @@ returns-clause-ok c =
       rest_decided = c.in_ok-whole.ensures.left;
       text = text_seen s p held n items ids c.in_ok-lay_live_text.field-0.text window breaks (search rules);
       laid = subst (λ xs. IsLaid xs c.in_ok-lay_live_text.field-0) window (search rules);
-      ending = end_of s p held n [] whole whole (map written_item (window_on (kept_in s) p seen n)) start c.place_of_number-gone.result c.count-count.result c.in_ok-end.end c.window_end_within.result c.in_ok-end.ensures c.window_end_within.ensures
-          (c.place_of_number-gone.ensures.seen s.store ∙ number) refl (sym c.in_ok-whole.ensures.window) c.place_of_number-gone.ensures.within long;
     }
