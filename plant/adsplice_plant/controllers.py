@@ -6,9 +6,11 @@ then the decisions up to its next list, and that list, which has all that it lac
 from __future__ import annotations
 
 import re
+from collections.abc import Collection, Iterable
 from dataclasses import replace
 
 from . import apart, decided, faults, numbers, packaged, ranges, replay, spelling
+from .breaks import TOLERANCE
 from .decisions import NO_FALLBACK, OVER
 from .events import Answered, Find, Found, Request, Send, What
 from .numbers import Viewed
@@ -126,7 +128,24 @@ def push(turn: Turn, channel: str) -> Request:
     new = next((n for n, one in enumerate(history) if one.number > controller.took), len(history))
     if controller.led < stands.entry and (until := replay.turned_at(stands, new)) is not None:
         return Request(What.PUSH, listed_from(stands, place, controller.ahead, until, since), stands.entry, True)
+    if controller.led < stands.entry and (announced := announced_after(stands, history, new)):
+        until = next((n for n in range(new, len(history)) if is_begin(history[n], announced.values())), len(history))
+        return Request(What.PUSH, listed_from(stands, place, controller.ahead, until, since, announced), stands.entry, True)
     return Request(What.PUSH, listed_from(stands, place, controller.ahead, since=since), stands.entry)
+
+
+def announced_after(stands: Standing, history: list[PackagedSegment], new: int) -> dict[str, int]:
+    """The starts of the breaks, by their IDs, that the newest list has and that begin with the segment at the place `new` of the `history` or later. A
+    controller that lacks lists may have another START-DATE of them, which it keeps until a list comes without them (RFC 8216, 4.3.2.7)."""
+    newest, begun = stands.repairer.last[-1].number, history[:new]
+    starts = ranges.starts_in([line for line, number in stands.viewed.ranges.values() if number >= newest])
+    return {name: start for name, start in starts.items() if not any(is_begin(it, [start]) for it in begun)
+            and (not begun or start > (begun[-1].begins or 0) or any(is_begin(it, [start]) for it in history[new:]))}
+
+
+def is_begin(it: PackagedSegment, starts: Iterable[int]) -> bool:
+    """Whether the segment `it` begins at one of the `starts`."""
+    return it.begins is not None and any(abs(it.begins - start) <= TOLERANCE for start in starts)
 
 
 def first_list(turn: Turn, channel: str) -> tuple[bytes, bool]:
@@ -183,16 +202,16 @@ def reckoned_anew(turn: Turn, stands: Standing) -> Viewed:
     return viewed
 
 
-def listed_from(stands: Standing, place: int, ahead: Numbers, until: int | None = None, since: int = 0) -> bytes:
+def listed_from(stands: Standing, place: int, ahead: Numbers, until: int | None = None, since: int = 0, without: Collection[str] = ()) -> bytes:
     """The list of the segments from the `place` in the history on, with numbers that are `ahead`; up to before the place `until`, if one is named. It says
-    of breaks what was listed since the media number `since`: nothing of those that were missed and would have a pod now, and of others where they ended
-    for viewers by then. What is no longer listed and hasn't begun, adsplice has forgotten."""
+    of breaks what was listed since the media number `since`: nothing of those `without` which it is, and of those that were missed and would have a pod
+    now; and of others where they ended for viewers by then. What is no longer listed and hasn't begun, adsplice has forgotten."""
     segments, head = history_of(stands)[place:until], stands.repairer.head
     assert head is not None
     missed, newest = {name for name in stands.pods.missed if stands.pods.at_hand(name) is not None}, stands.repairer.last[-1]
     said = [line for name, (line, number) in stands.viewed.ranges.items() if number >= max(since, segments[0].number) and name not in missed
             and not (number < newest.number and is_to_come(line, newest))]
-    lines = [replay.as_it_ran(stands, line) if until is None else replay.as_it_began(line) for line in said]
+    lines = [replay.as_it_ran(stands, line) if until is None or without else replay.as_it_began(line) for line in said if packaged.id_in(line) not in without]
     found = PackagedList(head.version, head.target, kind=head.kind, segments=moved(segments, ahead))
     front = stands.text[:max(0, stands.text.find(EXTINF))]
     found.is_independent, found.is_ended = b"#EXT-X-INDEPENDENT-SEGMENTS" in front, stands.text.rstrip().endswith(END)
@@ -455,7 +474,8 @@ def refused(turn: Turn, event: Answered) -> None:
         if (one := decision_of(turn, request.entry)) is not None:
             decided.refused(turn, channel, one, event.status, event.line)
     elif request.is_ahead:
-        turn.put_controller(channel, led=request.entry)
+        turn.put_controller(channel, led=request.entry)  # (it has more than it acknowledged)
+        turn.tell(channel, "adsplice", event.status, event.line, f"{faults.meaning(event.status, event.line)}; gives it the newest list")
     else:
         list_refused(turn, event)
 

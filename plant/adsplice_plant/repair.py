@@ -290,8 +290,10 @@ class Repairer:
     def keep_clock(self, segments: list[PackagedSegment], kinds: dict[str, str]) -> None:
         """Puts those of the new `segments` which another rendition has by another clock on that one: where a packager's clock changes, and which
         breaks are open there, is the programme's. The packager's numbers say which ones they are: so these have to go on."""
-        new = [*self.last[-1:], *(it for it in segments if self.last and it.number > self.last[-1].number)]
-        for one in self.siblings.found if self.siblings is not None and len(new) > 1 else []:
+        if self.siblings is None or not self.last:
+            return
+        new = [self.last[-1], *(it for it in segments if it.number > self.last[-1].number)]
+        for one in self.siblings.found if len(new) > 1 else []:
             theirs = one.since(new[0])
             if not theirs or abs(by := (new[0].begins or 0) - (theirs[0].begins or 0)) > new[0].duration:
                 continue

@@ -165,7 +165,8 @@ class Feeding:
 
     def ended(self) -> str:
         """The name of a thread that has ended of itself; empty if none has."""
-        return "" if self.ending.is_set() else next((it.name for it in list(self.threads) if not it.is_alive()), "")
+        found = next((it.name for it in list(self.threads) if not it.is_alive()), "")
+        return "" if self.ending.is_set() else found  # (another thread may end it meanwhile)
 
     def run(self, delay: float) -> None:
         """Feeds the programme until it is ended."""
