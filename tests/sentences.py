@@ -1,4 +1,4 @@
-"""Which sentences of the pages are too long, and which words an operator's pages don't have. tests/rules calls `lacking`.
+"""Which sentences of the pages are too long, and which hide who acts, or when. tests/rules calls `lacking`.
 
 A sentence ends at a full stop, a question mark or an exclamation mark before a space. A paragraph, an item of a list and a
 cell of a table are read by themselves. Text in backticks counts as one word, a link as its own text. Blocks of code,
@@ -10,12 +10,11 @@ import os
 import re
 from collections.abc import Iterator
 
-LIMIT, OPERATORS_LIMIT = 30, 25  # words of a sentence
+LIMIT = 25  # words of a sentence
 OPERATING = tuple(f"docs/operating/{it}.md" for it in ("README", "ads", "capacity", "channel", "faults", "install", "ladder", "machines", "monitoring", "security", "trials", "upgrade"))
-OPERATORS = ("README.md", "docs/first_hour.md", *OPERATING, "docs/SIGNALS.md", "docs/PACKAGERS.md",
-             "docs/ADS.md", "docs/DECISION_FILES.md", "docs/REPLICAS.md")  # pages that an operator reads
-PAGES = ("CHANGELOG.md", "CONTRIBUTING.md", "bench/HISTORY.md", "bench/README.md", "crates/README.md", "docs/ARCHITECTURE.md", "docs/CONFORMANCE.md", "docs/DECISIONS.md", "docs/LIBRARY.md",
-         "docs/PERFORMANCE.md", "docs/PROOF.md", "docs/TESTING.md", "plant/README.md", *OPERATORS)
+PAGES = ("README.md", "docs/first_hour.md", *OPERATING, "docs/SIGNALS.md", "docs/PACKAGERS.md", "docs/ADS.md", "docs/DECISION_FILES.md", "docs/REPLICAS.md",
+         "CHANGELOG.md", "CONTRIBUTING.md", "bench/README.md", "crates/README.md", "docs/ARCHITECTURE.md", "docs/CONFORMANCE.md", "docs/DECISIONS.md",
+         "docs/LIBRARY.md", "docs/OPERATING.md", "docs/PERFORMANCE.md", "docs/PROOF.md", "docs/TESTING.md", "plant/README.md")
 # Words with which a sentence hides who acts, whom it is of, or when.
 HIDING = re.compile(r"\b(?:is|are|was|were|be|been) (?:told|looked at|looked for)\b|\bso many\b|\b[Ww]hoever\b|\b[Aa]t once\b")
 ITEM = re.compile(r"^\s*(?:- |\d+\. )")
@@ -43,12 +42,12 @@ def sentences_of(block: str) -> list[str]:
     return END.split(words)
 
 
-def long_in(text: str, limit: int = LIMIT) -> Iterator[tuple[int, int, str]]:
-    """The line, the count of words and the text of each sentence of a page that has more than `limit` words."""
+def long_in(text: str) -> Iterator[tuple[int, int, str]]:
+    """The line, the count of words and the text of each sentence of a page that has more than LIMIT words."""
     for line, block in blocks_in(text):
         for sentence in sentences_of(block):
             count = len(sentence.split())
-            if count > limit:
+            if count > LIMIT:
                 yield line, count, sentence
 
 
@@ -59,12 +58,11 @@ def hiding_in(text: str) -> Iterator[tuple[int, str]]:
 
 
 def lacking(top: str) -> list[str]:
-    """A line for each long sentence of the pages at `top`, and for each place that hides something on an operator's page."""
+    """A line for each long sentence of the pages at `top`, and for each place that hides who acts, or when."""
     faults = []
     for page in PAGES:
         with open(os.path.join(top, page), encoding="utf-8") as it:
             text = it.read()
-        is_operators = page in OPERATORS
-        faults += [f"{page}:{line}: a sentence of {count} words: {said[:70]}" for line, count, said in long_in(text, OPERATORS_LIMIT if is_operators else LIMIT)]
-        faults += [f"{page}:{line}: it says {said!r}: say who does it, or when" for line, said in hiding_in(text)] if is_operators else []
+        faults += [f"{page}:{line}: a sentence of {count} words: {said[:70]}" for line, count, said in long_in(text)]
+        faults += [f"{page}:{line}: it says {said!r}: say who does it, or when" for line, said in hiding_in(text)]
     return faults

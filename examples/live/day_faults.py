@@ -149,7 +149,7 @@ def many_files(day: Day) -> None:
 
 
 FAULTS = (
-    Fault("lag", "news", "an edge gives the list of 8 s ago, for 8 s", origin("first", "news", "lags", 8), (STILL, LATE)),
+    Fault("lag", "news", "an edge gives the playlist of 8 s ago, for 8 s", origin("first", "news", "lags", 8), (STILL, LATE)),
     Fault("cut-way", "sport", "the way to one rendition is cut for 9 s, with a decision meanwhile", origin("first", "sport", "away", 9, range(2, 3)),
           (STILL, LATE, APART), -12),
     Fault("packager", "film", "the packager is away for 3 s, and begins again with number 0", packager_begins_again("film", 3), (STILL, LATE), is_due=False),
@@ -168,7 +168,7 @@ FAULTS = (
     Fault("feed-stopped", "", "the feed is stopped for 15 s", stopped(lambda day: day.feed.pid, 15), (STILL, LATE, "AdspliceFeedHangs")),
     Fault("monitor", "", "the monitor is killed, and started again after 5 s", monitor_is_killed, is_due=False),
     Fault("slow-origin", "sport", "the origin gives no answer within 8 s, for 16 s", origin("first", "sport", "hangs", 16), (STILL, LATE)),
-    Fault("half-lists", "news", "lists are cut off within their last line for 8 s", relays("news", 8, {"is_cut": True}, {"is_cut": False}), (STILL, LATE)),
+    Fault("half-lists", "news", "playlists are cut off within their last line for 8 s", relays("news", 8, {"is_cut": True}, {"is_cut": False}), (STILL, LATE)),
     Fault("target", "film", "the packager says another target duration for 10 s", relays("film", 10, {"target": 3}, {"target": 0}), is_due=False),
     # (long after the other decision that `news` lacks: an alarm that looks back five minutes can't ring anew before)
     Fault("one-rendition", "news", "a decision comes for one rendition alone", decision("news", "absent", slice(1, 2)), DECISIONS),

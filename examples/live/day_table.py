@@ -81,7 +81,7 @@ def faults_of(rows: Iterable[Row], has_alarms: bool) -> list[str]:
         if it.equal > EQUAL:
             found.append(f"{it.fault.name}: renditions were apart until {it.equal:.1f} s after its end")
         if it.healed > it.next - it.end - 5:
-            found.append(f"{it.fault.name}: lists weren't right before the next fault: {', '.join(it.words)}")
+            found.append(f"{it.fault.name}: playlists weren't right before the next fault: {', '.join(it.words)}")
         if has_alarms and it.fault.is_due and it.named is None:
             found.append(f"{it.fault.name}: no alarm named it within {NAMED:.0f} s of its end")
     return found

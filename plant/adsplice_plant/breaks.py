@@ -171,7 +171,7 @@ class Timeline:
         """Whether the list has come to the clock by which the break `one` begins and ends now: renditions that are cut at other times come to it with
         other segments."""
         if one.clock is None or one.said is None:
-            return one.clock is None or self.last > one.clock
+            return one.clock is None or self.last > one.clock or any(abs(jump.number - one.clock) <= NEAR_JUMPS for jump in self.jumps(1))
         by, newest = one.start - one.said, self.begins[-1]
         is_past = self.low_number > one.clock + 1 or self.low_number > one.clock and abs(newest - one.start) <= abs(newest - one.said)
         return is_past or any(abs(jump.by - by) <= self.segments[-1].duration // 2 for jump in self.jumps(1))
@@ -194,6 +194,10 @@ class Timeline:
             return None
         is_there = abs(it.begins - instant) < it.duration or clock is not None and abs(clock - one.number) <= NEAR_JUMPS
         return it.begins if is_there else None
+
+    def is_shortest(self) -> bool:
+        """Whether no rendition of the programme has shorter segments."""
+        return self.numbering.many == self.numbering.few
 
     def half(self, instant: int) -> int:
         """Half the duration of the segment in which the `instant` is, or of the one nearest to it."""
@@ -361,7 +365,7 @@ class Breaks:
         message, found = it.signal.message, line.nearest(start)
         is_section = message.type is not None or message.event
         name = message.name() if is_section or not it.signal.is_cue else "a tag without a section"
-        number = found.number if found else it.number
+        number = line.numbering.of(found.number if found else it.number)
         new = Break(it.id or f"{message.event or 'cue'}-{number}", start, number, name, message.type, message.event, message.upid, planned,
                     is_settled=found is not None or start < line.first or not line.aligns, latest=start, others=it.others, clock=self.clock, part=message.part, parts=message.parts)
         insort(self.known, new, key=lambda one: one.start)
@@ -378,7 +382,7 @@ class Breaks:
             return False
         found, by = line.nearest(start), line.aligned(start) - one.start
         one.is_settled = found is not None or not line.aligns
-        one.number = found.number if found else one.number
+        one.number = line.numbering.of(found.number) if found else one.number
         one.start, one.latest, one.until, one.is_ended, one.clock = one.start + by, one.latest + by, None, False, self.clock
         self.known.sort(key=lambda it: it.start)
         if by:
@@ -451,14 +455,15 @@ class Breaks:
     # ---- what a list shows of them
 
     def settle(self, line: Timeline) -> None:
-        """Puts starts and ends that the list `line` reaches on its segments, and tells of the ends."""
+        """Puts starts and ends that the list `line` reaches on its segments, and tells of the ends. Segments that are longer than those of other renditions
+        say too little of that."""
         for one in self.known:
-            if not one.is_settled and line.is_reached(one.start):
+            if not one.is_settled and line.is_shortest() and line.is_reached(one.start):
                 found = line.nearest(one.start)
                 one.number = found.number if found else one.number
                 one.start, one.is_settled = line.aligned(one.start), True
             if one.until is not None and not one.is_ended and line.has_turned(one) and line.is_reached(one.until):
-                one.until, one.is_ended = line.aligned(one.until), True
+                one.until, one.is_ended = line.aligned(one.until) if line.is_shortest() else one.until, True
             end = one.end()
             if end is not None and not one.is_told and line.has_turned(one) and line.is_reached(end):
                 one.is_told = True

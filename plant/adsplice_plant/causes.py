@@ -97,7 +97,7 @@ class Explainer:
         """Why the break `name` is filled or not: a sentence with its numbers."""
         word = self.word(name)
         if word == "":
-            return f"{name}: no list that has it was taken"
+            return f"{name}: no playlist that has it was taken"
         if word == "Filled":
             life, place = self.filled_at[name]
             return f"{name}: {filled(name, life, place)}" + self.why_fallback(name, life, place)
@@ -179,7 +179,7 @@ class Explainer:
         timed = [(place, shown.instant) for place, shown in enumerate(channel.history) if shown.instant is not None]
         if not timed:
             is_stated = any(segment.time is not None for it in channel.accepted for segment in it.playlist.segments)
-            return "no segment has a time: " + ("each EXT-X-PROGRAM-DATE-TIME came after its segment" if is_stated else "the list states no EXT-X-PROGRAM-DATE-TIME")
+            return "no segment has a time: " + ("each EXT-X-PROGRAM-DATE-TIME came after its segment" if is_stated else "the playlist states no EXT-X-PROGRAM-DATE-TIME")
         near = [place for place, instant in timed if abs(instant - one.start) <= channel.tolerance]
         if near:
             told = [self.missed(one, life, channel, place) for place in near[:NEARS]]

@@ -8,7 +8,6 @@ import os
 import socket
 import ssl
 import time
-import urllib.parse
 from collections.abc import Iterator
 from concurrent.futures import ThreadPoolExecutor
 from dataclasses import dataclass
@@ -17,11 +16,11 @@ from pathlib import Path
 from adsplice_rules.edge import Edge, Reply, Request
 from adsplice_rules.values import NotModelled
 
-from . import judge, masters, playlist, status, words
-from .decisions import MAX_BYTES, said_by
+from . import judge, masters, playlist, status, urls, words
+from .decisions import MOST_ADS, said_by
 from .handover import absolute
 from .location import Location
-from .origin import origin_of, read_whole
+from .origin import ads_of, origin_of, read_whole
 from .repair import Choices, Repairer
 from .settings import FOLDER, Settings, hash_of
 from .web import Client
@@ -110,9 +109,11 @@ class Check:
             return Fact("settings", False, f"channel {self.settings.name}: {what}: there is no file {path}")
         try:
             with open(path, "rb") as it:
-                body = it.read(MAX_BYTES + 1)
+                body = it.read(MOST_ADS + 1)
         except OSError as fault:
             return Fact(what, False, f"{path}: {fault.strerror}")
+        if len(body) > MOST_ADS:
+            return Fact(what, False, f"{path}: it has more than {MOST_ADS} bytes")
         if (wrong := judge.judge(body)) is not None:
             return Fact(what, False, f"{path}: {wrong.line()} ({wrong.fault})")
         if said_by(body)[0] != "fallback":
@@ -127,7 +128,7 @@ class Check:
         """Whether the origin at `place` answers a list that adsplice would take. `base`: by which its references
         are resolved, if that isn't the channel's."""
         it = self.settings
-        found = read_whole(origin_of(place, Client(self.timeout, it.redirects, it.reach())), it.unended, it.line, base or it.base)
+        found = read_whole(origin_of(place, Client(self.timeout, it.redirects, it.reach())), it.unended, it.line, base or it.base, ads_of(it.fallback))
         if found.body is None:
             return Fact("origin", False, found.why if str(place) in found.why else f"{place}: {found.why or f'it answers {found.status}'}")
         if it.master is not None:
@@ -148,7 +149,7 @@ class Check:
         if reply is not None and reply.status != 204:
             return Fact("origin", False, f"{place}: adsplice would refuse the list: {reply.body.strip()}")
         listed = playlist.read(body)
-        return Fact("origin", True, f"{place} answers a list of {len(listed.segments)} segments, with a target duration of {listed.target} s")
+        return Fact("origin", True, f"{place} answers a playlist of {len(listed.segments)} segments, with a target duration of {listed.target} s")
 
     # ---- the ad server
 
@@ -156,8 +157,10 @@ class Check:
         """Whether the ad server of `url` takes a connection; nothing is asked."""
         if url == FOLDER:
             return Fact("ask", True, "who watches the folder of decisions is asked by files in `asked`")
-        parts = urllib.parse.urlsplit(url)
-        host, is_secret = parts.hostname or "", parts.scheme == "https"
+        parts = urls.parts_of(url)
+        if parts is None:
+            return Fact("ask", False, words.NO_URL)
+        host, is_secret = parts.host, parts.scheme == "https"
         try:
             with socket.create_connection((host, parts.port or (443 if is_secret else 80)), min(CONNECT, self.timeout)) as it:
                 if is_secret:

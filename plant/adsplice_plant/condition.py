@@ -21,12 +21,12 @@ HELP = """Makes ads for a channel's ladder out of their files (a mezzanine, as M
   adsplice-condition --profile http://origin.example/sport/master.m3u8 --names 1080,720,sound > sport.json
   adsplice-condition --profile 1080=http://origin.example/1080.m3u8 720=http://origin.example/720.m3u8 > sport.json
   adsplice-condition CAR0001H.mp4 --ladder sport.json --to /var/www/ads/CAR0001H
-  adsplice-pod break-17 CAR0001H/1080/index.m3u8 --at http://ads.example ..      makes a decision file of one rendition's list
+  adsplice-pod break-17 CAR0001H/1080/index.m3u8 --at http://ads.example ..      makes a decision file of one rendition's playlist
 
 --profile looks at a segment of each rendition by ffprobe, and prints the ladder as JSON: what codecs, sizes and rates it has, and how
 long a segment is. A place is a URL or a file; one master playlist stands for all of its renditions.
 
-An ad becomes a folder with a folder for each rendition, in which its pieces and its list (index.m3u8) are. All renditions have the same
+An ad becomes a folder with a folder for each rendition, in which its pieces and its playlist (index.m3u8) are. All renditions have the same
 pieces. It is silent in the sound of a ladder if it has none, and has an empty piece of WebVTT for each piece in subtitles. The folder is
 there as a whole or not at all. It begins and ends as its file does, or lasts as long as --seconds says if the file is within 0.5 s of that.
 
@@ -51,7 +51,7 @@ def read_words(arguments: list[str]) -> argparse.Namespace:
     it.add_argument("file", nargs="?", type=Path, metavar="FILE", help="of an ad")
     it.add_argument("--profile", nargs="+", default=[], metavar="PLACE", help="prints what the ladder is like: a master playlist, or NAME=LIST for each rendition")
     it.add_argument("--names", type=lambda text: text.replace(",", " ").split(), default=[], metavar="NAME,..", help="of the renditions of a master playlist (1, 2 ..)")
-    it.add_argument("--redirects", action="store_true", help="a list may name segments of other hosts")
+    it.add_argument("--redirects", action="store_true", help="a playlist may name segments of other hosts")
     it.add_argument("--ladder", type=Path, metavar="FILE", help="what --profile printed")
     it.add_argument("--to", type=Path, metavar="DIR", help="the folder that the ad becomes")
     it.add_argument("--id", default="", metavar="ID", help="of the ad (the name of its file)")

@@ -6,9 +6,11 @@ then the decisions up to its next list, and that list, which has all that it lac
 from __future__ import annotations
 
 import re
+from collections.abc import Collection, Iterable
 from dataclasses import replace
 
 from . import apart, decided, faults, numbers, packaged, ranges, replay, spelling
+from .breaks import TOLERANCE
 from .decisions import NO_FALLBACK, OVER
 from .events import Answered, Find, Found, Request, Send, What
 from .numbers import Viewed
@@ -29,7 +31,7 @@ BETWEEN_DROPS = 120.0  # seconds between two times that a machine's channel is m
 STAYS = "if that stays, only a new channel takes it, which a person makes by a DELETE of this one"
 SEQUENCES = tuple(re.compile(rb"^#EXT-X-%s-SEQUENCE:(\d+)$" % name, re.M) for name in (b"MEDIA", b"DISCONTINUITY"))
 EXTINF, END = b"\n#EXTINF:", b"#EXT-X-ENDLIST"
-LISTED = "the list is taken"
+LISTED = "the playlist is taken"
 
 
 # ---- requests
@@ -51,7 +53,7 @@ def next_request(turn: Turn, channel: str) -> Request | None:
     """What the controller of the `channel` is to be sent next; none if it has all."""
     it = turn.state.renditions[channel]
     if turn.state.life and has_missed(it):
-        drop(turn, channel, "the channel has missed lists", True)
+        drop(turn, channel, "the channel has missed playlists", True)
         it = turn.state.renditions[channel]
     if it.controller.way is Way.UNKNOWN:
         return Request(What.MAKE, it.settings.body())
@@ -126,7 +128,24 @@ def push(turn: Turn, channel: str) -> Request:
     new = next((n for n, one in enumerate(history) if one.number > controller.took), len(history))
     if controller.led < stands.entry and (until := replay.turned_at(stands, new)) is not None:
         return Request(What.PUSH, listed_from(stands, place, controller.ahead, until, since), stands.entry, True)
+    if controller.led < stands.entry and (announced := announced_after(stands, history, new)):
+        until = next((n for n in range(new, len(history)) if is_begin(history[n], announced.values())), len(history))
+        return Request(What.PUSH, listed_from(stands, place, controller.ahead, until, since, announced), stands.entry, True)
     return Request(What.PUSH, listed_from(stands, place, controller.ahead, since=since), stands.entry)
+
+
+def announced_after(stands: Standing, history: list[PackagedSegment], new: int) -> dict[str, int]:
+    """The starts of the breaks, by their IDs, that the newest list has and that begin with the segment at the place `new` of the `history` or later. A
+    controller that lacks lists may have another START-DATE of them, which it keeps until a list comes without them (RFC 8216, 4.3.2.7)."""
+    newest, begun = stands.repairer.last[-1].number, history[:new]
+    starts = ranges.starts_in([line for line, number in stands.viewed.ranges.values() if number >= newest])
+    return {name: start for name, start in starts.items() if not any(is_begin(it, [start]) for it in begun)
+            and (not begun or start > (begun[-1].begins or 0) or any(is_begin(it, [start]) for it in history[new:]))}
+
+
+def is_begin(it: PackagedSegment, starts: Iterable[int]) -> bool:
+    """Whether the segment `it` begins at one of the `starts`."""
+    return it.begins is not None and any(abs(it.begins - start) <= TOLERANCE for start in starts)
 
 
 def first_list(turn: Turn, channel: str) -> tuple[bytes, bool]:
@@ -183,16 +202,16 @@ def reckoned_anew(turn: Turn, stands: Standing) -> Viewed:
     return viewed
 
 
-def listed_from(stands: Standing, place: int, ahead: Numbers, until: int | None = None, since: int = 0) -> bytes:
+def listed_from(stands: Standing, place: int, ahead: Numbers, until: int | None = None, since: int = 0, without: Collection[str] = ()) -> bytes:
     """The list of the segments from the `place` in the history on, with numbers that are `ahead`; up to before the place `until`, if one is named. It says
-    of breaks what was listed since the media number `since`: nothing of those that were missed and would have a pod now, and of others where they ended
-    for viewers by then. What is no longer listed and hasn't begun, adsplice has forgotten."""
+    of breaks what was listed since the media number `since`: nothing of those `without` which it is, and of those that were missed and would have a pod
+    now; and of others where they ended for viewers by then. What is no longer listed and hasn't begun, adsplice has forgotten."""
     segments, head = history_of(stands)[place:until], stands.repairer.head
     assert head is not None
     missed, newest = {name for name in stands.pods.missed if stands.pods.at_hand(name) is not None}, stands.repairer.last[-1]
     said = [line for name, (line, number) in stands.viewed.ranges.items() if number >= max(since, segments[0].number) and name not in missed
             and not (number < newest.number and is_to_come(line, newest))]
-    lines = [replay.as_it_ran(stands, line) if until is None else replay.as_it_began(line) for line in said]
+    lines = [replay.as_it_ran(stands, line) if until is None or without else replay.as_it_began(line) for line in said if packaged.id_in(line) not in without]
     found = PackagedList(head.version, head.target, kind=head.kind, segments=moved(segments, ahead))
     front = stands.text[:max(0, stands.text.find(EXTINF))]
     found.is_independent, found.is_ended = b"#EXT-X-INDEPENDENT-SEGMENTS" in front, stands.text.rstrip().endswith(END)
@@ -264,7 +283,7 @@ def unanswered(turn: Turn, event: Answered) -> None:
     """The controller did nothing that is known: it is away, or was started anew (404)."""
     if event.status == 404:
         turn.put_controller(event.channel, way=Way.UNKNOWN, trials=0)
-        failed(turn, event, "makes it, and gives it fallback, decisions and list")
+        failed(turn, event, "makes it, and gives it fallback, decisions and playlist")
     else:
         wait(turn, event.channel)
         failed(turn, event, "tries again with growing pauses")
@@ -308,11 +327,11 @@ def looked(turn: Turn, event: Answered) -> None:
     """It was asked whether a channel that is there has a list."""
     if event.status == 0 or event.status >= 500:
         wait(turn, event.channel)
-        failed(turn, event, "looks again whether the channel has a list as soon as it can")
+        failed(turn, event, "looks again whether the channel has a playlist as soon as it can")
         return
     it = turn.put_controller(event.channel, trials=0)
     if event.status != 404 and turn.state.life and it.took < 0 and not it.led:
-        drop(turn, event.channel, "the channel is there, with a list of which this machine doesn't know what it is", True)
+        drop(turn, event.channel, "the channel is there, with a playlist of which this machine doesn't know what it is", True)
         return
     turn.tell(event.channel, "adsplice", 409, "", "the channel is there already; goes on with it")
     if event.status == 404:
@@ -399,7 +418,7 @@ def told_at_once(it: Rendition, stands: Standing, translator: Translator) -> Sta
     said, told = translator.take(found, it.settings.rendition()), ranges.ids_in(ranges.ranges_in(text))
     if said.ranges is None:
         return stands
-    lines, viewed = [line for line in said.ranges if packaged.id_in(line) in told], stands.viewed.copy()
+    lines, viewed = [replay.as_it_runs(stands, line, translator.breaks.named(packaged.id_in(line))) for line in said.ranges if packaged.id_in(line) in told], stands.viewed.copy()
     viewed.note(lines, stands.repairer.last[-1].number)
     return replace(stands, viewed=viewed, text=packaged.write(found, lines))
 
@@ -455,7 +474,8 @@ def refused(turn: Turn, event: Answered) -> None:
         if (one := decision_of(turn, request.entry)) is not None:
             decided.refused(turn, channel, one, event.status, event.line)
     elif request.is_ahead:
-        turn.put_controller(channel, led=request.entry)
+        turn.put_controller(channel, led=request.entry)  # (it has more than it acknowledged)
+        turn.tell(channel, "adsplice", event.status, event.line, f"{faults.meaning(event.status, event.line)}; gives it the newest list")
     else:
         list_refused(turn, event)
 
@@ -474,7 +494,7 @@ def list_refused(turn: Turn, event: Answered) -> None:
     is_unfit = faults.follows_badly(line)
     controller = turn.put_controller(channel, listed=turn.state.renditions[channel].stands.entry, unfit=it.controller.unfit + 1 if is_unfit else 0)
     if controller.unfit >= UNFIT and may_drop(turn, controller):
-        drop(turn, channel, f"adsplice refuses two lists in a row ({line})")
+        drop(turn, channel, f"adsplice refuses two playlists in a row ({line})")
         return
     if controller.unfit >= UNFIT and not turn.state.life and it.settings.repair and it.came is not None and faults.code_of(line) not in ("N4", "N9"):
         afresh = Repairer(it.stands.repairer.choices).take(it.came, turn.at, turn.clock).found
@@ -488,7 +508,7 @@ def list_refused(turn: Turn, event: Answered) -> None:
 def tell_refused(turn: Turn, channel: str, status: int, line: str, is_unfit: bool) -> None:
     """Tells that the list of the `channel` was refused; `is_unfit`: since it doesn't go on after the last one."""
     what = faults.meaning(status, line) + (f" ({line})" if is_unfit else "")
-    turn.tell(channel, "adsplice", status, line, f"{what}; waits for the next list" + (f"; {STAYS}" if is_unfit else ""))
+    turn.tell(channel, "adsplice", status, line, f"{what}; waits for the next playlist" + (f"; {STAYS}" if is_unfit else ""))
 
 
 def found(turn: Turn, event: Found) -> None:
@@ -499,7 +519,7 @@ def found(turn: Turn, event: Found) -> None:
         return
     turn.put_controller(channel, sent=None)
     if list_ is None:
-        turn.tell(channel, "adsplice", 409, "Unfound", f"the numbers of its list aren't known; waits for the next list; {STAYS}")
+        turn.tell(channel, "adsplice", 409, "Unfound", f"the numbers of its playlist aren't known; waits for the next playlist; {STAYS}")
         return
     entry = turn.next_entry()
     repairer = Repairer(it.stands.repairer.choices)
@@ -528,10 +548,10 @@ def checked(turn: Turn, event: Answered) -> None:
         turn.tell(channel, "written", 0, "", "")
         return
     if viewed.reckoned is not None and may_drop(turn, it.controller):
-        drop(turn, channel, f"adsplice's list ends with media number {end[0]} and discontinuity number {end[1]}, and not as the log says")
+        drop(turn, channel, f"adsplice's playlist ends with media number {end[0]} and discontinuity number {end[1]}, and not as the log says")
         return
     if viewed.reckoned is not None:
-        turn.tell(channel, "written", 0, "Others", f"adsplice's list ends with media number {end[0]} and discontinuity number {end[1]}, and not with "
+        turn.tell(channel, "written", 0, "Others", f"adsplice's playlist ends with media number {end[0]} and discontinuity number {end[1]}, and not with "
                                                    "what it was given here: perhaps somebody else gave it a decision; goes by what it wrote")
     viewed.see(numbers.items_of(event.body), last)
     viewed.learn(last, [line for line, number in viewed.ranges.values() if number >= last[-1].number])

@@ -2,7 +2,7 @@
 from __future__ import annotations
 
 import re
-from dataclasses import dataclass, replace
+from dataclasses import dataclass
 from functools import lru_cache
 
 from adsplice_rules.splice import insert_said, ticks_nanos
@@ -12,6 +12,7 @@ from .breaks import Break, Breaks, Order, Placed, Timeline
 from .packaged import DATE_RANGE, PackagedList
 from .signals import SPLICES, Signal
 from .splice import Kind, Message, Unread
+from .values import changed
 
 STATED = ("END-DATE", "DURATION")  # attributes that say where a break ends
 REMEMBERED = 2048  # date ranges that were read
@@ -125,7 +126,7 @@ class RangeReader:
 
 def ranges_of(found: PackagedList) -> list[DateRange]:
     """The date ranges of the list `found`."""
-    return [replace(read_range(line), place=place, order=(place, at)) for place, at, line in found.own_ranges()]
+    return [changed(read_range(line), place=place, order=(place, at)) for place, at, line in found.own_ranges()]
 
 
 @lru_cache(REMEMBERED)

@@ -30,11 +30,11 @@ A section of FILE is a channel, or a ladder's programme, by the name that the fe
 
   vast       URL of the ad server, with macros: [BREAKMAXDURATION], [CACHEBUSTING], [TIMESTAMP], [ADCOUNT] and the others of VAST 4.2
   macros     lines NAME=VALUE for others, as CONTENTID=news-1
-  ladder     file of adsplice-condition --profile; without it the lists are looked at that the feed reads
+  ladder     file of adsplice-condition --profile; without it adsplice-decide looks at the playlists of the feed
   slate      file of a film that fills up what the ads leave
   timeout    seconds that the ad server has (0.7); less than the feed's `hold`
   length     seconds of a break whose signal says none
-  prefetch   seconds before a break of the schedule that its ads are asked for (60); without a schedule they are asked for once in so many seconds
+  prefetch   seconds before a break of the schedule at which it asks for ads (60); without a schedule it asks once in as many seconds
   schedule   file with a line for each break: its begin in UTC, and its seconds
   loudness   LUFS of the ads' sound, as -23; as it is, if there is none
   redirects  no: hosts other than the ad server's aren't asked (yes)

@@ -4,11 +4,10 @@ from __future__ import annotations
 import shutil
 import socket
 import ssl
-import urllib.parse
 from collections.abc import Iterator
 from pathlib import Path
 
-from . import children, config_file, probing, words
+from . import children, config_file, probing, urls, words
 from .check import CONNECT, Fact, folder
 from .decide_ladders import seen_by, text_of
 from .condition import ladder_in
@@ -54,8 +53,10 @@ def of_section(section: Section, shop: Shop) -> Iterator[Fact]:
 
 def takes_connection(what: str, url: str) -> Fact:
     """Whether the server of the `url`, the setting `what`, takes a connection; nothing is asked."""
-    parts = urllib.parse.urlsplit(url)
-    host, is_secret = parts.hostname or "", parts.scheme == "https"
+    parts = urls.parts_of(url)
+    if parts is None:
+        return Fact(what, False, words.NO_URL)
+    host, is_secret = parts.host, parts.scheme == "https"
     shown = f"{parts.scheme}://{host}"
     try:
         with socket.create_connection((host, parts.port or (443 if is_secret else 80)), CONNECT) as it:

@@ -344,7 +344,7 @@ def make_room(turn: Turn) -> None:
     past = turn.state.over[:max(0, len(turn.state.over) - MOST_OVER)]
     for name in past:
         if any(name in it.stands.pods.held for _, it in turn.renditions()) and not begun_of(turn, [name]):
-            withdraw(turn, name, tells=Telling(f"breaks/{name}", "Over", "it was decided, left the list and never began; takes its pod back", True))
+            withdraw(turn, name, tells=Telling(f"breaks/{name}", "Over", "it was decided, left the playlist and never began; takes its pod back", True))
     if past:
         turn.set(over=turn.state.over[len(past):])
 

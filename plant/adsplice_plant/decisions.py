@@ -7,6 +7,7 @@ DONE = "done"  # the folder in the folder, for files that are over
 ANSWERS = ("Answered", "NoAds", "Late", "Unanswered", "Wrong", "Unkept", "TooMany")  # what may become of a question
 LASTING = ("breaks", "fallback")  # the kinds that adsplice holds on to
 MAX_BYTES = 4_194_304  # adsplice takes no longer file
+MOST_ADS = 262_144  # bytes of a fallback or a slate, which may be written in each break: as many as the longest pod has under URIs of 400 bytes
 MOST_COMMAS = 250_000  # of a decision file: one of 4 MiB has 175,000 if each has its URI and its duration, and each costs the judge time
 ROOM = 200  # decided breaks that aren't listed yet: adsplice holds 256, and the others are for those that are listed
 MOST_OVER = 16  # breaks that left the list and may come back: those before them are withdrawn if they never began

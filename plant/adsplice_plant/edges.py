@@ -56,9 +56,9 @@ def note_behind(turn: Turn, channel: str, reach: Reach) -> None:
             turn.put(name, behind_since=turn.at)
 
 
-def up_to(body: bytes, edge: Reach) -> bytes:
-    """The list `body` without the segments at its end that lie past the `edge`; its first segment stays."""
-    mine, at = reach_of(body), len(body)
+def up_to(body: bytes, mine: Reach, edge: Reach) -> bytes:
+    """The list `body`, which goes as far as `mine`, without the segments at its end that lie past the `edge`; its first segment stays."""
+    at = len(body)
     end, number, first = mine.instant, mine.number, body.find(EXTINF)
     if not mine.is_near(edge):
         if abs(number - edge.number) > MOST_APART:

@@ -13,11 +13,11 @@ import json
 import socket
 import threading
 import time
-import urllib.parse
 from collections.abc import Callable, Iterator, Mapping
 from functools import partial
 from typing import Any, NamedTuple, TypeVar
 
+from .urls import host_of
 from .web import Client
 from .words import plain
 
@@ -274,7 +274,7 @@ class Etcd:
 
 def place_here(addresses: tuple[str, ...]) -> int:
     """The place of the first of the `addresses` that is one of this machine's own; 0 if none is."""
-    return next((place for place, it in enumerate(addresses) if is_here(urllib.parse.urlsplit(it).hostname or "")), 0)
+    return next((place for place, it in enumerate(addresses) if is_here(host_of(it))), 0)
 
 
 def is_here(host: str) -> bool:

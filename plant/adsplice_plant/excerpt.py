@@ -29,7 +29,7 @@ LEAST, BEFORE, AFTER = 4, 20, 1  # lists: at least; before what matters, and aft
 OVERLAP = 8  # lines of a list, for each of which a list may be left out: what follows still lists what came before
 FAR = 2000  # lists before the date range came, in which its first segment is looked for
 UNREACHED = (0, 404, 502, 503, 504)  # statuses of what never came to the channel
-NAMES = {"origin": "the list of", "decisions": "the decision of", "channel": "the channel of", "delete": "its end at", "hole": "the time from", "note": "the note of", "late": "the late decision of"}
+NAMES = {"origin": "the playlist of", "decisions": "the decision of", "channel": "the channel of", "delete": "its end at", "hole": "the time from", "note": "the note of", "late": "the late decision of"}
 RANGE = "#EXT-X-DATERANGE:"
 
 
@@ -175,7 +175,7 @@ class Excerpt:
             if lists and not lists[0].has(name):
                 break
         if not self.events:
-            raise Fault(f"no kept list of {until} or before has the break {name}")
+            raise Fault(f"no kept playlist of {until} or before has the break {name}")
 
     def chosen(self) -> tuple[list[int], int]:
         """The places of the lists that the rules are given, and of the last event that had the break: the lists around the one

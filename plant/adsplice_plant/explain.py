@@ -116,7 +116,7 @@ def report(explainer: Explainer, only: str | None) -> tuple[list[str], bool]:
         return [*differences, explainer.explain(only)], not differences and explainer.word(only) == "Filled"
     refused, unlisted = refusals(explainer.run.steps), explainer.unlisted()
     breaks = [explainer.explain(it) for it in explainer.ids()]
-    none = [] if breaks or unlisted else ["no list that reads has a break: an EXT-X-DATERANGE with START-DATE and SCTE35-OUT"]
+    none = [] if breaks or unlisted else ["no playlist that reads has a break: an EXT-X-DATERANGE with START-DATE and SCTE35-OUT"]
     is_well = not differences and not refused and not unlisted and not none and all(explainer.word(it) == "Filled" for it in explainer.ids())
     return differences + refused + breaks + unlisted + none + explainer.unseen(), is_well
 
@@ -154,7 +154,7 @@ def report_kept(path: Path, said: argparse.Namespace) -> tuple[list[str], bool]:
         found, is_filled = report(explainer, name)
         lines += found + (segments_of(explainer) if said.all else [])
         is_well = is_well and is_filled
-    return lines or [f"no list that was kept from {since} on has a break"], is_well and bool(names)
+    return lines or [f"no playlist that was kept from {since} on has a break"], is_well and bool(names)
 
 
 def main(arguments: list[str]) -> int:

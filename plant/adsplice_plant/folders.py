@@ -13,7 +13,7 @@ from collections.abc import Callable, Mapping
 from pathlib import Path
 
 from .bounded_files import Unread, clean, made, opened, read, stamp_of
-from .decisions import DAY, DONE, MAX_BYTES, over_bound, said_by
+from .decisions import DAY, DONE, MAX_BYTES, MOST_ADS, over_bound, said_by
 from .events import FallbackRead, FolderRead, SlateRead, Stamp
 from .judge import judge
 
@@ -174,7 +174,7 @@ class AdsFile:
         if self.stamp is None:
             return None
         try:
-            self.stamp, body = read(self.path, most=MAX_BYTES)
+            self.stamp, body = read(self.path, most=MOST_ADS)
             if lack := over_bound(body):
                 raise Unread(lack)
         except OSError as fault:

@@ -146,9 +146,9 @@ def refused(turn: Turn, event: Answered) -> None:
     it = turn.state.renditions[channel].controller
     controller = turn.put_controller(channel, listed=event.request.entry, refused=event.request.entry, unfit=it.unfit + 1)
     if controller.unfit >= UNFIT and controllers.may_drop(turn, controller):
-        controllers.drop(turn, channel, f"adsplice refuses two lists in a row ({line})")
+        controllers.drop(turn, channel, f"adsplice refuses two playlists in a row ({line})")
     else:
-        turn.tell(channel, "adsplice", event.status, line, f"{faults.meaning(event.status, line)}; waits for the next list")
+        turn.tell(channel, "adsplice", event.status, line, f"{faults.meaning(event.status, line)}; waits for the next playlist")
 
 
 def checked(turn: Turn, event: Answered) -> None:
@@ -163,4 +163,4 @@ def checked(turn: Turn, event: Answered) -> None:
     if end is None or reckoned is None or it.controller.listed < it.stands.entry or it.stands.text.rstrip().endswith(END) or reckoned.end() == end:
         return
     if controllers.may_drop(turn, it.controller):
-        controllers.drop(turn, channel, f"adsplice's list ends with media number {end[0]} and discontinuity number {end[1]}, and not as the log says")
+        controllers.drop(turn, channel, f"adsplice's playlist ends with media number {end[0]} and discontinuity number {end[1]}, and not as the log says")

@@ -1,11 +1,11 @@
 """Lists of a second origin as the feed takes them: with absolute references, and without what the first origin has shown already."""
 from __future__ import annotations
 
-import urllib.parse
 from dataclasses import dataclass
 
 from . import playlist
 from .playlist import SECOND
+from .urls import joined_or_same
 
 LEAST = 3  # segments that are taken if nobody states times: a live list has three target durations (RFC 8216, 6.2.2)
 REFERENCES = (':URI="', ',URI="')
@@ -25,25 +25,17 @@ def bytes_of(text: str) -> bytes:
     return text.encode("utf-8", "surrogateescape")
 
 
-def joined(base: str, reference: str) -> str:
-    """The `reference` as a URL by its `base` (RFC 3986, 5); as it is if it doesn't read."""
-    try:
-        return urllib.parse.urljoin(base, reference)
-    except ValueError:
-        return reference
-
-
 def absolute(body: bytes, base: str) -> bytes:
     """The list `body` with its references as URLs by the URL `base` of its origin."""
     lines = []
     for line in text_of(body).split("\n"):
         bare = line.strip(" \t\r")
         if bare and not bare.startswith("#"):
-            line = line.replace(bare, joined(base, bare), 1)
+            line = line.replace(bare, joined_or_same(base, bare), 1)
         elif bare.startswith("#EXT-X-"):
             begin = next((at + len(it) for it in REFERENCES if (at := line.find(it)) >= 0), -1)
             end = line.find('"', begin) if begin >= 0 else -1
-            line = line[:begin] + joined(base, line[begin:end]) + line[end:] if end >= 0 else line
+            line = line[:begin] + joined_or_same(base, line[begin:end]) + line[end:] if end >= 0 else line
         lines.append(line)
     return bytes_of("\n".join(lines))
 

@@ -167,7 +167,7 @@ def piece_of(listed: Listed) -> int:
     """How long a segment of the list `listed` lasts as a rule, in nanoseconds; raises Fault if it has none."""
     found = Counter(it.duration for it in listed.segments if it.duration)
     if not found:
-        raise Fault("its list has no segment")
+        raise Fault("its playlist has no segment")
     return max(found, key=lambda it: (found[it], it))
 
 

@@ -4,11 +4,10 @@ A person's settings state either, and are read here once. What a list names is n
 """
 from __future__ import annotations
 
-import urllib.parse
 from dataclasses import dataclass
 from pathlib import Path
 
-from . import words
+from . import urls, words
 from .words import Fault
 
 
@@ -27,7 +26,7 @@ class Url:
 
     def host(self) -> str:
         """Its host, in small letters."""
-        return (urllib.parse.urlsplit(self.text).hostname or "").lower()
+        return urls.host_of(self.text)
 
 
 @dataclass(frozen=True)

@@ -180,7 +180,7 @@ class Machines:
         """Prints a line once for as long as it is so."""
         if word != self.why:
             self.why = word
-            self.say(f"{now_text()} feed store - {word}: {plain(text)}; nothing is given until it goes again, and viewers keep the last lists")
+            self.say(f"{now_text()} feed store - {word}: {plain(text)}; nothing is given until it goes again, and viewers keep the last playlists")
 
     def well(self) -> None:
         """The store does what it is asked."""

@@ -9,17 +9,16 @@ from __future__ import annotations
 import os
 import threading
 import time
-import urllib.parse
 from collections.abc import Callable
 from dataclasses import dataclass, field, replace
 from pathlib import Path
 
-from . import bounded_files, packaged, renditions, settings, spelling
+from . import bounded_files, packaged, renditions, settings, spelling, urls
 from .bounded_files import Unread
 from .location import LocalFile, Location, Url
 from .origin import Origin, origin_of, read_whole
 from .pauses import Pauses
-from .renditions import Names
+from .renditions import FileNames, Kept, Names
 from .settings import SUBTITLES, Settings
 from .siblings import absolute
 from .traits import Traits, traits_of
@@ -86,6 +85,8 @@ def read(body: bytes, base: str, types: tuple[str, ...] = MEDIA_TYPES) -> Master
             is_rendition = is_media and said.get("TYPE") in types and "URI" in said
             found.has_captions = found.has_captions or (is_media and said.get("TYPE") == CAPTIONS)
             found.has_others = found.has_others or (is_media and said.get("TYPE") == SUBTITLES and not is_rendition)
+            if urls.joined(base, said.get("URI", "")) is None:
+                raise Fault(f"it names what isn't a URL: {said['URI'][:100]!r}")
             found.add(line if is_rendition else absolute(line, base), said["URI"] if is_rendition else "", said.get("TYPE", ""))
             found.others += not is_rendition
             if found.others > MOST_OTHERS:
@@ -132,10 +133,12 @@ def listed(uri: str, programme: Settings) -> Location:
     file. Raises Fault if it is another place."""
     if " " in uri or not uri.isprintable():
         raise Fault(f"a rendition's URI isn't one URL, for it has a space or a sign that isn't printed: {uri[:100]!r}")
-    first = programme.origin
-    if isinstance(first, Url) or uri.startswith("//") or urllib.parse.urlsplit(uri).scheme:
-        base = first.text if isinstance(first, Url) else programme.base
-        place = urllib.parse.urljoin(base, uri)
+    first, parts = programme.origin, urls.parts_of(uri)
+    base = first.text if isinstance(first, Url) else programme.base
+    place = urls.joined(base, uri)
+    if parts is None or place is None:
+        raise Fault(f"a rendition isn't read, {uri[:100]!r}: it isn't a URL")
+    if isinstance(first, Url) or uri.startswith("//") or parts.scheme:
         if why := strays(place, base, programme.redirects, programme.reach()):
             raise Fault(f"a rendition isn't read, {uri[:100]!r}: {why}")
         return Url(place)
@@ -153,8 +156,8 @@ def channels_of(found: Master, programme: Settings, known: Names | None = None) 
     for key, uri in zip(renditions.keys_of(found.uris), found.uris):
         name = names[key]
         texts = {key: value.replace(settings.PLACE, name) if value else value for key, value in programme.texts.items()}
-        base = urllib.parse.urljoin(programme.base, uri)
-        one = settings.settings_of(f"{programme.name}-{name}", texts, (listed(uri, programme), base))
+        place = listed(uri, programme)
+        one = settings.settings_of(f"{programme.name}-{name}", texts, (place, urls.joined_or_same(programme.base, uri)))
         group = found.groups.get(uri, "")
         empty = programme.empty_subtitles if group == SUBTITLES else ""
         channels.append(replace(one, programme=programme.name, group=group, empty_subtitles=empty, traits=traits.get(uri, Traits())))
@@ -184,12 +187,13 @@ class Feeds:
 
 class Programme:
     """The programme that `programme` tells of, whose origin is a master playlist. `client` asks for it, `say` prints a line, and `feeds` feeds its
-    channels."""
+    channels. `kept`: where their names are kept."""
 
-    def __init__(self, programme: Settings, client: Client, say: Callable[[str], None], feeds: Feeds) -> None:
+    def __init__(self, programme: Settings, client: Client, say: Callable[[str], None], feeds: Feeds, kept: Kept | None = None) -> None:
         self.settings, self.say, self.feeds = programme, say, feeds
         self.origin: Origin = origin_of(programme.origin, client)
-        self.names = renditions.load(known_at(programme))
+        self.kept: Kept = kept or FileNames(known_at(programme))
+        self.names: Names = {}
         self.fed: dict[str, Settings] = {}  # the channels by their names
         self.others: frozenset[str] = frozenset()  # the names of those that it has in place of them, since `others_at`
         self.others_at = self.changed_at = float("-inf")
@@ -223,7 +227,11 @@ class Programme:
     def take(self, found: Master, now: float) -> None:
         """Feeds the renditions of `found`, and writes the master playlist for viewers. Others than before are fed once they stay so from one look to
         the next, `now`."""
-        names = names_of(found, self.settings.names, self.names)
+        def add(known: Names) -> Names:
+            return names_of(found, self.settings.names, known)
+        if not self.fed:
+            self.names = self.kept.agree(add)
+        names = add(self.names)
         channels = {it.name: it for it in channels_of(found, self.settings, names)}
         if not self.fed:
             self.feeds.begin(list(channels.values()))
@@ -235,8 +243,7 @@ class Programme:
             self.fed, self.changed_at = channels, now
         self.others, self.pause = frozenset(), AGAIN
         if names != self.names:
-            self.names = names
-            renditions.save(known_at(self.settings), names)
+            self.names = self.kept.agree(add)
         for name, it in channels.items():
             if it.origin != self.fed[name].origin:
                 self.feeds.move(name, it.origin)

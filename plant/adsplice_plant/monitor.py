@@ -200,7 +200,7 @@ class Figures(Collector):
         holes = CounterMetricFamily("adsplice_feed_unkept", "Times that the feed couldn't keep its events", labels=["channel"])
         restarts = CounterMetricFamily("adsplice_feed_restarts", "Times that a channel's feed began anew after a fault that nobody foresaw", labels=["channel"])
         repairs = CounterMetricFamily("adsplice_feed_repairs", "Lists that the feed put right, by the kind of repair", labels=["channel", "kind"])
-        origins = GaugeMetricFamily("adsplice_feed_origin", "Whether a channel's list is read from this one of its two origins", labels=["channel", "place"])
+        origins = GaugeMetricFamily("adsplice_feed_origin", "Whether a channel's playlist is read from this one of its two origins", labels=["channel", "place"])
         late = CounterMetricFamily("adsplice_feed_late_decisions", "Decisions that came after their break had begun", labels=["channel"])
         asked = CounterMetricFamily("adsplice_feed_questions", "Questions about breaks, by what became of them", labels=["channel", "answer"])
         absent = CounterMetricFamily("adsplice_feed_absent", "Decisions that weren't given, since an ad of theirs wasn't there", labels=["channel"])

@@ -232,6 +232,6 @@ def check(base: str, listed: bytes, decisions: bytes, names: list[str]) -> str:
         return ""
     told = dict(words(channel))
     if (empty := next((it for it in names if told.get(it) != "Filled"), None)) is not None:
-        return f"break {empty}: it would stay empty ({told.get(empty, 'its ID is in the list already')})"
+        return f"break {empty}: it would stay empty ({told.get(empty, 'its ID is in the playlist already')})"
     return "a stand-in would stay" if URI.partition("{")[0] in (written(channel) or "") else ""
 

@@ -1,7 +1,9 @@
 """Reads a channel's playlist from its origin: a URL, by conditional requests, or a file."""
+import os
 import time
 from collections.abc import Callable, Iterator
 from dataclasses import dataclass
+from pathlib import Path
 from typing import Protocol
 
 from . import playlist
@@ -15,9 +17,10 @@ READS = 4  # of a list that is cut off within a line, before it is left for the 
 BETWEEN = 0.15  # seconds between these
 LINES = 100_000  # of a list: adsplice takes 10,000 segments
 NAME = 255  # bytes of a break's ID and of a key's format
+BEGINS, GOES_ON = (b"SCTE35-OUT=", b"SCTE35-CMD=", b"#EXT-X-CUE-OUT"), b"#EXT-X-CUE-OUT-CONT"  # what begins breaks, and a tag within one
 WRITTEN = 4 * MAX_BYTES  # bytes that may be written of a list: of a list of 10,000 segments that is as much as a base or a key of 1,200 bytes
 NEWLINE = b"\n"
-CUT_OFF = "the list is cut off within its last line"
+CUT_OFF = "the playlist is cut off within its last line"
 
 
 @dataclass(frozen=True)
@@ -99,10 +102,10 @@ def origin_of(place: Location, client: Client) -> Origin:
     return FileOrigin(place)
 
 
-def over_bound(body: bytes, line: int, base: int = 0) -> str:
+def over_bound(body: bytes, line: int, base: int = 0, ads: int = 0) -> str:
     """What of the list `body` is over a bound that no packager meets, and costs adsplice its time or its memory: a line of more than `line`
-    bytes, an ID or a key's format of more than NAME, or so many references under a base of so many bytes (`base`), or under a key, that what is
-    written would be much longer. Empty if nothing is. It looks at each byte a few times."""
+    bytes, an ID or a key's format of more than NAME, or so many references under a base of so many bytes (`base`), or under a key, or so many breaks
+    for a fallback of so many bytes (`ads`), that what is written would be much longer. Empty if nothing is. It looks at each byte a few times."""
     if body.count(NEWLINE) > LINES:
         return f"it has more than {LINES} lines"
     begin = 0
@@ -111,7 +114,7 @@ def over_bound(body: bytes, line: int, base: int = 0) -> str:
         if end < 0:
             return f"line {body.count(NEWLINE, 0, begin) + 1} has more than {line} bytes (`line`)"
         begin = end + 1
-    return long_name(body) or written_long(body, base)
+    return long_name(body) or written_long(body, base, ads)
 
 
 def tags_of(body: bytes, tag: bytes) -> Iterator[tuple[int, int]]:
@@ -136,25 +139,36 @@ def long_name(body: bytes) -> str:
     return ""
 
 
-def written_long(body: bytes, base: int) -> str:
-    """Why what is written of the list `body` under a base of so many bytes (`base`) would have more than WRITTEN bytes; empty if it hasn't. A
-    key without an IV, or a section in force, may stand before each segment (RFC 8216, 5.2 and 4.3.2.5), and the base before each reference."""
+def written_long(body: bytes, base: int, ads: int) -> str:
+    """Why what is written of the list `body` under a base of so many bytes (`base`), with a fallback of so many (`ads`), would have more than WRITTEN
+    bytes; empty if it hasn't. A key without an IV, or a section in force, may stand before each segment (RFC 8216, 5.2 and 4.3.2.5), the base before
+    each reference, and the fallback in each break."""
     longest = max((end - begin for tag in (b"#EXT-X-KEY:", b"#EXT-X-MAP:") for begin, end in tags_of(body, tag)), default=0)
     references = sum(not it.startswith(b"#") and not it.isspace() for it in body.split(NEWLINE) if it)
-    if len(body) + references * (base + longest) <= WRITTEN:
+    breaks = sum(body.count(it) for it in BEGINS) - body.count(GOES_ON)
+    if len(body) + references * (base + longest) + breaks * ads <= WRITTEN:
         return ""
-    return f"what is written of it may have more than {WRITTEN} bytes: {references} references under a base of {base} bytes, with a key or a map of {longest}"
+    more = f", and {breaks} breaks for a fallback of {ads} bytes" if breaks * ads else ""
+    return f"what is written of it may have more than {WRITTEN} bytes: {references} references under a base of {base} bytes, with a key or a map of {longest}{more}"
 
 
-def read_whole(origin: Origin, takes_unended: bool, line: int = LINE, base: str = "", sleep: Callable[[float], object] = time.sleep) -> Read:
+def ads_of(path: Path | None) -> int:
+    """How many bytes the fallback's file `path` has; 0 if there is none."""
+    try:
+        return os.stat(path).st_size if path is not None else 0
+    except (OSError, ValueError):
+        return 0
+
+
+def read_whole(origin: Origin, takes_unended: bool, line: int = LINE, base: str = "", ads: int = 0, sleep: Callable[[float], object] = time.sleep) -> Read:
     """A whole list of `origin`. One that is cut off within its last line is read again, by a packager who writes it in
     place; if it stays so, it isn't taken, unless `takes_unended` says that this packager never ends its last line. One that is
-    over a bound, such as a `line` of so many bytes, or what is written under its `base`, isn't taken either. `sleep`: waits between two reads."""
+    over a bound, such as a `line` of so many bytes, or what is written under its `base` with a fallback of so many bytes (`ads`), isn't taken either. `sleep`: waits between two reads."""
     for left in range(READS, 0, -1):
         found = origin.read()
         if found.body is None:
             return found
-        if why := over_bound(found.body, line, len(base.encode())):
+        if why := over_bound(found.body, line, len(base.encode()), ads):
             return Read(status=found.status, why=why)
         if takes_unended or playlist.is_whole(found.body):
             return found

@@ -12,7 +12,7 @@ from dataclasses import dataclass, field
 
 from . import playlist
 from .handover import Handover, absolute, has_same
-from .origin import Origin, Read, read_whole
+from .origin import Origin, Read, ads_of, read_whole
 from .settings import Settings
 
 FIRST, SECOND = 0, 1
@@ -49,7 +49,7 @@ class Place:
             if begun - self.looked > STILL * self.target:
                 self.lists, self.well, self.failed, self.changed = 0, None, None, begun
             self.looked = begun
-            found = read_whole(self.origin, self.settings.unended, self.settings.line, self.base or self.settings.base)
+            found = read_whole(self.origin, self.settings.unended, self.settings.line, self.base or self.settings.base, ads_of(self.settings.fallback))
             self.why = found.why
             if found.why:
                 self.failed, self.well = begun if self.failed is None else self.failed, None

@@ -2,10 +2,10 @@
 from __future__ import annotations
 
 import functools
-import urllib.parse
 from dataclasses import dataclass
 
 from .reach import Network, Reach
+from .urls import host_of
 from .web import Client, strays
 
 
@@ -21,7 +21,7 @@ class Outside:
     @functools.cached_property
     def reach(self) -> Reach:
         """Which addresses requests reach: one for all of them, so that a name that was public doesn't become another kind of address."""
-        return Reach(frozenset({(urllib.parse.urlsplit(self.first).hostname or "").lower()}), self.networks)
+        return Reach(frozenset({host_of(self.first)}), self.networks)
 
     def client(self, limit: float) -> Client:
         """Who asks what `first` leads to, each request within `limit` seconds."""

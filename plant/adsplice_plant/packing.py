@@ -330,6 +330,8 @@ def of_repairer(old: Repairer, now: Repairer) -> Said:
         said["head"] = now.head and [now.head.version, now.head.target, now.head.kind]
     if now.lead is not old.lead and now.lead != old.lead:
         said["lead"] = now.lead and [now.lead.first, now.lead.count, now.lead.least]
+    if now.growing is not old.growing and now.growing != old.growing:
+        said["growing"] = now.growing and row_of(now.growing, None)
     if segments := of_segments(old, now):
         said["segments"] = segments
     return said
@@ -347,6 +349,7 @@ def standing_after(old: Standing, said: Said) -> Standing:
     head, lead = said.get("head"), said.get("lead")
     one.head = was.head if "head" not in said else head and Head(head[0], int(head[1]), head[2])
     one.lead = was.lead if "lead" not in said else lead and Lead(int(lead[0]), int(lead[1]), int(lead[2]))
+    one.growing = was.growing if "growing" not in said else said["growing"] and segment_of(said["growing"], None)
     one.past, one.last = segments_after(was.past, was.last, said.get("segments", {}))
     text, ahead = (edited(before, said[name]) if name in said else before for name, before in (("text", old.text), ("ahead", old.ahead)))
     repairs = {str(kind): int(count) for kind, count in said["repairs"].items()} if "repairs" in said else old.repairs

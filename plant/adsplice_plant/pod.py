@@ -17,8 +17,8 @@ HELP = """Makes a decision file for a break of the playlists of its ads, or judg
   adsplice-pod --fallback ad1/index.m3u8 --at http://ads.example > fallback.json
   adsplice-pod --check decisions.json [--verify]
   adsplice-pod --check news-1080.json news-720.json news-sound.json      those of a ladder's renditions
-  adsplice-pod --vmap breaks.xml --list index.m3u8 --base http://origin.example/film/index.m3u8 --ads /var/www/ads --at http://ads.example --to film
-  adsplice-pod --breaks 0=CAR0001H 600=CAR0001H,SOAP0001H end=CAR0001H --list index.m3u8 --base .. --ads .. --at .. --to film
+  adsplice-pod --vmap breaks.xml --playlist index.m3u8 --base http://origin.example/film/index.m3u8 --ads /var/www/ads --at http://ads.example --to film
+  adsplice-pod --breaks 0=CAR0001H 600=CAR0001H,SOAP0001H end=CAR0001H --playlist index.m3u8 --base .. --ads .. --at .. --to film
   adsplice vod http://origin.example/film/index.m3u8 film/decisions.json < film/index.m3u8 > written.m3u8
 
 adsplice itself reads the playlists: byte ranges, keys and initialisation sections as RFC 8216 has them. A file's URL is
@@ -30,8 +30,8 @@ have an initialisation section and some haven't, an ad with several keys.
 Several files are those of a ladder's renditions: it prints what of one doesn't fit the first one.
 With --verify it requests each URI that the file names, by HEAD or by its first byte, and prints a line for one that doesn't exist.
 
---vmap (IAB VMAP 1.0) and --breaks put breaks into the list of a programme on demand: before it, within it where a segment begins, and after
-it. No segment goes. The ads are those that adsplice-condition made in folders of --ads, by their IDs. DIR gets the list with signals, and the
+--vmap (IAB VMAP 1.0) and --breaks put breaks into the playlist of a programme on demand: before it, within it where a segment begins, and after
+it. No segment goes. The ads are those that adsplice-condition made in folders of --ads, by their IDs. DIR gets the playlist with signals, and the
 decision file, for `adsplice vod`. It leaves out an ad or a break that can't be put in, and prints a line for it.
 
 Exit status: 0 done (or right); 1 a fault, or a wrong file; 2 invalid arguments; with --strict also 1 after a warning."""
@@ -56,7 +56,7 @@ def read_words(arguments: list[str]) -> argparse.Namespace:
     film = it.add_argument_group("a programme on demand")
     film.add_argument("--vmap", metavar="FILE", help="a VMAP document, or its URL")
     film.add_argument("--breaks", nargs="+", metavar="OFFSET=ID,..", help="breaks by their offsets: seconds, HH:MM:SS, start or end")
-    film.add_argument("--list", metavar="FILE", help="the programme's playlist, or its URL")
+    film.add_argument("--playlist", dest="list", metavar="FILE", help="the programme's playlist, or its URL")
     film.add_argument("--base", type=words.web_address, metavar="URL", help="where the playlist is published")
     film.add_argument("--ads", type=Path, metavar="DIR", help="the folder of ads that adsplice-condition made")
     film.add_argument("--rendition", default="main", metavar="NAME", help="the ads' rendition (main)")
@@ -64,7 +64,7 @@ def read_words(arguments: list[str]) -> argparse.Namespace:
     said = it.parse_args(arguments)
     if said.vmap or said.breaks:
         if said.vmap and said.breaks or said.names or not (said.list and said.base and said.ads and said.at and said.to):
-            it.error("--vmap or --breaks needs --list, --base, --ads, --at and --to")
+            it.error("--vmap or --breaks needs --playlist, --base, --ads, --at and --to")
         return said
     if said.check is None and len(said.names) < (1 if said.fallback else 2):
         it.error("an ID and at least one playlist are needed, or --check FILE")

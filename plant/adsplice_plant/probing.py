@@ -11,7 +11,7 @@ from fractions import Fraction
 from pathlib import Path
 from typing import Any
 
-from . import download, ladders, packaged, playlist
+from . import download, ladders, packaged, playlist, urls
 from .ad_server import Asking
 from .children import Children
 from .conditioning import FORMATS, READS
@@ -127,7 +127,8 @@ class Prober:
     def rendition(self, place: str, text: str, listed: Listed) -> Rendition:
         """What the rendition is like whose list, by the file or the URL `place`, is `text`, and says `listed`; raises Fault."""
         newest = listed.segments[-1]
-        if urllib.parse.urlsplit(newest.uri).path.lower().endswith(TEXTS):
+        parts = urls.parts_of(newest.uri)
+        if parts is not None and parts.path.lower().endswith(TEXTS):
             return Rendition(TEXT)
         section = [line for line in text.splitlines() if line.startswith(ladders.TAG)]
         key = self.key(place, text, newest.number, bool(section))
@@ -160,7 +161,9 @@ class Prober:
     def part(self, place: str, uri: str, begin: int, count: int) -> tuple[bytes, int]:
         """So many bytes (`count`) of what the `uri` in the list at `place` names, from `begin` on, and how many bytes that has; raises Fault."""
         if place.startswith(("http://", "https://")):
-            url = urllib.parse.urljoin(place, uri)
+            url = urls.joined(place, uri)
+            if url is None:
+                raise Fault(f"a segment isn't read, {uri[:100]!r}: it isn't a URL")
             if why := Outside(place, self.redirects).strays(url):
                 raise Fault(f"a segment isn't read, {uri[:100]!r}: {why}")
             return download.front(self.client, url, begin, count)
@@ -223,7 +226,7 @@ def renditions_of(master: bytes, place: str, names: list[str]) -> dict[str, str]
         raise Fault(f"{place} names no rendition")
     if names and len(names) != len(uris):
         raise Fault(f"{len(names)} names are given, and {place} has {len(uris)} renditions: {' '.join(uris)[:300]}")
-    whole = (urllib.parse.urljoin(place, it) if place.startswith(("http://", "https://")) else str(Path(place).parent / it) for it in uris)
+    whole = (urls.joined_or_same(place, it) if place.startswith(("http://", "https://")) else str(Path(place).parent / it) for it in uris)
     return dict(zip(names or [str(n) for n in range(1, len(uris) + 1)], whole))
 
 

@@ -32,8 +32,7 @@ MOST_OLDER = 4  # lists that wait to be taken in before the newest one
 MOST_REMEMBERED = 120  # segments that left a list, for other renditions
 SHARE = 0.45  # of a target duration: no list waits longer for a decision
 HEAD = 4096  # bytes of a list in which its target duration is looked for
-LOOKS = 0.02  # seconds between two looks while a list waits for a decision
-HELD = 0.5  # the same while one is held back
+HELD = 0.5  # seconds between two looks while a list is held back
 OFTEN = 0.25  # the same while a decision file waits
 WORDS = {repairs.LAGS: "Lags", repairs.EMPTY: "Empty", "": ""}
 
@@ -52,10 +51,18 @@ def wake(state: State, at: float) -> float | None:
     """The moment from `at` on at which time alone brings something about; none if nothing waits for it."""
     found = [it.controller.retry_at for it in state.renditions.values() if it.controller.sent is None and it.controller.retry_at > at]
     if any(it.is_new for it in state.renditions.values()):
-        found.append(at + (LOOKS if at < state.waits_until else HELD))
+        found.append(state.waits_until if at < state.waits_until else looks_again(state, at))
     if any(it.state is FileState.NEW for it in state.files.values()):
         found.append(at + OFTEN)
     return min(found, default=None)
+
+
+def looks_again(state: State, at: float) -> float:
+    """The moment after `at` at which a list that is new is looked at again: one that waits for other renditions once nobody waits for one of them."""
+    its, target = state.renditions.values(), Turn(state, at, 0).target()
+    if len(its) == 1 or any(it.is_new and (it.older or not it.stands.entry or it.stands.repairer.held_since is not None) for it in its):
+        return at + HELD
+    return min((end for it in its if (end := patience_ends(it, target)) > at), default=at + HELD)
 
 
 def target_of(state: State, channel: str) -> int | None:
@@ -242,15 +249,15 @@ def may_begin(turn: Turn) -> bool:
     targets = [read(it.came[:HEAD]).target or 1 for _, it in turn.renditions() if it.came is not None]
     if turn.at - since < STEP * max(targets, default=1):
         return False
-    turn.tell("", "ladder", 0, "Unequal", "the renditions' lists don't begin and end with the same media numbers; gives them all the same")
+    turn.tell("", "ladder", 0, "Unequal", "the renditions' playlists don't begin and end with the same media numbers; gives them all the same")
     return True
 
 
 def is_in_step(turn: Turn) -> bool:
     """Whether all renditions' newest lists have as many segments, and the same first media number or the same first instant. Those of renditions
-    whose segments aren't as long begin at instants that are less than a segment apart."""
+    whose segments aren't as long begin at instants that are less than a segment apart. (How long segments are, the newest one doesn't say: it may grow.)"""
     listed = [segments_of(it.came) if it.came is not None else [] for _, it in turn.renditions()]
-    if not all(listed):
+    if any(len(it) < 2 for it in listed):
         return False
     begins = [it[0].stated or 0 for it in listed]
     paces = [pace_of(it) for it in listed]
@@ -302,7 +309,7 @@ def righted(turn: Turn, channel: str, found: dict[str, Taken]) -> Taken:
     if not it.settings.repair:
         return Taken(it.stands.repairer, Repaired(packaged.as_listed(read(body)), came=body), body, False)
     edge = edge_of(turn, channel) if len(turn.state.renditions) > 1 and not it.older else None
-    text = up_to(body, edge) if edge is not None else body
+    text = up_to(body, it.reach or reach_of(body), edge) if edge is not None else body
     repairer = changed(it.stands.repairer)
     repairer.siblings = siblings_of(turn, channel, found) if len(turn.state.renditions) > 1 else None
     if it.is_other:
@@ -331,17 +338,18 @@ def siblings_of(turn: Turn, channel: str, found: dict[str, Taken]) -> Siblings:
     pace = pace_of(mine.stands.repairer.last or segments_of(mine.came or b""))
     siblings = []
     for name, it in turn.renditions():
-        segments = it.stands.repairer.past[-MOST_REMEMBERED:] + it.stands.repairer.last or (found[name].found().segments if name in found else [])
-        is_like = is_alike(pace, pace_of(segments))
+        listed, new = it.stands.repairer.past[-MOST_REMEMBERED:] + it.stands.repairer.last, found[name].found().segments if name in found else []
+        is_like = is_alike(pace, pace_of(listed or new))
         if name != channel:
-            siblings.append(Sibling(it.settings.base, segments, it.stands.repairer.held_since is not None, is_like and it.settings.group == mine.settings.group, is_like))
+            fresh = [one for one in new if listed and one.number > listed[-1].number]
+            siblings.append(Sibling(it.settings.base, listed or new, it.stands.repairer.held_since is not None, is_like and it.settings.group == mine.settings.group, is_like, fresh))
     return Siblings(siblings)
 
 
 def tell_why(turn: Turn, channel: str, repaired: Repaired) -> None:
     """Tells why nothing is given of a list, or that lists are given again."""
     word = WORDS.get(repaired.why, "Held" if repaired.waits else "Untaken")
-    turn.tell(channel, "list", 0, word, repaired.why or "the lists go on", is_quiet=True)
+    turn.tell(channel, "list", 0, word, repaired.why or "the playlists go on", is_quiet=True)
 
 
 def tell_repairs(turn: Turn, channel: str, repaired: Repaired) -> None:
@@ -399,7 +407,7 @@ def learn(turn: Turn, found: dict[str, Taken]) -> None:
 def pass_over(turn: Turn, translator: Translator, found: dict[str, Taken]) -> None:
     """A break that one rendition of several can't begin begins in none, or in the others if that is set: it has passed the start without it, since the
     others haven't come there, or it was away; or it has no segment near. The lists that were `found` may be of a clock that went back."""
-    if len(turn.state.renditions) == 1:
+    if len(turn.state.renditions) == 1 or not translator.breaks.known:
         return
     lists = {channel: it.stands for channel, it in turn.renditions() if it.stands.repairer.last}
     reached = {channel: passed(it, found[channel].found() if channel in found else PackagedList()) for channel, it in lists.items()}
@@ -523,7 +531,7 @@ def tell_behind(turn: Turn, translator: Translator, before: frozenset[str]) -> N
         late = [channel for channel, it in turn.renditions() if channel not in begun and one.id not in it.stands.pods.missed and turn.at >= patience_ends(it, turn.target())]
         if begun and late and one.id not in before:
             turn.tell("", f"breaks/{shown(one.id)}", 0, "Behind", f"{', '.join(late)} has had no new segment for two target durations: it begins in the other renditions, and there once "
-                      "its list goes on", is_again=True)
+                      "its playlist goes on", is_again=True)
 
 
 def is_front_alone(turn: Turn, channel: str, it: Taken) -> bool:
@@ -537,8 +545,9 @@ def text_of(turn: Turn, channel: str, it: Taken, translator: Translator) -> byte
     rendition that has come farther."""
     found, rendition = it.repaired.found, turn.state.renditions[channel]
     if found is not None and len(turn.state.renditions) > 1:
-        others = [one.stands for name, one in turn.renditions() if name != channel]
-        lines = [as_elsewhere(rendition.stands, others, line) for line in found.date_ranges() if packaged.id_in(line) not in rendition.stands.pods.missed]
+        others, pace = [one.stands for name, one in turn.renditions() if name != channel], pace_of(rendition.stands.repairer.last)
+        others.sort(key=lambda it: not is_alike(pace, pace_of(it.repairer.last)))
+        lines = [as_elsewhere(rendition.stands, others, line, found.segments) for line in found.date_ranges() if packaged.id_in(line) not in rendition.stands.pods.missed]
         if lines != found.date_ranges():
             found.signals = lines
     if found is not None and found.segments:
@@ -583,7 +592,7 @@ def standing(before: Standing, it: Taken, text: bytes, entry: int, translator: T
     pods = before.pods.of(window_of(stands) | ranges.ids_in(lines) | {one.id for one in translator.breaks.known}).copy()
     pods.enter(ranges.starts_in(lines), before.viewed.ranges.keys(), [one.begins for one in new if one.begins is not None], tolerance)
     target = repairer.head.target if repairer.head is not None else 0
-    until = turned_in(before, new) if last and not ahead else 0
+    until = turned_in(before, new, [*ranges.starts_in(lines).values()], tolerance) if last and not ahead else 0
     if until:
         stands = replace(stands, ahead=controllers.listed_from(stands, len(repairer.past), (0, 0), len(history_of(stands)) - len(new) + until))
     if stands.ahead and last:  # (adsplice forgets what that list doesn't have)
@@ -593,12 +602,14 @@ def standing(before: Standing, it: Taken, text: bytes, entry: int, translator: T
     return replace(stands, pods=pods)
 
 
-def turned_in(before: Standing, new: list[PackagedSegment]) -> int:
-    """The place among the `new` segments of a list of the first one after the packager's clock went back, if a break was open `before`; 0 if there is
-    none. The list up to there comes first: what says by the new clock where the break ends would end it before."""
-    if before.viewed.reckoned is None or before.viewed.reckoned.run is None:
-        return 0
-    return next((n for n in range(1, len(new)) if (new[n].begins or 0) < (new[n - 1].begins or 0)), 0)
+def turned_in(before: Standing, new: list[PackagedSegment], starts: list[int], tolerance: int) -> int:
+    """The place among the `new` segments of a list of the first one after the packager's clock went back, if a break was open `before`, or one of the
+    `starts` is at one of those before it; 0 if there is none. The list up to there comes first: what says by the new clock where the break ends would
+    end it before."""
+    turn = next((n for n in range(1, len(new)) if (new[n].begins or 0) < (new[n - 1].begins or 0)), 0)
+    reckoned = before.viewed.reckoned
+    begins = any(abs((it.begins or 0) - start) <= tolerance for it in new[:turn] for start in starts)
+    return turn if reckoned is not None and (reckoned.run is not None or begins) else 0
 
 
 # ---- lists

@@ -8,7 +8,7 @@ from collections.abc import Callable
 
 from .events import Event, ListRead, Note, OriginChanged
 from .location import Location, Url
-from .origin import CUT_OFF, Origin, Read, WebOrigin, origin_of, read_whole
+from .origin import CUT_OFF, Origin, Read, WebOrigin, ads_of, origin_of, read_whole
 from .origins import NAMES, Choice, Place, TwoOrigins
 from .pauses import Pauses
 from .settings import Settings
@@ -105,7 +105,7 @@ class Reading:
     def turn(self) -> float:
         """One look; answers the seconds to the next one."""
         begun = time.monotonic()
-        found = read_whole(self.origin, self.settings.unended, self.settings.line, self.settings.base)
+        found = read_whole(self.origin, self.settings.unended, self.settings.line, self.settings.base, ads_of(self.settings.fallback))
         if self.has_ended or not self.may_read.is_set():
             return 0.0
         self.take(found)
@@ -126,7 +126,7 @@ class Reading:
             self.noting.note(Note(name, "read", found.status, found.why))
             self.telling.tell(name, "origin", found.status, "CutOff" if found.why == CUT_OFF else "", f"{found.why}; reads it again with growing pauses")
         elif not self.is_well:
-            self.telling.tell(name, "origin", 200, "", "the list is read again")
+            self.telling.tell(name, "origin", 200, "", "the playlist is read again")
         self.is_well = not found.why
         if found.body is not None:
             self.stated = target_in(found.body) or self.stated

@@ -5,8 +5,9 @@ A name stays with a URI without its query, since that may be a token. One that i
 from __future__ import annotations
 
 import json
-from collections.abc import Iterable, Mapping, Sequence
+from collections.abc import Callable, Iterable, Mapping, Sequence
 from pathlib import Path
+from typing import Protocol
 
 from . import bounded_files
 from .bounded_files import Unread
@@ -18,6 +19,29 @@ MOST_KEPT = 4 * MOST_CHANNELS  # URIs whose names are remembered
 LONGEST = 1_048_576  # bytes of the file that has them
 
 Names = Mapping[str, str]  # by the URIs of renditions: their names, the newest last
+Naming = Callable[[Names], Names]  # of the names that are known makes those of the newest master playlist, too; raises Fault
+
+
+class Kept(Protocol):
+    """Where the names of a programme's renditions are kept."""
+
+    def agree(self, name: Naming) -> Names:
+        """The names that count from now on: those that were kept, and those that `name` adds. Raises Fault or OSError."""
+
+
+class FileNames:
+    """The names of a programme's renditions that the file `path` has, or nothing but this process if there is none."""
+
+    def __init__(self, path: Path | None) -> None:
+        self.path, self.names = path, load(path)
+
+    def agree(self, name: Naming) -> Names:
+        """As in Kept."""
+        names = name(self.names)
+        if names != self.names:
+            self.names = names
+            save(self.path, names)
+        return names
 
 
 def keys_of(uris: Sequence[str]) -> list[str]:

@@ -15,7 +15,7 @@ from .packaged import PackagedList, PackagedSegment
 from .playlist import SECOND
 from .siblings import Siblings, middle_of
 from .spelling import Kinds, Unread
-from .succession import Place, is_same, lags, place_of
+from .succession import Place, is_named, is_same, lags, place_of
 
 NEWEST_VERSION = 7  # of a playlist that RFC 8216 describes
 TYPES = ("EVENT", "VOD")
@@ -75,7 +75,7 @@ class Repaired:
     """A list to be pushed: as data (`found`), and as it came, if nothing was wrong (`came`). `kinds` are the repairs with what is told
     of each. It is none of these if `why` says why nothing is pushed; `waits` if the same list may be taken later. `steps` are the
     discontinuities that were added for other renditions; `front` segments stay in front of the packager's own, by the `lead`. The next
-    list may go on from what is `accepted`, if this one is. `joins`: the numbers that viewers have in other renditions at its segments, by
+    list may go on from what is `accepted`, if this one is. `growing`: the newest segment that the packager listed, if it isn't given yet. `joins`: the numbers that viewers have in other renditions at its segments, by
     its media numbers, if it is the first list of one that comes later than the others."""
 
     found: PackagedList | None = None
@@ -88,6 +88,7 @@ class Repaired:
     lead: Lead | None = None
     front: int = 0
     accepted: Accepted | None = None
+    growing: PackagedSegment | None = None
     joins: dict[int, tuple[int, int]] = field(default_factory=dict)
 
     def body(self) -> bytes:
@@ -109,6 +110,7 @@ class Repairer:
         self.past: list[PackagedSegment] = []  # those that left it, the oldest first
         self.adds = False  # whether the instants of the last list were added
         self.grows = False  # whether the packager lists its newest segment before that is whole
+        self.growing: PackagedSegment | None = None  # that of the last list, which wasn't given
         self.held_since: float | None = None  # when the first list that didn't go on was seen
         self.owed = 0  # discontinuities that the next new segment has for other renditions
         self.lead: Lead | None = None  # what stays in front of the packager's list, since it began again
@@ -140,7 +142,7 @@ class Repairer:
         kinds |= {kind: "" for name, kind in NOTED.items() if name in found.others}
         said = growth.head_of(found)
         counted = (found.discontinuity_sequence, [it.discontinuities for it in found.segments])
-        self.drop(found, kinds)
+        growing = self.drop(found, kinds)
         if not found.segments:
             return Repaired(why=repairs.EMPTY)
         is_timed = any(it.stated is not None for it in found.segments)
@@ -164,8 +166,7 @@ class Repairer:
         self.set_times(found, False)
         if is_timed:
             self.follow_clock(found.segments, kinds)
-        if is_timed and "began again" in kinds:
-            self.keep_clock(found.segments)
+            self.keep_clock(found.segments, kinds)
         if is_untimed:
             kinds["times"] = ""
             self.agree(found.segments)
@@ -173,15 +174,16 @@ class Repairer:
         head = self.set_head(found, kinds)
         self.tell_numbers(found, counted, kinds)
         accepted = None if steps or lead or front else growth.accepted_of(body, said, found, counted[1], kinds)
-        return Repaired(found, head, None if kinds else body, kinds, steps=steps, lead=lead, front=front, accepted=accepted)
+        return Repaired(found, head, None if kinds else body, kinds, steps=steps, lead=lead, front=front, accepted=accepted, growing=growing)
 
-    def drop(self, found: PackagedList, kinds: dict[str, str]) -> None:
-        """Takes out of the list `found` what isn't pushed: gaps, a segment's second entry, and a newest segment that grows."""
+    def drop(self, found: PackagedList, kinds: dict[str, str]) -> PackagedSegment | None:
+        """Takes out of the list `found` what isn't pushed: gaps, a segment's second entry, and a newest segment that grows, which it answers."""
         drop_gaps(found, kinds)
         drop_twice(found, kinds)
-        if self.grows and not found.is_ended and len(found.segments) > 1:
-            kinds["growing"] = ""
-            found.segments.pop()
+        if not self.grows or found.is_ended or len(found.segments) < 2:
+            return None
+        kinds["growing"] = ""
+        return found.segments.pop()
 
     def grow(self, body: bytes) -> Repaired | None:
         """What is to be pushed of the list `body` if its text goes on from the last one's; none if it has to be read as a whole."""
@@ -199,6 +201,8 @@ class Repairer:
                 self.agree(fresh.new)
             elif any(it.stated is None for it in fresh.new):
                 self.follow_clock(growth.kept_by(before, fresh) + fresh.new, kinds)
+            if "times" not in before.repairs:
+                self.keep_clock(fresh.new, kinds)
         if any(it.begins is None for it in fresh.new):
             return None
         found = growth.grown(before, fresh)
@@ -237,7 +241,7 @@ class Repairer:
             return
         self.head, self.adds, self.held_since = repaired.head, "times" in repaired.kinds, None
         self.owed, self.lead, self.front = max(0, self.owed - repaired.steps), repaired.lead, repaired.front
-        self.accepted = repaired.accepted
+        self.accepted, self.growing = repaired.accepted, repaired.growing
         history = self.past + self.last
         gone = bisect_left(history, found.segments[0].number, key=lambda it: it.number)
         self.past = history[max(0, gone - MOST_PAST):gone]
@@ -270,6 +274,7 @@ class Repairer:
         if taken:
             kinds["other renditions"] = ""
             taken[0].discontinuities = 1
+        taken = self.cut_short(taken + found.segments) + taken
         new = taken + found.segments
         count_on(last, new)
         least = LEAST * (self.head.target if self.head else 0) * SECOND
@@ -282,15 +287,31 @@ class Repairer:
         found.segments = stays + found.segments
         return None if is_over else lead, len(stays)
 
-    def keep_clock(self, segments: list[PackagedSegment]) -> None:
-        """Puts those of the `segments` of a list that began again which other renditions have by another clock on that one: where a packager's clock
-        changes, and which breaks are open there, is the programme's. The packager's numbers say which ones they are: so these have to go on."""
-        theirs, last = self.siblings.begins() if self.siblings is not None else {}, self.last[-1]
-        by = (last.begins or 0) - theirs.get(last.number, last.begins or 0)
-        for it in segments if abs(by) <= last.duration else []:
-            known = theirs.get(it.number) if it.number > last.number and it.number - last.number == it.own - last.own else None
-            if known is not None and it.begins is not None and abs(it.begins - known - by) > max(SECOND, it.duration):
-                it.begins = known + by
+    def keep_clock(self, segments: list[PackagedSegment], kinds: dict[str, str]) -> None:
+        """Puts those of the new `segments` which another rendition has by another clock on that one: where a packager's clock changes, and which
+        breaks are open there, is the programme's. The packager's numbers say which ones they are: so these have to go on."""
+        if self.siblings is None or not self.last:
+            return
+        new = [self.last[-1], *(it for it in segments if it.number > self.last[-1].number)]
+        for one in self.siblings.found if len(new) > 1 else []:
+            theirs = one.since(new[0])
+            if not theirs or abs(by := (new[0].begins or 0) - (theirs[0].begins or 0)) > new[0].duration:
+                continue
+            known, mine, their = {it.number: it.begins for it in theirs}, set_by(new), set_by(theirs)
+            for it in new:
+                there = known.get(it.number)
+                if there is None or it.begins is None or it.number - new[0].number != it.own - new[0].own or abs(it.begins - there - by) <= max(SECOND, it.duration):
+                    continue
+                if "began again" in kinds or abs(it.begins - mine[it.number] - there + their[it.number] - by) <= it.duration // 2:
+                    kinds["clock"] = ""
+                    it.begins = there + by
+            return
+
+    def cut_short(self, new: list[PackagedSegment]) -> list[PackagedSegment]:
+        """The newest segment that was listed before the packager began again, if it grew and none of the `new` ones is it: it stays as long as it was."""
+        it = self.growing
+        is_there = it is None or any(is_named(it, one) or None not in (it.stated, one.begins) and abs((it.stated or 0) - (one.begins or 0)) < one.duration // 2 for one in new)
+        return [] if it is None or is_there else [replace(it)]
 
     def taken_meanwhile(self, found: PackagedList, siblings: Siblings) -> list[PackagedSegment]:
         """What other renditions have shown between the last list and `found`, which began again. Of that list what lies before the end of the
@@ -302,12 +323,13 @@ class Repairer:
         if first is not None and first < last.begins and (taken := siblings.after_clock(last, first)):
             return ahead_of(found.segments, last, taken)
         end = last.begins + last.duration
-        newest = found.segments[-1]
+        turn = next((n for n, it in enumerate(found.segments) if n and (it.begins or 0) < (found.segments[n - 1].begins or 0)), len(found.segments))
+        newest = found.segments[turn - 1]
         if newest.begins is not None and newest.begins + lasting(found.segments) < end - newest.duration:
             return []  # (by a clock that went back farther than the list lasts)
         found.segments = list(dropwhile(lambda it: it.begins is not None and middle_of(it) < end, found.segments)) or found.segments[-1:]
         first = found.segments[0].begins
-        return ahead_of(found.segments, last, siblings.between(end, first) if first is not None else [])
+        return ahead_of(found.segments, last, siblings.between(last, first) if first is not None else [])
 
     def go_on(self, found: PackagedList, place: Place, kinds: dict[str, str]) -> tuple[Lead | None, int]:
         """The list `found` goes on at `place`: what was listed stays what it was, and what is new is counted on. Answers the same as
@@ -449,6 +471,18 @@ def rounded(duration: int) -> int:
 def lasting(segments: list[PackagedSegment]) -> int:
     """The nanoseconds that `segments` last."""
     return sum(it.duration for it in segments)
+
+
+def set_by(segments: list[PackagedSegment]) -> dict[int, int]:
+    """How far the packager had set its clock since the first of the `segments`, by their media numbers: where it goes back, or where it goes on and
+    neither a number is left out nor a discontinuity is listed, so that nothing of the programme lies between."""
+    by, found = 0, {segments[0].number: 0}
+    for before, it in zip(segments, segments[1:]):
+        jump = (it.begins or 0) - (before.begins or 0) - before.duration
+        if abs(jump) > max(SECOND, before.duration) and (jump < 0 or it.own == before.own + 1 and not it.discontinuities):
+            by += jump
+        found[it.number] = by
+    return found
 
 
 def missed_by(last: PackagedSegment, segments: list[PackagedSegment]) -> int:

@@ -2,8 +2,8 @@
 
 # Each kind with its section and what is told; `{}` stands for what is known of the case.
 KINDS = {
-    "byte order mark": ("4.1", "the list begins with a byte order mark, which is left out"),
-    "bytes": ("4.1", "the list isn't UTF-8: its other bytes become U+FFFD in tags and are percent-encoded in URIs"),
+    "byte order mark": ("4.1", "the playlist begins with a byte order mark, which is left out"),
+    "bytes": ("4.1", "the playlist isn't UTF-8: its other bytes become U+FFFD in tags and are percent-encoded in URIs"),
     "control characters": ("4.1", "control characters in tags and titles become spaces"),
     "spaces": ("4.1", "spaces around lines, numbers and durations are left out"),
     "attribute lists": ("4.2", "spaces around attributes, and a comma after the last one, are left out"),
@@ -20,32 +20,32 @@ KINDS = {
     "long segment": ("4.3.3.1", "a segment of {}"),
     "type": ("4.3.3.5", "EXT-X-PLAYLIST-TYPE doesn't change, and is EVENT or VOD: {}"),
     "end": ("4.3.3.4", "EXT-X-ENDLIST is left out, since the channel is endless (endless = no lets it end)"),
-    "sequence tags": ("4.3.3", "tags of the whole list come once, before the first segment"),
-    "discontinuity sequence": ("6.2.2", "EXT-X-DISCONTINUITY-SEQUENCE is counted on when a discontinuity leaves the list"),
+    "sequence tags": ("4.3.3", "tags of the whole playlist come once, before the first segment"),
+    "discontinuity sequence": ("6.2.2", "EXT-X-DISCONTINUITY-SEQUENCE is counted on when a discontinuity leaves the playlist"),
     "numbers": ("6.2.1", "the packager's media numbers don't say which segments went: the segments themselves do"),
     "own numbers": ("6.2.1", "media numbers go on from what viewers have; the packager's are others"),
     "growing": ("6.2.1", "the newest segment is listed before it is whole, and isn't given before that"),
     "changed segments": ("6.2.1", "a segment that was listed isn't what it was; it stays as it was"),
     "began again": ("6.2.1", "{}"),
-    "few segments": ("6.2.2", "the packager began again: what was listed before stays until the list lasts three target durations"),
-    "older segments": ("6.2.2", "segments that had left the list came back; they stay away"),
+    "few segments": ("6.2.2", "the packager began again: what was listed before stays until the playlist lasts three target durations"),
+    "older segments": ("6.2.2", "segments that had left the playlist came back; they stay away"),
     "queries": ("6.2.1", "a segment's URI changes in its query; it keeps the first one"),
     "keys": ("5.2", "a key without IV has the packager's number as IV, which is stated"),
     "other renditions": ("6.2.4", "a rendition that was away takes segments or a discontinuity of the others, so that equal instants have equal numbers"),
     "times": ("4.3.2.6", "no segment states EXT-X-PROGRAM-DATE-TIME: it is added by this machine's clock (times = no leaves it out)"),
-    "clock": ("4.3.2.6", "the packager's clock has changed: its new segments state the instants that follow from its list now"),
+    "clock": ("4.3.2.6", "the packager's clock has changed: its new segments state the instants that follow from its playlist now"),
     "gaps": ("6.2.1", "a segment of EXT-X-GAP isn't there, and is left out with a discontinuity after it"),
 }
 TOLD_EACH = ("long segment", "began again")  # each time that it is another case
 # What is told of a list that isn't taken, or not yet.
-HELD = "the list has no segment of the last one; it is taken if it stays so for {} s"
-BEGAN_AGAIN = "the list has no segment of the last one (media numbers from {} on, after {}): goes on at {} with one discontinuity"
-LAGS = "the list is older than the last one, and is passed over"
-SECTIONS = ("initialisation sections (EXT-X-MAP) came or went, which adsplice takes in a new channel alone: it isn't given this list "
+HELD = "the playlist has no segment of the last one; it is taken if it stays so for {} s"
+BEGAN_AGAIN = "the playlist has no segment of the last one (media numbers from {} on, after {}): goes on at {} with one discontinuity"
+LAGS = "the playlist is older than the last one, and is passed over"
+SECTIONS = ("initialisation sections (EXT-X-MAP) came or went, which adsplice takes in a new channel alone: it isn't given this playlist "
             "(a person makes a new channel by a DELETE of this one)")
-EMPTY = "the list has no segment yet; waits for one"
-NOT_ALL = "{}: the list isn't given to adsplice"
-NEEDS = "{} is in the list, which doesn't say all without what came before: it isn't given to adsplice (have the packager leave it out)"
+EMPTY = "the playlist has no segment yet; waits for one"
+NOT_ALL = "{}: the playlist isn't given to adsplice"
+NEEDS = "{} is in the playlist, which doesn't say all without what came before: it isn't given to adsplice (have the packager leave it out)"
 
 
 def told(kind: str, detail: str = "") -> str:

@@ -73,22 +73,44 @@ def as_it_ran(stands: Standing, line: str) -> str:
     return f"{without(line, ENDS)},DURATION={seconds_text(run.end - run.start)}"
 
 
-def as_elsewhere(stands: Standing, others: list[Standing], line: str) -> str:
+def as_elsewhere(stands: Standing, others: list[Standing], line: str, segments: list[PackagedSegment]) -> str:
     """The EXT-X-DATERANGE `line` of a break, with the end that it had in one of the `others`, if that has come farther than the rendition that
-    `stands` so: what says where it ends may have come after it had ended by its pod, or after segments that it ended before, and here both come at once."""
-    name = packaged.id_in(line)
+    `stands` so: what says where it ends may have come after it had ended by its pod, or after segments that it ended before, and here both come at once.
+    It ends with the one of the rendition's own `segments` that is nearest."""
+    name, found = packaged.id_in(line), read_range(line)
     for other in others:
         said = other.viewed.ranges.get(name)
-        if said is None or name not in other.pods.entered or not is_behind(stands, other):
-            continue
-        run, found = run_of(other, history_of(other), said[0]), read_range(line)
-        if run is None or run.is_turned() or (end := run.end if run.last is not None else end_of(other)) <= end_of(stands):
+        run = run_of(other, history_of(other), said[0]) if said is not None and name in other.pods.entered and is_behind(stands, other) else None
+        if said is None or run is None or run.is_turned() or (run.end if run.last is not None else end_of(other)) <= end_of(stands):
             continue
         length, half = length_of(found), stands.repairer.last[-1].duration // 2
-        is_other = length is None or abs(length - (end - run.start)) > half
-        if is_other if run.last is not None else length is not None and length < end - run.start - half:
-            return f"{without(line, ENDS)},DURATION={seconds_text(end - run.start)}"
+        if run.last is None:
+            lasts, longest = end_of(other) - run.start, other.repairer.last[-1].duration
+            is_other = length is not None and length < lasts - (half if 3 * half > longest else longest)  # (longer segments say less of the end)
+        else:
+            lasts = lasting(run.start, ended_by(other, run, said[0]), found.start(), segments)
+            is_other = length is None or abs(length - lasts) > half
+        if is_other:
+            return f"{without(line, ENDS)},DURATION={seconds_text(lasts)}"
+        if run.last is not None:
+            break
     return line
+
+
+def ended_by(stands: Standing, run: Run, line: str) -> int:
+    """The instant at which the `run` of a break ended, of which the list that stands so had the EXT-X-DATERANGE `line`: what that says, if the run went on to
+    the segment after it, or else where that segment begins."""
+    said = length_of(read_range(line))
+    is_said = said is not None and 0 <= run.end - run.start - said + TOLERANCE < stands.repairer.last[-1].duration
+    return run.start + said if said is not None and is_said else run.end
+
+
+def lasting(began: int, end: int, start: int | None, segments: list[PackagedSegment]) -> int:
+    """How long a break lasts that began at the instant `start` here, and in another rendition from `began` to `end`: up to the nearest of the `segments`."""
+    near = min((it for it in segments if it.begins is not None), key=lambda it: abs((it.begins or 0) - end), default=None)
+    if near is None or near.begins is None or start is None or 2 * abs(near.begins - end) >= near.duration:
+        return end - began
+    return near.begins - start
 
 
 def as_it_runs(stands: Standing, line: str, one: Break | None) -> str:

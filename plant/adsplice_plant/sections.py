@@ -13,8 +13,10 @@ from .fed import Fed, Limits
 from .locks import Lock, Taken, take_all
 from .location import Location
 from .machines import Machines
-from .masters import Feeds, Programme
+from .masters import Feeds, Programme, known_at
+from .renditions import FileNames, Kept
 from .settings import Settings
+from .shared_names import SharedNames
 from .shell import Feeding, store_of
 from .telling import Say
 from .web import Client
@@ -69,7 +71,10 @@ class Section:
             self.feed(self.settings, spread)
             return
         feeds = Feeds(lambda channels: self.feed(channels, 0), self.change, self.move)
-        master = Programme(first, Client(self.limits.timeout, first.redirects, first.reach()), self.say, feeds)
+        kept: Kept = (own := FileNames(known_at(first)))
+        if (machines := self.stores(first)) is not None:
+            kept = SharedNames(machines.keys, self.name, own)
+        master = Programme(first, Client(self.limits.timeout, first.redirects, first.reach()), self.say, feeds, kept)
         self.go(master.run, self.ending, self.limits.longest_pause)
 
     def go(self, does: Callable[..., None], *what: object) -> None:

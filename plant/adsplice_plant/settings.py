@@ -284,5 +284,5 @@ def make_folder(settings: Settings) -> None:
 
 
 def hash_of(channels: list[Settings]) -> str:
-    """What is the same on two machines that have the same settings of the `channels`, but for the machine's name."""
-    return hashlib.sha256("\n".join(repr(replace(it, machine="")) for it in channels).encode()).hexdigest()[:16]
+    """What is the same on two machines that have the same settings of the `channels`, in whatever order, but for the machine's name."""
+    return hashlib.sha256("\n".join(repr(replace(it, machine="")) for it in sorted(channels, key=lambda it: it.name)).encode()).hexdigest()[:16]

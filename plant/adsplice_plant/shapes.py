@@ -72,7 +72,7 @@ def misfit(body: bytes, target: int, has_sections: bool) -> str:
         return ""
     pods = [pod for _, pod in said.breaks or ()] + ([said.fallback] if said.fallback is not None else [])
     if any((ad.init_section is not None) != has_sections for pod in pods for ad in pod.ads):
-        return f"an ad has {'no' if has_sections else 'an'} initialisation section, and its list has {'one' if has_sections else 'none'}"
+        return f"an ad has {'no' if has_sections else 'an'} initialisation section, and its playlist has {'one' if has_sections else 'none'}"
     return "" if all(pod.fits(target, has_sections) for pod in pods) else f"a segment is over its target duration of {target} s"
 
 

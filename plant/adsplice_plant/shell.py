@@ -165,7 +165,8 @@ class Feeding:
 
     def ended(self) -> str:
         """The name of a thread that has ended of itself; empty if none has."""
-        return "" if self.ending.is_set() else next((it.name for it in list(self.threads) if not it.is_alive()), "")
+        found = next((it.name for it in list(self.threads) if not it.is_alive()), "")
+        return "" if self.ending.is_set() else found  # (another thread may end it meanwhile)
 
     def run(self, delay: float) -> None:
         """Feeds the programme until it is ended."""
@@ -176,7 +177,7 @@ class Feeding:
                     self.begin()
                 self.turn()
             except Unkept as fault:
-                self.telling.tell(self.name, "log", 0, "Unkept", f"{fault}; gives nothing until it can be kept; viewers keep the last list")
+                self.telling.tell(self.name, "log", 0, "Unkept", f"{fault}; gives nothing until it can be kept; viewers keep the last playlist")
                 pause = self.unkept.next()
                 self.rests_until = time.monotonic() + (pause if self.replica is None else min(pause, SELDOM))
             except Exception as fault:  # noqa: BLE001  (a programme's fault isn't to end the others)

@@ -1,13 +1,15 @@
 """The other renditions of a programme, as one of them sees them: one clock, and equal numbers at equal instants (RFC 8216, 6.2.4)."""
 from __future__ import annotations
 
-import urllib.parse
+from bisect import bisect_left
+from collections.abc import Sequence
 from dataclasses import replace
 from typing import NamedTuple
 
 from . import packaged, playlist
 from .breaks import Numbering
 from .packaged import InitSection, Key, PackagedSegment
+from .urls import joined_or_same
 
 FAR = 10  # segments after a list's end at which it may come next
 NEAR = 30  # segments by which the ends of two lists may be apart that are of one clock
@@ -18,13 +20,14 @@ MOST_MEASURED = 8  # newest segments by which it is seen how long a rendition's 
 class Sibling(NamedTuple):
     """A rendition: the `base` of its references, the `segments` that it has listed, the oldest first, whether a list of it that doesn't go
     on is held back (`is_held`), and whether it `lends` segments, being of the same kind: pictures have no use for sound alone. `is_alike`: its
-    segments are as long, so that its media numbers are those of the one that sees it."""
+    segments are as long, so that its media numbers are those of the one that sees it. `fresh`: the new segments of a list that comes with that one's."""
 
     base: str
     segments: list[PackagedSegment]
     is_held: bool = False
     lends: bool = True
     is_alike: bool = True
+    fresh: Sequence[PackagedSegment] = ()
 
     def newest(self) -> list[PackagedSegment]:
         """The segments since its packager's clock went back last: those before have the same instants."""
@@ -34,6 +37,13 @@ class Sibling(NamedTuple):
     def has(self, other: PackagedSegment) -> bool:
         """Whether it has a segment with the media number of the `other` rendition's that begins when that does, or nearly."""
         return any(it.number == other.number and abs((it.begins or 0) - (other.begins or 0)) <= other.duration // 2 for it in self.segments)
+
+
+    def since(self, other: PackagedSegment) -> list[PackagedSegment]:
+        """Its segments from the one on that has the media number of the `other` rendition's, also those that are `fresh`; none if it has none, or isn't
+        cut alike."""
+        place = bisect_left(self.segments, other.number, key=lambda it: it.number) if self.is_alike else len(self.segments)
+        return [*self.segments[place:], *self.fresh] if place < len(self.segments) and self.segments[place].number == other.number else []
 
 
 class Reach(NamedTuple):
@@ -94,10 +104,14 @@ class Siblings:
                 for one in self.found if not one.is_held for it in one.segments[-1:] if it.begins is not None]
         return instant is not None and any(end < instant - duration // 2 for end in ends)
 
-    def between(self, start: int, end: int) -> list[PackagedSegment]:
-        """The segments of one of them whose middles lie in the time from `start` to before `end`: of the one that has most of them. Their
-        references hold for another rendition, too. None if they are more than MOST_BORROWED."""
-        return self.most([[it for it in one.newest() if it.begins is not None and start <= middle_of(it) < end] for one in self.found])
+    def between(self, last: PackagedSegment, end: int) -> list[PackagedSegment]:
+        """The segments of one of them whose middles lie in the time from the end of a rendition's `last` segment to before `end`: of the one that has most
+        of them. Their references hold for another rendition, too. None if they are more than MOST_BORROWED. If the clock has gone back since, they are
+        after the `last` one by their numbers."""
+        start = (last.begins or 0) + last.duration
+        found = [[[it for it in those if it.begins is not None and start <= middle_of(it) < end] for those in (one.newest(), (it for it in one.segments if it.number > last.number))]
+                 for one in self.found]
+        return self.most([now or before for now, before in found])
 
     def after_clock(self, last: PackagedSegment, first: int) -> list[PackagedSegment]:
         """The segments of one of them after the one that is the `last` one of a rendition, up to the instant `first` by a clock that has gone back
@@ -143,7 +157,7 @@ def middle_of(it: PackagedSegment) -> int:
 def moved(it: PackagedSegment, base: str) -> PackagedSegment:
     """A copy of the segment `it` whose references, which were relative to `base`, are absolute."""
     section = it.section and InitSection(absolute(it.section.text, base), tuple(moved_key(key, base) for key in it.section.keys))
-    return replace(it, uri=urllib.parse.urljoin(base, it.uri), keys=tuple(moved_key(key, base) for key in it.keys), section=section,
+    return replace(it, uri=joined_or_same(base, it.uri), keys=tuple(moved_key(key, base) for key in it.keys), section=section,
                    tags=[line for line in it.tags if line.startswith(packaged.EXTINF)], discontinuities=0, stated=it.begins)
 
 
@@ -155,4 +169,4 @@ def moved_key(key: Key, base: str) -> Key:
 def absolute(text: str, base: str) -> str:
     """The attribute list `text` with an absolute URI."""
     uri = packaged.attributes_of(text).get("URI")
-    return text if uri is None else text.replace(f'URI="{uri}"', f'URI="{urllib.parse.urljoin(base, uri)}"', 1)
+    return text if uri is None else text.replace(f'URI="{uri}"', f'URI="{joined_or_same(base, uri)}"', 1)

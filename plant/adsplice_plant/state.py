@@ -6,12 +6,12 @@ controller that has nothing.
 """
 from __future__ import annotations
 
-import urllib.parse
 from collections.abc import Mapping
 from dataclasses import dataclass, field, replace
 from enum import Enum
 from typing import NamedTuple
 
+from . import urls
 from .events import Request, Stamp
 from .location import Url
 from .numbers import Viewed
@@ -193,7 +193,8 @@ class State:
 
 def query_of(settings: Settings) -> str:
     """The query of the URL of the channel's list; empty if it has none, or is a file."""
-    return urllib.parse.urlsplit(settings.origin.text).query if isinstance(settings.origin, Url) else ""
+    parts = urls.parts_of(settings.origin.text) if isinstance(settings.origin, Url) else None
+    return parts.query if parts is not None else ""
 
 
 def begin(settings: list[Settings], tolerance: int, longest_pause: float = 5.0) -> State:

@@ -6,6 +6,7 @@ import socket
 import urllib.parse
 from dataclasses import dataclass
 
+from . import urls
 from .etcd import LIMIT, PORT
 from .words import Fault
 
@@ -46,24 +47,22 @@ def store_of(text: str, lease: str = "") -> StoreAt:
         raise Fault(f"store is etcd://HOST HOST HOST (etcds:// for TLS), and not {text[:100]}")
     if len(parts) > MOST:
         raise Fault(f"store names {len(parts)} members, and {MOST} are the most")
-    said = [urllib.parse.urlsplit(it if "://" in it else f"{scheme}://{it}") for it in parts]
+    said = [urls.parts_of(it if "://" in it else f"{scheme}://{it}") for it in parts]
     addresses = tuple(address_of(it, scheme) for it in said)
     if not (lease == "" or lease.isascii() and lease.isdigit() and len(lease) <= 2 and LEASES[0] <= int(lease) <= LEASES[1]):
         raise Fault(f"lease is a whole number of seconds from {LEASES[0]} to {LEASES[1]}, and not {lease[:100]}")
-    user, password = (urllib.parse.unquote(it or "") for it in (said[0].username, said[0].password))
+    user, password = (urllib.parse.unquote(it) for it in ((said[0].user, said[0].password) if said[0] is not None else ("", "")))
     return StoreAt(addresses, user, password, int(lease) if lease else LEASE)
 
 
-def address_of(it: urllib.parse.SplitResult, scheme: str) -> str:
-    """The URL of the member `it`, all of which have one `scheme`; raises Fault."""
-    try:
-        port = it.port or PORT
-    except ValueError:
-        raise Fault("store: a port is one from 0 to 65535") from None
-    if not it.hostname or it.scheme != scheme or it.path or it.query or it.fragment:
+def address_of(it: urls.Parts | None, scheme: str) -> str:
+    """The URL of the member `it`, all of which have one `scheme`; None is one that doesn't read. Raises Fault."""
+    if it is None or not it.host or it.scheme != scheme or it.path or it.query or it.fragment:
         raise Fault("store names hosts with their ports, or without, behind one etcd:// or etcds://")
-    host = f"[{it.hostname}]" if ":" in it.hostname else it.hostname
-    return f"{SCHEMES[scheme]}://{host}:{port}"
+    if it.is_port_wrong:
+        raise Fault("store: a port is one from 0 to 65535")
+    host = f"[{it.host}]" if ":" in it.host else it.host
+    return f"{SCHEMES[scheme]}://{host}:{it.port or PORT}"
 
 
 def machine_of(text: str) -> str:

@@ -194,11 +194,11 @@ class Translator:
         `fresh`: the place of its first new segment."""
         names = {signals.style_of(line) for it in found.segments[fresh:] for line in it.tags if not line.startswith(DATE_RANGE)} - {""}
         if is_untimed and (names or any(it.is_splice() for it in ranges)):
-            self.breaks.tell("signals", "NoTimes", "no segment has an instant, so no break of this list is entered")
+            self.breaks.tell("signals", "NoTimes", "no segment has an instant, so no break of this playlist is entered")
         for it in sorted(names - self.styles):
             if not signals.is_translated(it) and len(self.styles) < MOST_STYLES:
                 self.styles.add(it)
-                self.breaks.tell("signals", "Untranslated", f"the list signals by {it}, a style that isn't translated: it begins no break")
+                self.breaks.tell("signals", "Untranslated", f"the playlist signals by {it}, a style that isn't translated: it begins no break")
 
     def tellings(self) -> list[Line]:
         """What is to be told since the last time; one line in place of many."""
@@ -206,7 +206,7 @@ class Translator:
         if len(told) <= MOST_LINES:
             return told
         one = next((it for it in told if it.word == "TooMany"), told[0])
-        return [Line(one.who, one.word, f"{one.text}; {len(told) - 1} more that this list says isn't told")]
+        return [Line(one.who, one.word, f"{one.text}; {len(told) - 1} more that this playlist says isn't told")]
 
     # ---- what is written
 
@@ -229,10 +229,13 @@ class Translator:
         for it in self.breaks.known:
             found = self.cuts[rendition][it.id]
             for place, instant in enumerate((it.start if it.said is None else it.said, it.until)):
-                if instant is not None and found[place] is None and line.is_reached(instant) and (not place or line.has_turned(it)):
+                is_by_old_clock = not place and it.said is not None
+                if instant is not None and found[place] is None and line.is_reached(instant) and (is_by_old_clock or line.has_turned(it)):
                     known = line.end_before(it) if place else line.begin_by_number(it, instant, self.breaks.set_at)
                     own = known if known is not None else line.aligned(instant) if line.has_turned(it) else instant
                     found[place] = own if abs(own - instant) > self.tolerance else instant
+            if found[0] is None and it.said is not None and line.has_turned(it) and (first := line.nearest(it.start)) is not None:
+                found[0] = first.begins  # (here the clock changed with the segment with which it begins, or before)
 
     def begin_at(self, rendition: str, lines: list[str] | None, began: int, begins: int) -> list[str] | None:
         """A segment of the `rendition`, which began at the instant `began`, has the instant `begins`: so have the breaks that begin with it. The

@@ -58,7 +58,7 @@ def defined(rest: str, query: str) -> tuple[str, str]:
         return name, said.get("VALUE", "")
     values = urllib.parse.parse_qs(query, max_num_fields=MOST).get(name, [])
     if not values:
-        raise Untaken(f"EXT-X-DEFINE takes {name} from the query of the list's URL, which hasn't got it")
+        raise Untaken(f"EXT-X-DEFINE takes {name} from the query of the playlist's URL, which hasn't got it")
     return name, values[0]
 
 

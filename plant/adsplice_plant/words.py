@@ -5,16 +5,18 @@ import re
 import signal
 import sys
 import threading
-import urllib.parse
 from collections.abc import Callable
 from datetime import datetime, timezone
 from enum import IntEnum
 from types import FrameType
 from typing import NoReturn
 
+from . import urls
+
 FAULT, WRONG_WORDS = 1, 2  # exit statuses
 OUT, ERROR = 1, 2  # descriptors of standard output and standard error
 LONGEST_SHOWN = 120  # characters of a URL in a line
+NO_URL = "what isn't a URL"
 NEEDED = {"origin", "adsplice", "fallback"}  # who of a feed's lines has no status only if it isn't there
 USUAL = {"Asked", "First", "Begins", "Ends", "Removed", "Over"}  # words in place of a fault that tell of nothing wrong
 NOTED = {"Repaired", "Held", "Lags", "Ignored", "Cancelled", "Moved"}  # and of what the feed mends by itself
@@ -39,28 +41,23 @@ def channel_name(text: str) -> str:
 
 def web_address(text: str) -> str:
     """The http or https URL `text`, without a slash at its end."""
-    parts = urllib.parse.urlsplit(text)
-    if parts.scheme not in ("http", "https") or not parts.hostname:
+    parts = urls.parts_of(text)
+    if parts is None or parts.scheme not in ("http", "https") or not parts.host:
         raise argparse.ArgumentTypeError(f"{shown(text)!r} isn't a URL that begins with http:// or https://")
-    try:
-        parts.port  # noqa: B018  (it is read, and judged, when it is asked for)
-    except ValueError:
-        raise argparse.ArgumentTypeError(f"{shown(text)!r}: its port isn't one from 0 to 65535") from None
+    if parts.is_port_wrong:
+        raise argparse.ArgumentTypeError(f"{shown(text)!r}: its port isn't one from 0 to 65535")
     return text.rstrip("/")
 
 
 def without_user(url: str) -> str:
-    """The web address `url` without `user:password@`: what viewers, logs and pages may have of it."""
-    parts = urllib.parse.urlsplit(url)
-    return urllib.parse.urlunsplit(parts._replace(netloc=parts.netloc.rpartition("@")[2]))
+    """The web address `url` without `user:password@`: what viewers, logs and pages may have of it. Of one that doesn't read they have nothing."""
+    found = urls.without_user(url)
+    return NO_URL if found is None else found
 
 
 def shown(url: str) -> str:
     """The `url` as a line has it: without a user, and without what comes behind its path. Both may have secrets."""
-    try:
-        return without_user(url).partition("?")[0].partition("#")[0][:LONGEST_SHOWN]
-    except ValueError:
-        return "what isn't a URL"
+    return without_user(url).partition("?")[0].partition("#")[0][:LONGEST_SHOWN]
 
 
 def seconds(text: str) -> float:

@@ -91,7 +91,7 @@ MASTERS = [
     b"#EXTM3U\n#EXT-X-SESSION-KEY:METHOD=AES-128,URI=\"k\"\n#EXT-X-I-FRAME-STREAM-INF:BANDWIDTH=1,URI=\"f\"\n#EXT-X-STREAM-INF:BANDWIDTH=2\n../hd/i.m3u8?t=1\n",
     *(b"#EXTM3U\n#EXT-X-STREAM-INF:BANDWIDTH=1\n%s\n" % it for it in (
         b"v.m3u8 /etc/passwd", "v.m3u8\u00a0/etc/passwd".encode(), b"http://127.1:8090/v.m3u8", b"//0x7f000001/v", b"http://[::1]/", b"http://u:p@origin.example@h/", b"file:///etc/passwd",
-        b"http://origin.example:80/v", b"http:/\\h/v", b"http://origin.example%2f@h/", b"\\\\h\\v", b"a/../../v", b"%2e%2e/v", b"/etc/passwd", b"?", b"#EXT", b"http://[", b"https:v"))]
+        b"http://origin.example:80/v", b"http:/\\h/v", b"http://origin.example%2f@h/", b"\\\\h\\v", b"a/../../v", b"%2e%2e/v", b"/etc/passwd", b"?", b"#EXT", b"http://[", b"http://..[../v", b"https:v"))]
 REDIRECTS = [b"/i.m3u8", b"i.m3u8?x=1", b"//127.0.0.1:PORT/", b"http://127.0.0.1:PORT/", b"http://localhost:PORT/", b"http://127.1:PORT/", b"http://0:PORT/", b"http://[::ffff:127.0.0.1]:PORT/",
              b"http://2130706433:PORT/", b"http://0x7f.1:PORT/", b"http://127.0.0.1:80@127.0.0.1:PORT/", b"http://127.0.0.1:PORT\\@h/", b"HTTP://127.0.0.1:PORT/%00", b"file:///etc/passwd",
              b"http:127.0.0.1:PORT/", b"http:///127.0.0.1:PORT/", b"http://127.0.0.1:PORT#@h/", b"http://127.0.0.1:99999/", b"\x00", b"", "http://１２７.0.0.1:PORT/".encode(), b"/\\127.0.0.1:PORT/"]
@@ -108,7 +108,8 @@ FILE_KINDS = ("file", "decision", "folder", "pipe", "link", "loop", "outside", "
 SETTINGS = [
     b"[DEFAULT]\nat = http://127.0.0.1:8090\nkeep = FOLDER/kept\n[news]\norigin = http://h/i.m3u8 http://b/i.m3u8\ndecisions = FOLDER/d\ntolerance = 0.2\nnetworks = 10.0.0.0/8\n",
     b"[film]\nat = http://h\norigin = http://h/m.m3u8\nmaster = FOLDER/film.m3u8\nrenditions = 1 2\ndecisions = FOLDER/{}\n[film-1]\nat = http://h\norigin = FOLDER/i.m3u8\nbase = http://h/\n",
-    b"[sport]\nat = http://h\nrenditions = a b\norigin = http://h/{}.m3u8\ndecisions = FOLDER/d/{}\nask = folder\nhold = 1\nsignals = 0x34\ntarget = 6\nline = 300\nredirects = yes\n", b"[", b"a", b"[a]\nat\n"]
+    b"[sport]\nat = http://h\nrenditions = a b\norigin = http://h/{}.m3u8\ndecisions = FOLDER/d/{}\nask = folder\nhold = 1\nsignals = 0x34\ntarget = 6\nline = 300\nredirects = yes\n", b"[", b"a", b"[a]\nat\n",
+    b"[news]\nat = http://..[..\norigin = http://h/i.m3u8\nbase = http://h/\nstore = etcd://..[.. a\nask = http://[v1]/\n"]
 
 
 class Hostile:

@@ -114,7 +114,7 @@ class Held:
             return self.filled(name, said, marked)
         if name not in self.run.known:
             self.counts["unknown"] += 1
-            assert said == "no list that has it was taken" and all(name not in dict(words(life.channel)) for life in self.run.lives)
+            assert said == "no playlist that has it was taken" and all(name not in dict(words(life.channel)) for life in self.run.lives)
             return None
         life, channel = self.run.known[name]
         word = dict(words(channel))[name]

@@ -426,7 +426,7 @@ def test_a_full_disk_loses_no_question(room):
     room.write("a.m3u8", STYLE.listed(11))
     feed = room.feed("--channel", "news", "--origin", f"{room.path}/a.m3u8", "--at", controller.url, "--base", "http://origin.example/i.m3u8",
                      "--decisions", f"{room.path}/d", "--ask", server.url, "--hold", "0.9")
-    feed.sees(" news adsplice 204 -: the list is taken")
+    feed.sees(" news adsplice 204 -: the playlist is taken")
     hard = resource.prlimit(feed.process.pid, resource.RLIMIT_FSIZE)[1]
     resource.prlimit(feed.process.pid, resource.RLIMIT_FSIZE, (0, hard))  # (a write gets EFBIG, as it gets ENOSPC on a full disk)
     room.write("a.m3u8", STYLE.listed(12))
@@ -674,7 +674,7 @@ def test_other_channels_do_not_wait(room):
     sections = f"[DEFAULT]\n{at}[a]\norigin = {room.path}/a.m3u8\nask = {server.url}\ndecisions = {room.path}/d\n[b]\norigin = {room.path}/b.m3u8\n"
     feed = room.feed("--config", room.write("feed.ini", sections))
     for name in "ab":
-        feed.sees(f" {name} adsplice 204 -: the list is taken")
+        feed.sees(f" {name} adsplice 204 -: the playlist is taken")
     room.write("a.m3u8", named("cue-elemental").listed(12))
     until(lambda: server.questions, 5, "the question")
     room.write("b.m3u8", named("cue-elemental").listed(12))
@@ -711,7 +711,7 @@ def test_a_ladder_asks_once_and_fills_all_renditions_alike(room):
     feed = room.feed("--channel", "news", "--renditions", "1 2", "--origin", f"{room.path}/{{}}.m3u8", "--at", f"http://127.0.0.1:{port}", "--ask", server.url,
                      "--base", "http://origin.example/{}/index.m3u8", "--decisions", f"{room.path}/d{{}}", "--keep", f"{room.path}/kept")
     for name in "12":
-        feed.sees(f" news-{name} adsplice 204 -: the list is taken")
+        feed.sees(f" news-{name} adsplice 204 -: the playlist is taken")
     at = [f"http://127.0.0.1:{port}/channels/news-{name}" for name in "12"]
     for newest in range(10, 20):
         push(newest)

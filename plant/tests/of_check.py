@@ -54,7 +54,7 @@ def checked(room, **settings):
 def test_all_is_right(room):
     status, lines = checked(room)
     assert status == 0 and [it.split(":")[0] for it in lines] == [f"news {it} right" for it in ("at", "decisions", "keep", "journal", "fallback", "origin", "ask")], lines
-    assert "a list of 6 segments, with a target duration of 2 s" in lines[5] and "is not there yet" in lines[0], lines
+    assert "a playlist of 6 segments, with a target duration of 2 s" in lines[5] and "is not there yet" in lines[0], lines
 
 
 def test_second_origin(room):
@@ -85,7 +85,7 @@ def test_each_fault_is_a_line(room):
             ({"origin": silent.url}, f"news origin wrong: {silent.url}: no answer within 2.5 s"),
             ({"origin": error.url}, f"news origin wrong: {error.url}: the origin answers 503"),
             ({"origin": master.url}, f"news origin wrong: {master.url}: adsplice would refuse the list: P19 "),
-            ({"origin": cut, "base": "http://h/i"}, f"news origin wrong: {cut}: the list is cut off within its last line"),
+            ({"origin": cut, "base": "http://h/i"}, f"news origin wrong: {cut}: the playlist is cut off within its last line"),
             ({"origin": f"{room.path}/no.m3u8", "base": "http://h/i"}, f"news origin wrong: {room.path}/no.m3u8: No such file"),
             ({"at": f"http://127.0.0.1:{away}"}, f"news at wrong: http://127.0.0.1:{away}: Connection refused"),
             ({"at": room.server(Stranger()).url}, "news at wrong: .* answers 404, and not as adsplice does"),

@@ -266,7 +266,7 @@ def test_ads_of_a_ladder_under_a_key_are_clear_pieces(room):
     room.write("ladder.json", condition(room, "--profile", f"{room.path}/e.m3u8")[1])
     assert condition(room, media(f"{room.path}/ad.mp4", 4), "--ladder", f"{room.path}/ladder.json", "--to", f"{room.path}/ads/CAR0001H")[0] == 0
     files = room.server(Files(room.path))
-    done = room.run("adsplice-pod", "--breaks", "4=CAR0001H", "--list", f"{room.path}/e.m3u8", "--base", f"{files.url}/e.m3u8", "--ads", f"{room.path}/ads", "--at", f"{files.url}/ads", "--to", f"{room.path}/film")
+    done = room.run("adsplice-pod", "--breaks", "4=CAR0001H", "--playlist", f"{room.path}/e.m3u8", "--base", f"{files.url}/e.m3u8", "--ads", f"{room.path}/ads", "--at", f"{files.url}/ads", "--to", f"{room.path}/film")
     assert done[0] == 0, done
     rules = subprocess.run([PYTHON, f"{PLANT}/adsplice_rules/run", "vod", f"{files.url}/e.m3u8", f"{room.path}/film/decisions.json"], input=Path(f"{room.path}/film/index.m3u8").read_bytes(), capture_output=True, check=True)
     written = room.write("written.m3u8", rules.stdout.decode())

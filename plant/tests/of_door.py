@@ -25,7 +25,7 @@ class Opened:
         self.origin, self.controller = room.server(FakeOrigin(listed(0, 5))), room.server(FakeController())
         self.folder, self.port = f"{room.path}/decisions", free_port()
         self.feed = room.feed("--channel", "news", "--origin", self.origin.url, "--at", self.controller.url, "--decisions", self.folder, "--door", door or f"127.0.0.1:{self.port}")
-        self.feed.sees("news adsplice 204 -: the list is taken", 60)
+        self.feed.sees("news adsplice 204 -: the playlist is taken", 60)
 
     def ask(self, method, path, body=None, fields=()):
         """The status, the text and the fields of a request."""

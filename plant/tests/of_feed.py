@@ -33,7 +33,7 @@ def started(room, text, *words):
     """A fake origin of a list, a fake controller, and a feed between them that has given the list."""
     origin, controller = room.server(FakeOrigin(text)), room.server(FakeController())
     feed = room.feed("--channel", "news", "--origin", origin.url, "--at", controller.url, "--timeout", "1.5", "--longest-pause", "1", *words)
-    feed.sees("news adsplice 204 -: the list is taken")
+    feed.sees("news adsplice 204 -: the playlist is taken")
     return origin, controller, feed
 
 
@@ -62,11 +62,11 @@ def test_pushes_a_list_once_and_asks_by_its_validator(room):
 def test_cut_off_list_is_read_again(room):
     origin, controller, feed = started(room, listed(0, 5))
     origin.mode, origin.text = "cut", listed(1, 6)
-    feed.sees("news origin 200 CutOff: the list is cut off within its last line")
+    feed.sees("news origin 200 CutOff: the playlist is cut off within its last line")
     assert len(controller.puts("origin")) == 1
     origin.mode = ""
     until(lambda: len(controller.puts("origin")) == 2, 10, "the whole list")
-    feed.sees("news origin 200 -: the list is read again")
+    feed.sees("news origin 200 -: the playlist is read again")
     origin.mode, origin.text = "cut", listed(2, 7)
     feed.sees("news origin 200 CutOff", 20, len(feed.lines))
     assert all(it.endswith(b"\n") for it in controller.puts("origin"))
@@ -98,7 +98,7 @@ def test_silent_origin_and_an_origin_of_errors(room):
     time.sleep(3)
     assert origin.count("GET", "/index.m3u8") - count <= 5, "pauses grow"
     origin.status = 200
-    feed.sees("news origin 200 -: the list is read again", 20, after)
+    feed.sees("news origin 200 -: the playlist is read again", 20, after)
     until(lambda: len(controller.puts("origin")) == 2, 5, "the new list")
 
 
@@ -112,7 +112,7 @@ def test_redirect_is_followed_and_told(room):
 def test_packager_that_begins_again_keeps_the_channel(room):
     origin, controller, feed = started(room, listed(30, 35))
     origin.text = listed(0, 5, name="t")
-    after = feed.sees("news list - Held: the list has no segment of the last one; it is taken if it stays so for 2 s")
+    after = feed.sees("news list - Held: the playlist has no segment of the last one; it is taken if it stays so for 2 s")
     after = feed.sees("news list - Repaired: .*media numbers from 0 on, after 35.*goes on at 36 with one discontinuity .RFC 8216, 6.2.1.", 20, after)
     until(lambda: len(controller.puts("origin")) == 2, 5, "the new list")
     text = controller.puts("origin")[1].decode()
@@ -123,11 +123,11 @@ def test_packager_that_begins_again_keeps_the_channel(room):
 def test_list_that_lags_is_passed_over(room):
     origin, controller, feed = started(room, listed(10, 15))
     origin.text = listed(7, 12)
-    feed.sees("news list - Lags: the list is older than the last one, and is passed over")
+    feed.sees("news list - Lags: the playlist is older than the last one, and is passed over")
     time.sleep(2.5)
     assert len(controller.puts("origin")) == 1
     origin.text = listed(11, 16)
-    feed.sees("news list - -: the lists go on")
+    feed.sees("news list - -: the playlists go on")
     until(lambda: len(controller.puts("origin")) == 2, 5, "the new list")
     assert controller.puts("origin")[1] == listed(11, 16).encode() and controller.count("DELETE", "/channels/news") == 0
 
@@ -136,9 +136,9 @@ def test_refused_list_leaves_the_channel(room):
     origin, controller, feed = started(room, listed(10, 15))
     controller.refusals[("PUT", "origin")] = [(409, "N4 MapsChanged\n")]
     origin.text = listed(11, 16)
-    after = feed.sees("news adsplice 409 N4 MapsChanged: .*waits for the next list; if that stays, only a new channel takes it")
+    after = feed.sees("news adsplice 409 N4 MapsChanged: .*waits for the next playlist; if that stays, only a new channel takes it")
     origin.text = listed(12, 17)
-    feed.sees("news adsplice 204 -: the list is taken", 20, after)
+    feed.sees("news adsplice 204 -: the playlist is taken", 20, after)
     assert controller.puts("origin")[-1] == listed(12, 17).encode() and controller.count("DELETE", "/channels/news") == 0
 
 
@@ -154,11 +154,11 @@ def test_list_that_does_not_read_is_not_sent_twice(room):
     origin, controller, feed = started(room, listed(0, 5))
     controller.refusals[("PUT", "origin")] = [(422, "P17 NoDuration line 7\n")]
     origin.text = listed(1, 6)
-    feed.sees("news adsplice 422 P17 NoDuration line 7: a segment has no EXTINF; waits for the next list")
+    feed.sees("news adsplice 422 P17 NoDuration line 7: a segment has no EXTINF; waits for the next playlist")
     time.sleep(2.5)
     assert len(controller.puts("origin")) == 2
     origin.text = listed(2, 7)
-    feed.sees("news adsplice 204 -: the list is taken", 5)
+    feed.sees("news adsplice 204 -: the playlist is taken", 5)
 
 
 def test_away_controller_is_tried_with_growing_pauses(room):
@@ -168,18 +168,18 @@ def test_away_controller_is_tried_with_growing_pauses(room):
     after = 0
     for status in (502, 504, 503, "-"):
         after = feed.sees(f"news adsplice {status} -: .*tries again with growing pauses", 20, after)
-    feed.sees("news adsplice 204 -: the list is taken", 20, after)
+    feed.sees("news adsplice 204 -: the playlist is taken", 20, after)
     assert controller.puts("origin")[-1] == origin.text.encode()
 
 
 def test_numbers_that_follow_from_somebody_elses_decision_are_told_and_hold(room):
     controller, origin = room.server(RulesController()), room.server(FakeOrigin(listed(0, 5, [("b1", 14, 4)])))
     feed = room.feed("--channel", "news", "--origin", origin.url, "--at", controller.url)
-    feed.sees("news adsplice 204 -: the list is taken")
+    feed.sees("news adsplice 204 -: the playlist is taken")
     assert put(f"{controller.url}/channels/news/decisions", decided(("b1", 4), seconds="1").encode()) == 204  # (4 segments for the break's 2)
     origin.text = listed(2, 7, [("b1", 14, 4)])
     # (of the pod as much is written as the break has lasted: two segments of 1 s, with the media numbers 7 and 8 after one discontinuity)
-    feed.sees("news written - Others: adsplice's list ends with media number 8 and discontinuity number 1, ")
+    feed.sees("news written - Others: adsplice's playlist ends with media number 8 and discontinuity number 1, ")
 
 
 def test_404_makes_the_channel_with_what_is_open(room):
@@ -190,7 +190,7 @@ def test_404_makes_the_channel_with_what_is_open(room):
     origin.text = listed(1, 6, [("b1", 20, 4)])
     after = feed.sees("news adsplice 404 -: the channel isn't there; makes it")
     after = feed.sees("news adsplice 201 -: makes the channel", 20, after)
-    feed.sees("news adsplice 204 -: the list is taken", 20, after)
+    feed.sees("news adsplice 204 -: the playlist is taken", 20, after)
     assert [it.decode() for it in controller.puts("decisions")] == [decided(("b1", 2))] * 2
     until(lambda: controller.puts("origin")[-1] == origin.text.encode(), 20, "the newest list, after the one that a new channel begins with")
 
@@ -243,7 +243,7 @@ def test_withdrawal_of_a_break_without_a_pod_is_told_as_refused(room):
     path = f"{room.path}/decisions"
     os.makedirs(path)
     origin, controller, feed = started(room, listed(0, 5), "--decisions", path)
-    feed.sees("news adsplice 204 -: the list is taken")
+    feed.sees("news adsplice 204 -: the playlist is taken")
     controller.refusals[("PUT", "decisions")] = [(409, "J11 Unknown\n")]
     room.write("decisions/one.json", json.dumps({"withdraw": "misspelt"}))
     feed.sees("news decisions/one.json 409 J11 Unknown: the withdrawn break has no pod of its own .misspelt.")
@@ -298,7 +298,7 @@ def test_decision_that_came_too_late_stays_refused(room):
     after = feed.sees("news decisions/two.json 204 Late: b1 has begun, and stays as it is; decides b2")
     controller.channels.clear()
     origin.text = listed(1, 6, [("b1", 4, 4)])
-    feed.sees("news adsplice 204 -: the list is taken", 20, after)
+    feed.sees("news adsplice 204 -: the playlist is taken", 20, after)
     assert [it["id"] for it in json.loads(controller.puts("decisions")[-1])["breaks"]] == ["b2"], controller.puts("decisions")[-1]
 
 
@@ -308,13 +308,13 @@ def test_decision_that_came_late_without_a_fallback_is_told_so(room):
     controller = room.server(RulesController())
     origin = room.server(FakeOrigin(listed(0, 5, [("b1", 4, 4), ("b2", 40, 4)])))
     feed = room.feed("--channel", "news", "--origin", origin.url, "--at", controller.url, "--decisions", path, "--keep", f"{room.path}/kept")
-    feed.sees("news adsplice 204 -: the list is taken")
+    feed.sees("news adsplice 204 -: the playlist is taken")
     room.write("decisions/one.json", decided(("b1", 2), ("b2", 2)))
     after = feed.sees("news decisions/one.json 204 Late: b1 has begun, and stays as it is; decides b2")
     assert "b1-0.ts" not in controller.shown("news") and kept_of(room).late == 1
     controller.edge.channels.clear()  # (adsplice is started anew, and the break is still listed)
     origin.text = listed(1, 6, [("b1", 4, 4), ("b2", 40, 4)])
-    feed.sees("news adsplice 204 -: the list is taken", 20, after)
+    feed.sees("news adsplice 204 -: the playlist is taken", 20, after)
     assert "b1-0.ts" not in controller.shown("news") and "s2.ts" in controller.shown("news"), controller.shown("news")
 
 
@@ -374,7 +374,7 @@ def test_a_list_waits_for_the_decisions_that_it_needs_and_for_few_others(room):
         room.write(f"decisions/{it}.json", decided((it, 1)))
     controller, path = room.server(SlowController()), room.write("index.m3u8", listed(0, 5, [("b59", 14, 4)]))
     feed = room.feed("--channel", "news", "--origin", path, "--at", controller.url, "--base", "http://h/i.m3u8", "--decisions", f"{room.path}/decisions")
-    feed.sees("news adsplice 204 -: the list is taken")
+    feed.sees("news adsplice 204 -: the playlist is taken")
     given = controller.puts("decisions")
     assert b'"b59"' in given[0] and len(given) <= 30, len(given)
     until(lambda: len(controller.puts("decisions")) == 60, 30, "all decisions")
@@ -474,7 +474,7 @@ def test_feed_that_was_started_again_gives_no_decision_twice(room):
     origin.text = listed(1, 6, [("b1", 14, 4)])
     until(lambda: len(controller.puts("origin")) == 2, 5, "the second list")
     feed.end(signal.SIGKILL)
-    room.feed("--channel", "news", "--origin", origin.url, "--at", controller.url, *words).sees("news adsplice 204 -: the list is taken")
+    room.feed("--channel", "news", "--origin", origin.url, "--at", controller.url, *words).sees("news adsplice 204 -: the playlist is taken")
     assert len(controller.puts("decisions")) == 1 and controller.puts("origin")[-1] == origin.text.encode()
 
 
@@ -493,7 +493,7 @@ def test_files_that_are_removed_while_the_feed_is_down_are_withdrawn_when_it_is_
     feed = room.feed(*words)
     for name in ("b1", "b2, b3", "b3, b4"):
         feed.sees(f"204 -: decides {name}")
-    feed.sees("news adsplice 204 -: the list is taken")
+    feed.sees("news adsplice 204 -: the playlist is taken")
     until(lambda: "three.json" in kept_log(room), 20, "what a later feed has to know")
     feed.end(signal.SIGKILL)
     for name in ("one", "two", "fallback"):
@@ -539,7 +539,7 @@ def test_a_new_channel_is_not_asked_to_forget_what_it_never_held(room):
     os.remove(f"{path}/one.json")
     controller.channels.clear()
     feed = room.feed("--channel", "news", "--origin", origin.url, "--at", controller.url, *words)
-    feed.sees("news adsplice 204 -: the list is taken")
+    feed.sees("news adsplice 204 -: the playlist is taken")
     assert controller.puts("decisions") == [decided(("b1", 2)).encode()], controller.puts("decisions")
 
 
@@ -547,13 +547,13 @@ def test_breaks_that_never_began_leave_room_once_they_are_long_over(room):
     controller = room.server(RulesController())
     feed = room.feed("--channel", "news", "--origin", room.write("index.m3u8", listed(0, 5)), "--at", controller.url, "--base", "http://h/i.m3u8",
                      "--decisions", f"{room.path}/decisions", "--keep", f"{room.path}/kept", "--signals", "no")
-    feed.sees("news adsplice 204 -: the list is taken")
+    feed.sees("news adsplice 204 -: the playlist is taken")
     for turn in range(20):  # (each is taken out of the list before it begins)
         room.write(f"decisions/{turn}.json", decided((f"b{turn}", 1)))
         feed.sees(f"204 -: decides b{turn}$")
         room.write("index.m3u8", listed(turn, turn + 5, [(f"b{turn}", 2 * turn + 40, 4)]))
         until(lambda turn=turn: f's{turn + 5}.ts' in controller.shown("news"), 10, "the list")
-    feed.sees("news breaks/b2 204 Over: it was decided, left the list and never began; takes its pod back")
+    feed.sees("news breaks/b2 204 Over: it was decided, left the playlist and never began; takes its pod back")
     assert {it.id for it in controller.edge.channels["news"].store.entries} == {f"b{turn}" for turn in range(3, 20)}, controller.edge.channels["news"].store
     kept = Kept(Path(room.path, "kept", "news.events"))
     kept.follow()
@@ -644,7 +644,7 @@ def test_several_channels_by_a_file(room):
     sections = "".join(f"[{name}]\norigin = {origin.url}\n" for name, origin in zip("ab", origins))
     feed = room.feed("--config", room.write("feed.ini", f"[DEFAULT]\nat = {controller.url}\nkeep = {room.path}/kept\n{sections}"))
     for name in "ab":
-        feed.sees(f" {name} adsplice 204 -: the list is taken")
+        feed.sees(f" {name} adsplice 204 -: the playlist is taken")
         path = f"{room.path}/kept/{name}.events"
         kept = until(lambda: (lambda found: found if len(found) > 2 else None)([json.loads(line) for line in open(path, encoding="utf-8")]))
         assert [it["what"] for it in kept] == ["channel", "channel", "origin"], kept
@@ -686,7 +686,7 @@ def test_numbers_go_on_though_the_answer_to_the_making_is_lost(room):
     playlist = room.write("index.m3u8", listed(0, 3, breaks))
     feed = room.feed("--channel", "news", "--origin", playlist, "--base", "http://origin.example/ch/index.m3u8", "--at", controller.url, "--decisions", f"{room.path}/decisions",
                      "--timeout", "1", "--longest-pause", "1")
-    after = feed.sees("204 -: the list is taken")
+    after = feed.sees("204 -: the playlist is taken")
     for newest in range(6, 20):
         if newest == 16:  # (the break has left the list, and with it two discontinuities)
             controller.kill()
@@ -706,7 +706,7 @@ def test_goes_on_after_adsplice_was_killed(room):
     playlist = room.write("index.m3u8", listed(0, 3, [("b1", 8, 4)]))
     feed = room.feed("--channel", "news", "--origin", playlist, "--base", "http://origin.example/ch/index.m3u8", "--at", f"http://127.0.0.1:{port}",
                      "--decisions", f"{room.path}/decisions", "--fallback", room.write("f.json", FALLBACK))
-    feed.sees("204 -: the list is taken")
+    feed.sees("204 -: the playlist is taken")
     room.write("index.m3u8", listed(0, 6, [("b1", 8, 4)]))
     before = until(lambda: (lambda it: it if "b1-1.ts" in it else None)(get(f"http://127.0.0.1:{port}/channels/news/live.m3u8")[1]))
     assert get(f"http://127.0.0.1:{port}/channels/news/why")[1] == "b1\tFilled\n"
@@ -725,7 +725,7 @@ def test_goes_on_after_numbers_began_again(room):
     room.adsplice(port)
     playlist = room.write("index.m3u8", listed(50, 55))
     feed = room.feed("--channel", "news", "--origin", playlist, "--base", "http://origin.example/ch/index.m3u8", "--at", f"http://127.0.0.1:{port}")
-    feed.sees("204 -: the list is taken")
+    feed.sees("204 -: the playlist is taken")
     room.write("index.m3u8", listed(0, 5, name="t"))
     after = until(lambda: (lambda it: it if "/t5.ts" in it else None)(get(f"http://127.0.0.1:{port}/channels/news/live.m3u8")[1]), 6, "the new list")
     assert "#EXT-X-MEDIA-SEQUENCE:56\n" in after and after.count("#EXT-X-DISCONTINUITY\n") == 1, after
@@ -739,7 +739,7 @@ def test_goes_on_without_what_it_kept(room):
     playlist = room.write("index.m3u8", listed(50, 55))
     words = ("--channel", "news", "--origin", playlist, "--base", "http://origin.example/ch/index.m3u8", "--at", f"http://127.0.0.1:{port}")
     feed = room.feed(*words)
-    feed.sees("204 -: the list is taken")
+    feed.sees("204 -: the playlist is taken")
     room.write("index.m3u8", listed(0, 5, name="t"))
     feed.sees("goes on at 56 with one discontinuity")
     until(lambda: "/t5.ts" in get(f"http://127.0.0.1:{port}/channels/news/live.m3u8")[1], 10, "the list of which that is told")
@@ -760,7 +760,7 @@ def test_packager_that_turns_to_other_sections_needs_a_new_channel(room):
     room.adsplice(port)
     playlist, at = room.write("index.m3u8", listed(50, 55)), f"http://127.0.0.1:{port}/channels/news"
     feed = room.feed("--channel", "news", "--origin", playlist, "--base", "http://origin.example/ch/index.m3u8", "--at", f"http://127.0.0.1:{port}")
-    feed.sees("204 -: the list is taken")
+    feed.sees("204 -: the playlist is taken")
     text = listed(0, 5, name="t").replace("#EXTINF", '#EXT-X-MAP:URI="i.mp4"\n#EXTINF', 1)
     room.write("index.m3u8", text)
     feed.sees("news list - Untaken: initialisation sections .EXT-X-MAP. came or went, .*a person makes a new channel by a DELETE")

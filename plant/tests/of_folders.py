@@ -191,8 +191,10 @@ def test_a_fallback_is_read_when_it_changes(room):
     assert (it.look().body, it.look()) == (FALLBACK.encode(), None) and not told
     room.write("f.json", ONE)
     assert it.look().body is None and "it has `breaks` and no `fallback`; goes on without it" in told.pop()[3]
-    room.write("f.json", '{"fallback":[0' + ",0" * 250_001 + "]}")
+    room.write("f.json", '{"fallback":[' + "," * 250_001 + "]}")
     assert it.look().body is None and "it has more than 250,000 commas; goes on without it" in told.pop()[3]
+    room.write("f.json", '{"fallback":[' + " " * 262_144 + "]}")
+    assert it.look().body is None and "it has 262159 bytes, over 262144; goes on without it" in told.pop()[3]
     os.remove(path)
     os.mkfifo(path)
     assert it.look().body is None and "it is no regular file" in told.pop()[3]

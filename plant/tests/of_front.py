@@ -19,8 +19,8 @@ NEEDS = ("program", "nginx")
 LIVE = f"{PLANT}/../examples/live"
 CONF, FRONT = f"{LIVE}/nginx.conf", f"{LIVE}/nginx-front.conf"
 NGINX = shutil.which("nginx") or "/usr/sbin/nginx"
-TYPED = ("browser", "configured_lists", "day_faults", "day_measures", "day_plant", "day_table", "lip_sync", "media", "plant", "relay", "replicas_lab", "stories", "tools", "viewers")
-TYPED_SCRIPTS = ("check_day", "check_ladder", "check_replicas", "hand_over", "measure_refreshes")
+TYPED = ("attackers", "browser", "configured_lists", "day_faults", "day_measures", "day_plant", "day_table", "lip_sync", "media", "plant", "relay", "replicas_lab", "stories", "tools", "viewers")
+TYPED_SCRIPTS = ("check_attacks", "check_day", "check_ladder", "check_replicas", "hand_over", "measure_refreshes")
 
 
 HANGS = 4.0  # seconds
@@ -270,7 +270,7 @@ def test_a_hand_over_that_no_list_follows_is_taken_back(room):
         assert put(url, b'{"base":"http://h/i.m3u8"}') == 201 and put(f"{url}/origin", listed(0, 5).encode()) == 204
         old = home_of(room, "news")
         status, lines = hand_over(room, old, spare, "--seconds", 1)
-        assert status == 1 and f"news: stays at {old}: no list came to {spare}" in lines, lines
+        assert status == 1 and f"news: stays at {old}: no playlist came to {spare}" in lines, lines
         until(lambda: put(f"{url}/origin", listed(1, 6).encode()) == 204, 5, "the next list")
         assert ends_with(old, "s6.ts") and get(f"http://127.0.0.1:{spare}/channels/news/live.m3u8")[0] == 404
         assert hand_over(room, spare, old)[1].startswith("examples/live/hand_over: news: ")

@@ -252,7 +252,7 @@ def test_what_is_passed_over_is_told(room):
     os.mkdir(f"{room.path}/k")
     feed = room.feed(*words)
     for word in ("decisions/notes.txt - Passed: it isn't a file whose name ends in .json", "decisions/gone.json - Passed", "decisions/long.json - Passed: it has 4194305 bytes, over 4194304",
-                 "fallback - Other: .* it has `breaks` and no `fallback`", "Idle: `hold` has no effect without ask", "adsplice 204 -: the list is taken"):
+                 "fallback - Other: .* it has `breaks` and no `fallback`", "Idle: `hold` has no effect without ask", "adsplice 204 -: the playlist is taken"):
         feed.sees(word)
     assert not any("hidden" in line or "secret" in line for line in feed.lines), feed.lines
     assert json.loads(next(body for method, path, body in controller.asked if path == "/channels/news"))["base"] == origin.url
@@ -283,10 +283,14 @@ def test_what_would_be_written_of_a_list_is_bounded(room):
     from adsplice_plant import origin
     head, one = b"#EXTM3U\n#EXT-X-TARGETDURATION:2\n", b"#EXTINF:2,\ns.ts\n"
     key, section = (b'#EXT-X-%s:METHOD=AES-128,URI="%s"\n' % (tag, b"k" * 16_000) for tag in (b"KEY", b"MAP"))
-    for body, base, is_taken in ((one * 10_000, 100, True), (one * 10_000, 2_000, False), (one * 8_000, 2_000, True), (key + one * 1_000, 100, True), (key + one * 2_000, 100, False),
-                                 (section + one * 2_000, 100, False), (one * 2_000 + key, 0, False), (key * 30 + one * 30, 2_000, True), (b"\n" * 90_000 + one, 2_000, True)):
-        why = origin.over_bound(head + body, 16_384, base)
-        assert (why == "") == is_taken and (is_taken or why.startswith("what is written of it may have more than 16777216 bytes: ")), (len(body), base, why)
+    begins, goes_on = b'#EXT-X-DATERANGE:ID="b",SCTE35-OUT=0xFC\n', b"#EXT-X-CUE-OUT-CONT:1/2\n"
+    for body, base, ads, is_taken in (
+            (one * 10_000, 100, 0, True), (one * 10_000, 2_000, 0, False), (one * 8_000, 2_000, 0, True), (key + one * 1_000, 100, 0, True), (key + one * 2_000, 100, 0, False),
+            (section + one * 2_000, 100, 0, False), (one * 2_000 + key, 0, 0, False), (key * 30 + one * 30, 2_000, 0, True), (b"\n" * 90_000 + one, 2_000, 0, True),
+            (begins * 60 + one, 100, 262_144, True), (begins * 70 + one, 100, 262_144, False), (begins * 300 + one, 100, 47_000, True), (begins * 10_000 + one, 100, 0, True),
+            (b"#EXT-X-CUE-OUT:2\n" * 400 + one, 100, 47_000, False), (goes_on * 1_000 + one, 100, 47_000, True)):
+        why = origin.over_bound(head + body, 16_384, base, ads)
+        assert (why == "") == is_taken and (is_taken or why.startswith("what is written of it may have more than 16777216 bytes: ")), (len(body), base, ads, why)
 
 
 test_what_would_be_written_of_a_list_is_bounded.needs = ("httpx",)
@@ -295,10 +299,19 @@ test_what_would_be_written_of_a_list_is_bounded.needs = ("httpx",)
 def test_a_list_that_would_be_written_long_is_told_and_not_given(room):
     controller, origin = room.server(FakeController()), room.server(FakeOrigin(listed(0, 5)))
     feed = room.feed("--channel", "news", "--origin", origin.url, "--at", controller.url, "--base", f"http://origin.example/{'b' * 2000}/i.m3u8")
-    feed.sees("news adsplice 204 -: the list is taken")
+    feed.sees("news adsplice 204 -: the playlist is taken")
     origin.text = listed(1, 9_000)
     feed.sees("news origin 200 -: what is written of it may have more than 16777216 bytes: 90[0-9]+ references under a base of 2029 bytes", 30)
     assert len(controller.puts("origin")) == 1
+
+
+def test_a_fallback_that_is_long_is_told_and_not_given(room):
+    controller, origin = room.server(FakeController()), room.server(FakeOrigin(listed(0, 5)))
+    long = json.dumps({"fallback": {"ads": [{"segments": [{"uri": f"http://ads.example/{'a' * 8000}/{it}.ts", "duration": "2"} for it in range(40)]}]}})
+    feed = room.feed("--channel", "news", "--origin", origin.url, "--at", controller.url, "--base", "http://origin.example/i.m3u8", "--fallback", room.write("fallback.json", long))
+    feed.sees(r"news fallback - Other: .*fallback.json: it has 3\d+ bytes, over 262144; goes on without it")
+    feed.sees("news adsplice 204 -: the playlist is taken")
+    assert not [it for it in controller.puts("decisions") if b"8000" in it or len(it) > 1000]
 
 
 def test_readers_take_time_by_their_bytes(room):

@@ -175,7 +175,7 @@ def test_how_late_a_decision_was_is_told(room):
     events = [event(0, "channel", 201, MADE), event(1, "decisions", 204, FALLBACK), event(10, "origin", 204, listed(0, 5, [("b1", 4, 4)])),
               event(10.4, "decisions", 409, decided(("b1", 2)), "J9 Used"), event(12, "origin", 204, listed(0, 6, [("b1", 4, 4)]))]
     out = explain(room, "--kept", room.write("news.events", "".join(events)), "--break", "b1")[1]
-    assert out == (f"b1: it is filled by the fallback (1 segment, 2 s), and lasts 4 s itself (by DURATION); the decision of {at(10.4)} came 0.4 s after the list of {at(10)}, "
+    assert out == (f"b1: it is filled by the fallback (1 segment, 2 s), and lasts 4 s itself (by DURATION); the decision of {at(10.4)} came 0.4 s after the playlist of {at(10)}, "
                    "which was the first to list segment 2 (s2.ts), which begins at 2024-05-01T12:00:04.000Z\n"), out
 
 
@@ -235,7 +235,7 @@ def test_a_hole_and_what_came_in_it_are_told_first(room):
               event(3, "hole", 0, "", "No space left on device"), event(60, "origin", 204, listed(25, 34, [("b1", 60, 4)]))]
     out = explain(room, "--kept", room.write("news.events", "".join(events)), "--break", "b1")[1].splitlines()
     assert out == [f"the time from {at(3)}: nothing is kept from there on (No space left on device)",
-                   f"the list of {at(60)} was taken, and by the rules it doesn't follow what is known (N6 Gap): something before it isn't kept, or it is a fault of adsplice",
+                   f"the playlist of {at(60)} was taken, and by the rules it doesn't follow what is known (N6 Gap): something before it isn't kept, or it is a fault of adsplice",
                    "b1: it is filled by its own pod (2 segments, 4 s)"], out
 
 
@@ -258,7 +258,7 @@ def test_lists_after_a_full_disk_are_told_as_they_were_answered(room):
 def test_an_answer_that_is_not_the_rules_is_told_first(room):
     events = [event(0, "channel", 201, MADE), event(1, "origin", 204, listed(0, 9, [("b1", 4, 4)])), event(2, "origin", 409, listed(1, 10, [("b1", 4, 4)]), "N8 Changed 3")]
     out = explain(room, "--kept", room.write("news.events", "".join(events)), "--break", "b1")[1].splitlines()
-    assert out[0] == f"the list of {at(2)}: adsplice answers 409 N8 Changed 3, and the rules 204: that is a fault of adsplice, which its makers want to be told", out
+    assert out[0] == f"the playlist of {at(2)}: adsplice answers 409 N8 Changed 3, and the rules 204: that is a fault of adsplice, which its makers want to be told", out
 
 
 def test_nothing_of_an_origin_reaches_a_terminal_raw(room):

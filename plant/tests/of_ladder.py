@@ -44,7 +44,7 @@ class Ladder:
 
     def taken(self, after=0):
         """Waits until each rendition's list is taken; answers the last line's place."""
-        return max(self.feed.sees(f"news-{name} adsplice 204 -: the list is taken", 20, after) for name in NAMES)
+        return max(self.feed.sees(f"news-{name} adsplice 204 -: the playlist is taken", 20, after) for name in NAMES)
 
 
 def asked(controller, name, what):
@@ -255,7 +255,7 @@ def test_ladder_fallback_that_one_list_does_not_take_is_none_in_all(room):
         room.write(f"f-{name}.json", mapped if name == "2" else FALLBACK)
     ladder = Ladder(room, controller.url, listed(0, 5, [("b1", 14, 4)]), "--fallback", f"{room.path}/f-{{}}.json")
     ladder.taken()
-    ladder.feed.sees("news fallback - Unequal: news-2 wouldn't be filled: an ad has an initialisation section, and its list has none; no rendition has a fallback until that is mended")
+    ladder.feed.sees("news fallback - Unequal: news-2 wouldn't be filled: an ad has an initialisation section, and its playlist has none; no rendition has a fallback until that is mended")
     assert [controller.edge.channels[f"news-{it}"].store.fallback for it in NAMES] == [None] * 3
     room.write("f-2.json", FALLBACK)
     until(lambda: all(controller.edge.channels[f"news-{it}"].store.fallback is not None for it in NAMES), 10, "the mended fallback")
@@ -270,7 +270,7 @@ def test_ladder_one_that_is_gone_is_made_anew_by_itself(room):
     controller.channels.discard("news-2")
     ladder.push(listed(0, 6, [("b1", 14, 4)]))
     after = ladder.feed.sees("news-2 adsplice 201 -: makes the channel", 20, after)
-    ladder.feed.sees("news-2 adsplice 204 -: the list is taken", 20, after)
+    ladder.feed.sees("news-2 adsplice 204 -: the playlist is taken", 20, after)
     assert [controller.count("DELETE", f"/channels/news-{it}") for it in NAMES] == [0, 0, 0]
     assert [asked(controller, it, "decisions") for it in NAMES] == [[decided(("b1", 2))] * count for count in (1, 2, 1)]
 
@@ -300,7 +300,7 @@ def test_ladder_by_a_config_file(room):
     sections = f"[DEFAULT]\nat = {controller.url}\n[news]\nrenditions = a b\norigin = {origin.url.replace('index', '{}')}\n"
     feed = room.feed("--config", room.write("feed.ini", sections))
     for name in "ab":
-        feed.sees(f"news-{name} adsplice 204 -: the list is taken")
+        feed.sees(f"news-{name} adsplice 204 -: the playlist is taken")
     assert origin.count("GET", "/a.m3u8") and origin.count("GET", "/b.m3u8")
 
 
@@ -364,7 +364,7 @@ def test_ladder_has_equal_numbers_after_one_rendition_was_deleted(room):
     urllib.request.urlopen(urllib.request.Request(f"http://127.0.0.1:{port}/channels/news-2", method="DELETE")).close()
     after = len(ladder.feed.lines)
     ladder.push(listed(1, 8, breaks))
-    ladder.feed.sees("news-2 adsplice 204 -: the list is taken", 20, after)
+    ladder.feed.sees("news-2 adsplice 204 -: the playlist is taken", 20, after)
     found = until(lambda: (lambda it: it if len(set(it)) == 1 and it[0] else None)(numbers(port)), 10, "equal lists")
     assert found[0].count("#EXTINF") == 8 and found[0].count("#EXT-X-DISCONTINUITY\n") == 2, found[0]
 
@@ -530,7 +530,7 @@ def test_ladder_whose_packagers_count_from_other_numbers_has_equal_ones(room):
     feed = room.feed("--channel", "news", "--renditions", " ".join(NAMES), "--origin", f"{room.path}/{{}}/index.m3u8", "--at", controller.url,
                      "--base", "http://origin.example/{}/index.m3u8")
     for name in NAMES:
-        feed.sees(f"news-{name} adsplice 204 -: the list is taken")
+        feed.sees(f"news-{name} adsplice 204 -: the playlist is taken")
     firsts = [re.search(r"MEDIA-SEQUENCE:(\d+)", asked(controller, name, "origin")[0])[1] for name in NAMES]
     assert len(set(firsts)) == 1, firsts
 
@@ -608,7 +608,7 @@ def test_ladder_break_near_which_sound_has_no_segment_is_filled_in_none_or_in_th
     push(6)
     feed = room.feed("--config", room.write("feed.ini", f"[DEFAULT]\nat = {controller.url}\nbase = http://h/i.m3u8\nfallback = {fallback}\n{sections}"))
     for name in ("none-v", "none-a", "others-v", "others-a"):
-        feed.sees(f"{name} adsplice 204 -: the list is taken", 20)
+        feed.sees(f"{name} adsplice 204 -: the playlist is taken", 20)
     push(7)
     until(lambda: all("s7.ts" in controller.shown(it) for it in ("none-v", "none-a", "others-v", "others-a")), 20, "the list before the break")
     push(9)  # (the segment that begins the break is lost in the sound)
@@ -636,5 +636,5 @@ def test_ladder_whose_channels_are_all_new_begins_with_equal_numbers(room):
     for name in NAMES:
         urllib.request.urlopen(urllib.request.Request(f"http://127.0.0.1:{port}/channels/news-{name}", method="DELETE")).close()
     ladder.push(listed(8, 15))
-    ladder.feed.sees("news-3 adsplice 204 -: the list is taken", 20, after)
+    ladder.feed.sees("news-3 adsplice 204 -: the playlist is taken", 20, after)
     until(lambda: [re.search(r"MEDIA-SEQUENCE:(\d+)", it)[1] for it in numbers(port)] == ["10", "8", "8"], 20, "the numbers that viewers have")

@@ -395,7 +395,7 @@ def follows(packager, events):
 def check(packager, segments, said, given):
     """Holds what was written (`said`) against what is true of the packager's `segments`; `given` has each segment's number so far."""
     missing = segments[:max(0, len(segments) - len(said.segments))]
-    assert all(any(made is it for n, made in enumerate(packager.made) if n in given) for it in missing), "none is left out, except some that had left the list"
+    assert all(any(made is it for n, made in enumerate(packager.made) if n in given) for it in missing), "none is left out, except some that had left the playlist"
     for it, one in zip(segments[::-1], said.segments[::-1]):
         place = next(n for n, made in enumerate(packager.made) if made is it)
         assert one.uri.rsplit("/", 1)[1].partition("?")[0] == it["name"] and one.nanos == it["seconds"] * 10**9, (one, it)

@@ -94,7 +94,7 @@ def test_renditions_of_a_master_playlist_are_channels(room):
     room.write("master.m3u8", MASTER.replace("http://other.example/", ""))
     feed.sees("film master - -: 4 renditions are channels, film-1 to film-4; viewers load .*/viewers.m3u8; EXT-X-I-FRAME-STREAM-INF is left out")
     for it in (1, 2, 3, 4):
-        feed.sees(f"film-{it} adsplice 204 -: the list is taken")
+        feed.sees(f"film-{it} adsplice 204 -: the playlist is taken")
     with controller.lock:
         bases = sorted((path, json.loads(body)["base"]) for method, path, body in controller.asked if method == "PUT" and path.count("/") == 2)
     assert bases == [(f"/channels/film-{it}", f"http://origin.example/film/{uri}") for it, uri in enumerate(("en/index.m3u8", "subtitles/en.m3u8", "1080/index.m3u8?t=1", "720/index.m3u8"), 1)]
@@ -140,7 +140,8 @@ STRAYS = (
     ("http://127.0.0.1:23202/direct.m3u8", "of another host, port or scheme"), ("http://other.example/v.m3u8", "of another host, port or scheme"),
     ("//other.example/v.m3u8", "of another host, port or scheme"), ("http://origin.example:8080/v.m3u8", "of another host, port or scheme"),
     ("https://origin.example/v.m3u8", "of another host, port or scheme"), ("http://169.254.169.254/latest", "of another host, port or scheme"),
-    ("file:///etc/passwd", "isn't a URL that begins with"), ("data:text/plain,x", "isn't a URL that begins with"))
+    ("file:///etc/passwd", "isn't a URL that begins with"), ("data:text/plain,x", "isn't a URL that begins with"),
+    ("http://..[../v.m3u8", "isn't a URL"), ("//..[../v.m3u8", "isn't a URL"), ("http://[v1]/v.m3u8", "isn't"), ("http://a\u2100b/v.m3u8", "isn't"))
 OF_FILES = (("/etc/passwd", "isn't in the master playlist's folder"), ("../v.m3u8", "isn't in the master playlist's folder"), ("a/../../v.m3u8", "isn't in the master playlist's folder"))
 
 
@@ -317,11 +318,11 @@ def test_renditions_come_and_go_without_a_new_start(room):
     feed = room.feed("--channel", "film", "--origin", f"{room.path}/master.m3u8", "--base", BASE, "--at", controller.url, "--master", f"{room.path}/viewers.m3u8",
                      "--keep", f"{room.path}/kept", "--longest-pause", "1")
     feed.sees("film master - -: 2 renditions are channels, film-1 to film-2")
-    feed.sees("film-2 adsplice 204 -: the list is taken")
+    feed.sees("film-2 adsplice 204 -: the playlist is taken")
     room.write("master.m3u8", master_of("low", "sd", "hd"))  # in another order, with a new one
     feed.sees("film master - Changed: film-3 is new; feeds them so once that stays for 5 s", 40)
     feed.sees("film master - Changes: film-3 is new; the others go on", 20)
-    feed.sees("film-3 adsplice 204 -: the list is taken", 20)
+    feed.sees("film-3 adsplice 204 -: the playlist is taken", 20)
     with open(f"{room.path}/viewers.m3u8", encoding="utf-8") as it:
         assert [line for line in it.read().splitlines() if line.startswith("/")] == [f"/channels/film-{it}/live.m3u8" for it in (3, 2, 1)]
     with controller.lock:

@@ -33,7 +33,7 @@ def made(room, **ads):
 def put_in(room, text, *more, ads, **others):
     """Runs adsplice-pod for a programme with this list."""
     path = room.write("index.m3u8", text)
-    return room.run("adsplice-pod", *more, "--list", path, "--base", BASE, "--ads", ads, "--at", "http://ads.example/a", "--to", f"{room.path}/film", **others)
+    return room.run("adsplice-pod", *more, "--playlist", path, "--base", BASE, "--ads", ads, "--at", "http://ads.example/a", "--to", f"{room.path}/film", **others)
 
 
 def shown(room, by=None):

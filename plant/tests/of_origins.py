@@ -92,7 +92,7 @@ def test_second_is_taken_a_target_duration_after_the_first_failure(room):
 def test_feed_takes_the_second_a_target_duration_after_the_first_failure(room):
     first, second, controller = room.server(FakeOrigin(listed(0, 5))), room.server(FakeOrigin(listed(0, 9, name="t"))), room.server(FakeController())
     feed = room.feed("--channel", "news", "--origin", f"{first.url} {second.url}", "--at", controller.url)
-    feed.sees("news adsplice 204 -: the list is taken")
+    feed.sees("news adsplice 204 -: the playlist is taken")
     failed, first.status = time.time(), 503
     taken = read_instant(feed.lines[feed.sees("news origins - Second: the first origin fails") - 1].split(" ")[0]) / 1e9
     assert 1.9 < taken - failed < 5.5, taken - failed  # (it is looked at once in a second, and three target durations are 6 s)
@@ -253,7 +253,7 @@ def test_settings(room):
 def test_feed_goes_over_and_the_numbers_go_on(room):
     first, second, controller = room.server(FakeOrigin(listed(0, 5))), room.server(FakeOrigin(listed(100, 105, name="t"))), room.server(FakeController())
     feed = room.feed("--channel", "news", "--origin", f"{first.url} {second.url}", "--at", controller.url, "--timeout", "1.5", "--longest-pause", "1", "--keep", f"{room.path}/kept")
-    feed.sees("news adsplice 204 -: the list is taken")
+    feed.sees("news adsplice 204 -: the playlist is taken")
     first.status, second.text = 503, listed(0, 6, name="t").replace("SEQUENCE:0", "SEQUENCE:100")
     feed.sees("news origins - Second: the first origin fails .the origin answers 503.; reads the second one", 60)
     until(lambda: len(controller.puts("origin")) == 2, 30, "the second origin's list")

@@ -347,7 +347,7 @@ def test_a_file_of_the_folder_is_verified_in_each_rendition(room):
     feed = room.feed("--channel", "news", "--renditions", "1080 720", "--origin", f"{room.path}/{{}}.m3u8", "--at", controller.url, "--base", "http://origin.example/{}/i.m3u8",
                      "--decisions", f"{room.path}/d{{}}", "--verify", "yes", "--networks", "127.0.0.1")
     for name in ("1080", "720"):
-        feed.sees(f" news-{name} adsplice 204 -: the list is taken")
+        feed.sees(f" news-{name} adsplice 204 -: the playlist is taken")
         room.write(f"d{name}/b.json", pod("1001", ads.at(f"{name}/")))
     feed.sees("news decisions/b.json - Absent: CAR: .*/720/CAR-1.ts isn't there: status 404; isn't given until it is written anew")
     ads.gone.clear()
@@ -362,7 +362,7 @@ def test_loopback_is_not_looked_at_for_a_stranger(room):
     ads, controller = room.server(Ads()), room.server(FakeController())
     room.write("a.m3u8", STYLE.listed(8))
     feed = room.feed("--channel", "news", "--origin", f"{room.path}/a.m3u8", "--at", controller.url, "--base", BASE, "--decisions", f"{room.path}/d", "--verify", "yes")
-    feed.sees(" news adsplice 204 -: the list is taken")
+    feed.sees(" news adsplice 204 -: the playlist is taken")
     room.write("d/b.json", pod("1001", ads.at()))
     feed.sees("Absent: CAR: .* isn't there: 127.0.0.1 is an address of this machine, and in none of `networks`")
     assert not ads.asked and feed.end(signal.SIGTERM) == 0

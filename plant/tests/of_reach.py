@@ -46,6 +46,23 @@ def test_what_a_person_named_is_reached_and_what_it_leads_to_is_judged(room):
     assert not refused(Reach(), "adsplice.example", "169.254.1.1", "adsplice.example") and refused(Reach(), "other.example", "10.0.0.5", "1.1.1.1")
 
 
+def test_a_setting_that_is_no_url_is_one_line(room):
+    from adsplice_plant.settings import settings_of
+    from adsplice_plant.words import Fault
+    right = {"origin": "http://origin.example/i.m3u8", "at": "http://127.0.0.1:1", "base": "http://origin.example/i.m3u8", "ask": "http://ads.example/decide"}
+    for name in right:
+        try:
+            settings_of("news", {**right, "decisions": room.path, name: "http://..[.."})
+            raise AssertionError(name)
+        except Fault as fault:
+            assert "isn't a URL that begins with http:// or https://" in str(fault) and "\n" not in str(fault), (name, fault)
+    status, _, said = room.run("adsplice-feed", "--channel", "news", "--origin", "/i.m3u8", "--at", "http://..[..")
+    assert status == 2 and "Traceback" not in said and "isn't a URL" in said, said
+    path = room.write("feed.ini", "[news]\norigin = /i.m3u8\nbase = http://h/i.m3u8\nat = http://..[..\n")
+    status, told, said = room.run("adsplice-feed", "--check", "--config", path)
+    assert status == 1 and "Traceback" not in told + said and "isn't a URL" in told + said, told + said
+
+
 def test_a_name_that_was_public_does_not_become_this_machine(room):
     reach = Reach(frozenset({"origin.example"}))
     assert not refused(reach, "origin.example", "93.184.216.34")

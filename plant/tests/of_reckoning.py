@@ -51,7 +51,7 @@ class Programme:
 
 
 def follow(dice, case):
-    """Follows a programme through decisions and lists, by the rules and by what is reckoned; answers how many segments of pods were written."""
+    """Follows a programme through decisions and playlists, by the rules and by what is reckoned; answers how many segments of pods were written."""
     programme, window, channel, pods, it = Programme(dice), dice.choice((3, 5, 8)), Channel(BASE), Pods(), Reckoned()
     for newest in range(window, 50):
         for name in [one[0] for one in programme.breaks if dice.random() < 0.2] + [""] * (dice.random() < 0.1):

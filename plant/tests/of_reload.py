@@ -36,7 +36,7 @@ class Fed:
 
     def takes(self, name, after=0):
         """Waits until the list of the channel is taken."""
-        return self.feed.sees(f" {name} adsplice 204 -: the list is taken", 20, after)
+        return self.feed.sees(f" {name} adsplice 204 -: the playlist is taken", 20, after)
 
     def said(self, place):
         """What the line before the `place` says after the file's name."""
@@ -119,7 +119,7 @@ def test_a_state_that_cannot_be_kept_gives_nothing_until_it_can(room):
         section(room, "news", listed(newest - 5, newest))
         time.sleep(0.5)
     room.write("d/one.json", decided(("b1", 1)))
-    after = it.feed.sees(" news log - Unkept: .*; gives nothing until it can be kept; viewers keep the last list")
+    after = it.feed.sees(" news log - Unkept: .*; gives nothing until it can be kept; viewers keep the last playlist")
     time.sleep(2)
     assert len(it.controller.puts("origin")) == 1 and not it.controller.puts("decisions"), it.controller.asked
     assert sum(" log - Unkept" in line for line in it.feed.lines) == 1 and time.time() - os.stat(f"{room.path}/kept/news.beat").st_mtime < 3

@@ -12,20 +12,23 @@ from stepped import TOLERANCE, Stepped
 from tools import PLANT, decided, listed
 
 sys.path.insert(0, PLANT)
-from adsplice_plant import following, shared_log  # noqa: E402
+from adsplice_plant import following, masters, renditions, shared_log  # noqa: E402
 from adsplice_plant.etcd import Away, Delete, Pair, Put  # noqa: E402
 from adsplice_plant.events import Began  # noqa: E402
 from adsplice_plant.folders import DecisionFolder  # noqa: E402
 from adsplice_plant.location import Url  # noqa: E402
 from adsplice_plant.members import FEEDS  # noqa: E402
 from adsplice_plant.replica import Replica  # noqa: E402
-from adsplice_plant.settings import Settings  # noqa: E402
+from adsplice_plant.settings import Settings, ladder_of  # noqa: E402
 from adsplice_plant.shared_files import SharedFolder  # noqa: E402
 from adsplice_plant.shared_log import Foreign, Outrun, SharedLog, lead_key, line_key, log_prefix  # noqa: E402
+from adsplice_plant.shared_names import SharedNames, names_key  # noqa: E402
 from adsplice_plant.state import Controller, begin  # noqa: E402
+from adsplice_plant.web import Client  # noqa: E402
 from keys import At, Clock, Keys  # noqa: E402
 
 NEEDS = ("httpx",)
+MASTER = "http://o.example/film.m3u8"
 
 
 def stood(seconds):
@@ -345,3 +348,79 @@ def test_a_question_is_asked_by_one_machine_and_again_once_that_is_gone(room):
     keys.change([], [Delete(FEEDS + two.me)])
     assert not one.may_ask("b3", 5) and not two.may_ask("b3", 5), "it is over"
     two.finish_question("b9")
+
+
+class Naming:
+    """A machine that names the renditions of a programme, by the store that it reaches (`at`). `kept`: the names that it has in a file."""
+
+    def __init__(self, keys, folder, kept=None):
+        self.at, self.begun, self.folder = At(keys), [], folder
+        path = folder / "film.renditions"
+        renditions.save(path, kept or {})
+        programme = ladder_of("film", {"origin": MASTER, "at": "http://127.0.0.1:1", "master": f"{folder}/viewers.m3u8", "viewers": "http://v"})[0]
+        feeds = masters.Feeds(lambda channels: self.begun.append({it.name: it.base.partition("?")[0] for it in channels}), None, lambda *_: None)
+        self.programme = masters.Programme(programme, Client(1), lambda _: None, feeds, SharedNames(self.at, "film", renditions.FileNames(path)))
+
+    def take(self, *uris):
+        """Takes in a master playlist of renditions at these URIs; answers what is written for viewers."""
+        text = "#EXTM3U\n" + "".join(f"#EXT-X-STREAM-INF:BANDWIDTH={place + 1}\n{uri}\n" for place, uri in enumerate(uris))
+        self.programme.take(masters.read(text.encode(), MASTER), 0.0)
+        return [it for it in (self.folder / "viewers.m3u8").read_text().splitlines() if it.startswith("http")]
+
+
+def machines_of(room, keys, *kept):
+    """Machines that have these names in their files."""
+    found = []
+    for place, names in enumerate(kept):
+        folder = Path(room.path) / f"{len(os.listdir(room.path))}-m{place}"
+        folder.mkdir()
+        found.append(Naming(keys, folder, names))
+    return found
+
+
+def test_all_machines_take_the_names_of_renditions_that_one_gave(room):
+    keys = Keys(Clock())
+    one, two, late = machines_of(room, keys, None, {"x.m3u8": "7"}, None)
+    shown = one.take("v.m3u8?t=1", "a.m3u8", "s.m3u8")
+    assert sorted(two.take("s.m3u8", "v.m3u8?t=2", "a.m3u8")) == sorted(shown) and two.begun == one.begun, "the order of a machine's first read says nothing"
+    assert late.take("a.m3u8", "n.m3u8", "v.m3u8") == ["http://v/channels/film-2/live.m3u8", "http://v/channels/film-4/live.m3u8", "http://v/channels/film-1/live.m3u8"], "a new one is named by the first that reads it"
+    assert renditions.load(two.folder / "film.renditions") == {"v.m3u8": "1", "a.m3u8": "2", "s.m3u8": "3"}, "the file has what the store has"
+
+
+def test_names_that_a_machine_kept_before_it_had_a_store_stay(room):
+    keys = Keys(Clock())
+    one, two = machines_of(room, keys, {"v.m3u8": "2", "a.m3u8": "1"}, {"v.m3u8": "1", "a.m3u8": "2"})
+    assert one.take("v.m3u8", "a.m3u8") == two.take("v.m3u8", "a.m3u8") == ["http://v/channels/film-2/live.m3u8", "http://v/channels/film-1/live.m3u8"]
+
+
+def test_machines_that_name_renditions_at_once_agree(room):
+    for lost in ("", "answer", "request"):
+        keys = Keys(Clock())
+        one, two = machines_of(room, keys, None, None)
+        change, one.at.loses = one.at.change, [lost]
+
+        def change_second(compared_with, changes):
+            """The other machine comes between what was read and what is written."""
+            one.at.change = change
+            two.take("a.m3u8", "v.m3u8")
+            return change(compared_with, changes)
+        one.at.change = change_second
+        try:
+            shown = one.take("v.m3u8", "a.m3u8")
+        except Away:
+            shown = one.take("v.m3u8", "a.m3u8")  # (the next look)
+        assert shown == two.take("v.m3u8", "a.m3u8") and one.begun == two.begun, lost
+
+
+def test_nothing_is_named_while_the_store_is_away_or_is_not_ours(room):
+    keys = Keys(Clock())
+    (one,) = machines_of(room, keys, None)
+    one.at.is_cut_off = True
+    for fault in (Away, Foreign):
+        try:
+            one.take("v.m3u8", "a.m3u8")
+            raise AssertionError("it named renditions")
+        except fault:
+            assert not one.begun
+        one.at.is_cut_off = False
+        keys.change([], [Put(names_key("film"), b"{[")])

@@ -273,7 +273,7 @@ def test_breaks_are_told_by_the_names_of_the_standard(room):
     assert told(named("dr-promo")) == ["signals Ignored: segment 12: Provider Promo Start (event 1001) begins no break by the settings"]
     assert told(named("oatcls-encrypted")) == ["signals Unread: segment 12: EXT-OATCLS-SCTE35: a section that doesn't read: it is encrypted (encrypted_packet is 1)"]
     assert told(named("placement-opportunity")) == [
-        "signals Untranslated: the list signals by EXT-X-PLACEMENT-OPPORTUNITY, a style that isn't translated: it begins no break"]
+        "signals Untranslated: the playlist signals by EXT-X-PLACEMENT-OPPORTUNITY, a style that isn't translated: it begins no break"]
     assert told(named("dr-ads-within-an-opportunity"))[1] == "signals Ignored: segment 12: Provider Advertisement Start (event 1) is within the break o"
     assert "signals Ignored: segment 12: splice_insert says that it lasts 3155760000 s, over a day: taken as no duration" in told(named("cue-of-a-century"))
 
@@ -289,7 +289,7 @@ def test_each_message_is_told_once_in_all_renditions(room):
 
 def test_a_list_without_instants_is_told_once(room):
     texts = [re.sub("#EXT-X-PROGRAM.*\n", "", it) for it in named("cue-no-in").lists()]
-    assert Run(texts).told == ["signals NoTimes: no segment has an instant, so no break of this list is entered"]
+    assert Run(texts).told == ["signals NoTimes: no segment has an instant, so no break of this playlist is entered"]
 
 
 # ---- what adsplice doesn't see by itself

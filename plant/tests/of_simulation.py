@@ -149,7 +149,7 @@ def test_a_break_is_filled_though_the_origin_did_not_answer_before_it(room):
 
 
 def test_a_rendition_that_is_behind_at_a_breaks_begin_is_named(room):
-    """It has the break, too, once its list goes on."""
+    """It has the break, too, once its playlist goes on."""
     world = simulated.play(of(Fault(29.0, "stands still", "a", 9.0), plan=replace(CALM, names=("v", "a"))), True)
     told = [line.partition(" tells ")[2] for line in world.log if " Behind: " in line]
     assert not world.found and len(told) == 1 and told[0].startswith("p breaks/b0 - Behind: p-a has had no new segment for two target durations: it begins in the other renditions"), (world.found, told)

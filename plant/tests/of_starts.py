@@ -40,17 +40,17 @@ def test_a_channel_that_another_feed_has_is_fed_once_that_is_over(room):
     first, second = room.server(FakeController()), room.server(FakeController())
     news = section(room, "news", listed(30, 35))
     one = fed(room, "one.ini", first, news)
-    one.sees("news adsplice 204 -: the list is taken")
+    one.sees("news adsplice 204 -: the playlist is taken")
     other = fed(room, "other.ini", second, news, section(room, "sport", listed(0, 5)))
     other.sees(f"news lock - Taken: another feed, process {one.process.pid}, feeds news; this one doesn't, and tries again each second")
-    other.sees("sport adsplice 204 -: the list is taken")
+    other.sees("sport adsplice 204 -: the playlist is taken")
     section(room, "news", listed(0, 5, name="t"))  # (its packager begins again, which the first feed alone sees)
     until(lambda: b"t5.ts" in first.puts("origin")[-1], 20, "the first feed's list")
     time.sleep(1.5)
     assert asked_of(second, "news") == 0 and sum(" lock - Taken" in line for line in other.lines) == 1, other.lines
     one.end(signal.SIGKILL)
     other.sees("news lock - -: the other feed has let it go; feeds it")
-    other.sees("news adsplice 204 -: the list is taken")
+    other.sees("news adsplice 204 -: the playlist is taken")
     until(lambda: any(b"t5.ts" in it for it in second.puts("origin")), 20, "the second feed's list")
     text = next(it.decode() for it in second.puts("origin") if b"t5.ts" in it)
     numbers = int(re.search(r"MEDIA-SEQUENCE:(\d+)", text)[1]) + text.count("#EXTINF") - 1
@@ -64,7 +64,7 @@ def test_a_programme_of_which_another_feed_has_one_channel_waits_whole(room):
     for name in ("news-1", "news-2", "news-3"):
         room.write(f"{name}.m3u8", listed(0, 5))
     one = fed(room, "one.ini", first, section(room, "news-2"))
-    one.sees("news-2 adsplice 204 -: the list is taken")
+    one.sees("news-2 adsplice 204 -: the playlist is taken")
     other = fed(room, "other.ini", second, f"[news]\nrenditions = 1 2 3\norigin = {room.path}/news-{{}}.m3u8\n")
     other.sees(f"news lock - Taken: another feed, process {one.process.pid}, feeds news-2; ")
     time.sleep(1.5)
@@ -73,7 +73,7 @@ def test_a_programme_of_which_another_feed_has_one_channel_waits_whole(room):
         it.release()
     assert one.end(signal.SIGTERM) == 0
     for name in ("news-1", "news-2", "news-3"):
-        other.sees(f"{name} adsplice 204 -: the list is taken")
+        other.sees(f"{name} adsplice 204 -: the playlist is taken")
 
 
 def test_a_lock_that_cannot_be_written_keeps_nobody_from_feeding(room):
@@ -81,7 +81,7 @@ def test_a_lock_that_cannot_be_written_keeps_nobody_from_feeding(room):
     os.makedirs(f"{room.path}/kept/news.lock")  # (a folder where the file is to be)
     feed = fed(room, "feed.ini", controller, section(room, "news", listed(0, 5)))
     feed.sees("news lock - Unkept: .*/kept/news.lock: Is a directory; nothing keeps another feed from it")
-    feed.sees("news adsplice 204 -: the list is taken")
+    feed.sees("news adsplice 204 -: the playlist is taken")
 
 
 # ---- sections that are wrong, and a fallback that is gone
@@ -104,7 +104,7 @@ def test_wrong_sections_are_told_and_the_others_are_fed(room):
     right = [section(room, "sport", listed(0, 5), **twin), section(room, "news-1", listed(0, 5)), section(room, "g", listed(0, 5), fallback=f"{room.path}/none.json")]
     feed = fed(room, "feed.ini", controller, *right, *(text for text, _ in wrong.values()))
     for name in ("sport", "news-1", "g"):
-        feed.sees(f"{name} adsplice 204 -: the list is taken")
+        feed.sees(f"{name} adsplice 204 -: the playlist is taken")
     feed.sees(f"g fallback - -: there is no file {room.path}/none.json; goes on without it until it is there")
     for name, (_, owed) in wrong.items():
         feed.sees(f"Z {name} settings - Wrong: .*{owed}.*; goes on without it$")
@@ -127,7 +127,7 @@ def test_a_fallback_that_comes_after_the_start_is_given(room):
     controller = room.server(FakeController())
     feed = fed(room, "feed.ini", controller, section(room, "news", listed(0, 5), fallback=f"{room.path}/f.json"))
     feed.sees("news fallback - -: there is no file .*/f.json; goes on without it until it is there")
-    after = feed.sees("news adsplice 204 -: the list is taken")
+    after = feed.sees("news adsplice 204 -: the playlist is taken")
     assert not controller.puts("decisions")
     room.write("f.json", FALLBACK)
     feed.sees("news fallback 204 -: ", 10, after)
@@ -142,7 +142,7 @@ def test_a_programme_of_which_one_fallback_is_gone_has_none_until_it_is_there(ro
     feed = fed(room, "feed.ini", controller, f"[news]\nrenditions = 1 2\norigin = {room.path}/{{}}.m3u8\nfallback = {room.path}/f-{{}}.json\n")
     feed.sees("news fallback - Missing: news-2 has no fallback file; no rendition has a fallback until all have one")
     for name in ("1", "2"):
-        feed.sees(f"news-{name} adsplice 204 -: the list is taken")
+        feed.sees(f"news-{name} adsplice 204 -: the playlist is taken")
     assert set(controller.puts("decisions")) <= {b'{"fallback":null}'}, controller.puts("decisions")
     room.write("f-2.json", FALLBACK)
     until(lambda: controller.puts("decisions")[-2:] == [FALLBACK.encode()] * 2, 10, "the fallback of both")

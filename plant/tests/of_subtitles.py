@@ -53,7 +53,7 @@ def test_subtitles_show_no_words_over_an_ad(room):
                      "--viewers", "http://viewers.example", "--decisions", f"{room.path}/{{}}/decisions", "--longest-pause", "1")
     feed.sees("film master - -: 3 renditions are channels, film-1 to film-3")
     for place in (1, 2, 3):
-        feed.sees(f"film-{place} adsplice 204 -: the list is taken")
+        feed.sees(f"film-{place} adsplice 204 -: the playlist is taken")
     for place in (2, 3):  # (the pictures)
         room.write(f"{place}/decisions/break-1.json", decided(("break-1", 3)))
     feed.sees("film decisions/break-1.json - -: decides break-1 in all renditions")

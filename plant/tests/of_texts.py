@@ -7,7 +7,7 @@ import sys
 from tools import PLANT, listed
 
 sys.path.insert(0, PLANT)
-from adsplice_plant import faults, judge, playlist, splice, words  # noqa: E402
+from adsplice_plant import faults, judge, packaged, playlist, siblings, splice, urls, words  # noqa: E402
 from adsplice_plant.pauses import Pauses  # noqa: E402
 
 NEEDS = ()
@@ -52,6 +52,34 @@ def test_whole_lists(room):
     assert not playlist.is_whole(b"#EXTM3U\ns1") and not playlist.is_whole(b"")
 
 
+# Texts at which urllib raises: a bracket that isn't closed, one around no address, and a sign that becomes a slash (NFKC).
+NO_URLS = ("http://..[..", "http://a]b/", "//..[../s.ts", "http://[v1]/", "http://[::1", "http://a\u2100b/")
+
+
+def test_a_url_that_does_not_read_raises_nothing(room):
+    for text in NO_URLS:
+        try:
+            words.web_address(text)
+            raise AssertionError(text)
+        except words.argparse.ArgumentTypeError as fault:
+            assert "isn't a URL that begins with" in str(fault) and "\n" not in str(fault), text
+        assert words.shown(text) == words.without_user(text) or words.shown(text) == text.partition("?")[0], text
+        assert urls.joined_or_same("http://h/i.m3u8", text) in (text, urls.joined("http://h/i.m3u8", text)), text
+        it = siblings.moved(packaged.PackagedSegment(text, 1), "http://h/i.m3u8")
+        assert it.uri == urls.joined_or_same("http://h/i.m3u8", text), "a segment that another rendition has"
+    assert urls.parts_of("http://..[..") is None and urls.host_of("http://..[..") == "" and urls.joined("http://..[..", "s.ts") is None
+    assert words.shown("http://u:secret@..[..") == words.NO_URL, "nothing of a text that isn't a URL is printed"
+    said = urls.parts_of("http://u:p@H.example:0x/a?b#c")
+    assert said is not None and (said.host, said.port, said.is_port_wrong, said.user, said.password, said.query) == ("h.example", None, True, "u", "p", "b")
+
+
+def test_no_other_module_takes_urls_apart(room):
+    for name in sorted(os.listdir(f"{PLANT}/adsplice_plant")):
+        if name.endswith(".py") and name != "urls.py":
+            with open(f"{PLANT}/adsplice_plant/{name}", encoding="utf-8") as it:
+                assert not re.search(r"url(?:split|join|parse|unsplit)\(", it.read()), name
+
+
 def test_pauses_grow_to_their_most(room):
     pauses = Pauses(0.5, 4)
     owed = [0.5, 1, 2, 4, 4, 4]
@@ -82,8 +110,8 @@ def test_sections_field_by_field(room):
 
 def test_levels_of_lines(room):
     for line, owed in (("adsplice 201 -: makes the channel", 6), ("adsplice 409 -: the channel is there already; goes on with it", 6), ("adsplice 404 -: the channel isn't there; makes it", 4),
-                       ("adsplice - -: Connection refused; tries again with growing pauses", 4), ("origin 200 -: the list is read again", 6), ("origin 503 -: the origin answers 503", 4),
-                       ("origin - -: no answer within 5 s", 4), ("origin 200 CutOff: the list is cut off", 4), ("list - Repaired: EXT-X-VERSION", 5), ("list - -: the lists go on", 6),
+                       ("adsplice - -: Connection refused; tries again with growing pauses", 4), ("origin 200 -: the playlist is read again", 6), ("origin 503 -: the origin answers 503", 4),
+                       ("origin - -: no answer within 5 s", 4), ("origin 200 CutOff: the playlist is cut off", 4), ("list - Repaired: EXT-X-VERSION", 5), ("list - -: the playlists go on", 6),
                        ("decisions/a b.json 422 J2 Shape break 0: a member is missing", 4), ("decisions/one.json - -: b1 is no longer listed; moves the file to done", 6), ("ask/b1 - Asked: x", 6),
                        ("decisions/one.json 204 -: decides b1", 6), ("decisions/one.json 409 J9 Used: b1 has begun", 4), ("origins - Second: the first origin fails", 4), ("origins - First: x", 6), ("decisions/one.json 204 Removed: x", 6), ("decisions/one.json - Removed: x", 6),
                        ("feed - KeyError: 1; goes on with the next turn", 3), ("journal - Unkept: /kept/news.events: No space left on device; goes on without it", 4), ("journal - -: /kept/news.events: events are kept again", 6), ("ladder - Apart: x", 4), ("", 6), ("x", 6)):

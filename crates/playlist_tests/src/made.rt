@@ -68,13 +68,7 @@ pub(crate) fn listed<'a>(
         rest: None,
         so_far: None,
     };
-    match stitch(
-        alloc,
-        marked,
-        &PodStore::new(alloc, hashing),
-        first,
-        &ends,
-    ) {
+    match stitch(alloc, marked, &PodStore::new(alloc, hashing), first, &ends) {
         Ok(list) => Ok(list),
         Err(_) => Err(AllocError),
     }
