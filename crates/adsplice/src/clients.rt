@@ -1,7 +1,4 @@
 //! The clients by place: who is there, in which order they came, and what is told of one that goes.
-ghost use Rattle.std.specs.Prelude.{◌≡◌};
-ghost use Rattle.connections.specs.Lines.{after, leaves};
-
 use connections::{
     Arrivals, Client, Connections, Line, PLACES, Phase, Seat, Socket, quiet_deadline,
 };
@@ -48,9 +45,7 @@ impl Clients {
     }
 
     /// The client at `place`, from 0, is neither heard nor answered any more.
-    pub(crate) fn stop_serving(&mut self, place: usize)
-        ensures { self.new.line ≡ after (leaves place) self.old.line }
-    {
+    pub(crate) fn stop_serving(&mut self, place: usize) {
         self.served.remove(place);
         self.heard.remove(place);
         self.took.remove(place);
@@ -59,9 +54,7 @@ impl Clients {
     }
 
     /// The seat of the client at `place`, from 0, is vacant from now on, if one is there. Its connection is closed.
-    pub(crate) fn give_back(&mut self, place: usize)
-        ensures { self.new.line ≡ self.old.line }
-    {
+    pub(crate) fn give_back(&mut self, place: usize) {
         if let Some(client) = self.at.get_mut(place) {
             if let Some(client) = client.take() {
                 let _ = self.vacant.push(client.close());
@@ -70,9 +63,7 @@ impl Clients {
     }
 
     /// Something came of the client at `place`, from 0, at the instant `now`: for a while it isn't quiet.
-    pub(crate) fn note_heard(&mut self, place: usize, now: Instant)
-        ensures { self.new.line ≡ self.old.line }
-    {
+    pub(crate) fn note_heard(&mut self, place: usize, now: Instant) {
         self.heard.remove(place);
         // (its memory was taken before: what isn't noted isn't given up for others)
         let _ = self.heard.push(place, quiet_deadline(now));
@@ -80,9 +71,7 @@ impl Clients {
 
     /// The client at `place`, from 0, has a reply, or took bytes of it, at the instant `now`: of all that are answered it is the
     /// last to be given up for memory.
-    pub(crate) fn note_took(&mut self, place: usize, now: Instant)
-        ensures { self.new.line ≡ self.old.line }
-    {
+    pub(crate) fn note_took(&mut self, place: usize, now: Instant) {
         self.took.remove(place);
         // (its memory was taken before)
         let _ = self.took.push(place, now);

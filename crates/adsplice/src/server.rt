@@ -1,23 +1,20 @@
 //! Whose turn it is of all clients, who is let in, and whose time is up.
-#![tactic(auto, using(connections::proofs::Leading::stays, connections::proofs::Leading::by_one, connections::proofs::Leading::and_then, connections::proofs::LineLeading::line_stays, connections::proofs::LineLeading::line_goes_by_one, connections::proofs::LineLeading::line_goes_on))]
+#![tactic(auto, using(connections::proofs::Leading::stays, connections::proofs::Leading::by_one, connections::proofs::Leading::and_then))]
 
-ghost use Rattle.std.specs.Prelude.{◌≡◌, ◌<◌, length};
-ghost use Rattle.connections.specs.Inner.LineSteps.{LineGoesOn};
-ghost use Rattle.connections.specs.Lines.{LineIsCalled};
+ghost use Rattle.std.specs.Prelude.{◌<◌, length};
 ghost use Rattle.connections.specs.Runs.{HasRun};
 
 use crate::clients::{Clients, fault_at_socket, was_socket_granted};
 use crate::door::{Door, Opened};
 use crate::faults::Faults;
 use connections::{
-    Admission, Call, Client, Connections, MAX_REPLIES, NonBlocking, PLACES, Part, Phase, Seat, Socket, Turn,
-    When, ending_deadline, has_come, serving_deadline,
+    Admission, Call, Client, Connections, MAX_REPLIES, NonBlocking, PLACES, Part, Phase, Seat,
+    Socket, Turn, When, ending_deadline, has_come, serving_deadline,
 };
 use http_edge::{EdgeFault, MAX_CHANNELS};
 use mio::net::TcpStream;
 use mio::{Events, Token};
 use std::io;
-use std::marker::Model;
 use std::time::{Duration, Instant};
 
 // How many clients are let in before the others have their turn again.
@@ -38,15 +35,6 @@ pub struct Server {
     admission: Admission,
     door: Door,
     next_tick: Instant,
-}
-
-// What contracts see of a server is its line.
-impl Model for Server {
-    ghost use Rattle.connections.specs.Lines.{LineState};
-
-    ghost Value = { LineState };
-
-    ghost view = { λ s. s.clients.line };
 }
 
 fn server_tick_after(now: Instant) -> Instant {
@@ -77,9 +65,7 @@ impl Server {
     }
 
     /// Writes the line of the fault `text` to standard error, unless that would wait.
-    pub fn tell(&mut self, rt: &HostRuntime, text: &str)
-        ensures { self.new ≡ self.old }
-    {
+    pub fn tell(&mut self, rt: &HostRuntime, text: &str) {
         self.faults.tell(rt, text);
     }
 
@@ -96,9 +82,7 @@ impl Server {
     }
 
     /// Waits until a client is ready, or a tick has passed. `events` has the clients that are ready.
-    pub fn wait(&mut self, rt: &HostRuntime, events: &mut Events) -> io::Result<()>
-        ensures { self.new ≡ self.old }
-    {
+    pub fn wait(&mut self, rt: &HostRuntime, events: &mut Events) -> io::Result<()> {
         let patience = self.patience();
         self.opened.wait(rt, events, patience)
     }
@@ -114,8 +98,7 @@ impl Server {
 
     // Closes a connection, and has its seat for another.
     fn close(&mut self, connections: &mut Connections, place: usize)
-        ensures run { HasRun connections.old connections.new }
-        ensures line { LineGoesOn self.old self.new }
+        ensures { HasRun connections.old connections.new }
     {
         self.leave(connections, place);
         self.clients.stop_serving(place);
@@ -125,8 +108,7 @@ impl Server {
 
     // Waits for a client, or closes its connection if the system can't tell of it.
     fn watch(&mut self, connections: &mut Connections, place: usize, again: bool)
-        ensures run { HasRun connections.old connections.new }
-        ensures line { LineGoesOn self.old self.new }
+        ensures { HasRun connections.old connections.new }
     {
         let Some(Some(client)) = self.clients.at.get_mut(place) else {
             return;
@@ -145,8 +127,7 @@ impl Server {
 
     // Ends a connection whose reply is gone, or that is given up: what its client still sends is awaited for a while.
     fn finish(&mut self, connections: &mut Connections, place: usize, was_granted: bool)
-        ensures run { HasRun connections.old connections.new }
-        ensures line { LineGoesOn self.old self.new }
+        ensures { HasRun connections.old connections.new }
     {
         self.leave(connections, place);
         self.clients.stop_serving(place);
@@ -167,17 +148,14 @@ impl Server {
     }
 
     // Tells the fault of a connection that is given up.
-    fn tell_given_up(&mut self, rt: &HostRuntime, connections: &Connections, place: usize)
-        ensures { self.new ≡ self.old }
-    {
+    fn tell_given_up(&mut self, rt: &HostRuntime, connections: &Connections, place: usize) {
         if let Some(fault) = fault_at_socket(connections, place) {
             self.faults.tell(rt, fault.text());
         }
     }
 
     fn give_up(&mut self, rt: &HostRuntime, connections: &mut Connections, place: usize)
-        ensures run { HasRun connections.old connections.new }
-        ensures line { LineGoesOn self.old self.new }
+        ensures { HasRun connections.old connections.new }
     {
         self.tell_given_up(rt, connections, place);
         self.finish(connections, place, false);
@@ -185,8 +163,7 @@ impl Server {
 
     // Gives up a connection whose place, or whose file, another one needs.
     fn evict(&mut self, rt: &HostRuntime, connections: &mut Connections, place: usize)
-        ensures run { HasRun connections.old connections.new }
-        ensures line { LineGoesOn self.old self.new }
+        ensures { HasRun connections.old connections.new }
     {
         self.tell_given_up(rt, connections, place);
         self.close(connections, place);
@@ -201,8 +178,7 @@ impl Server {
         turn: Turn,
         was_ending: bool,
     )
-        ensures run { HasRun connections.old connections.new }
-        ensures line { LineGoesOn self.old self.new }
+        ensures { HasRun connections.old connections.new }
     {
         match turn {
             Turn::Waits => self.watch(connections, place, false),
@@ -222,8 +198,7 @@ impl Server {
 
     // From now on a client has its time.
     fn give_time(&mut self, rt: &HostRuntime, connections: &mut Connections, place: usize)
-        ensures run { HasRun connections.old connections.new }
-        ensures line { LineGoesOn self.old self.new }
+        ensures { HasRun connections.old connections.new }
     {
         self.clients.served.remove(place);
         if self
@@ -246,8 +221,7 @@ impl Server {
         place: usize,
         was_asking: bool,
     )
-        ensures run { HasRun connections.old connections.new }
-        ensures line { LineGoesOn self.old self.new }
+        ensures { HasRun connections.old connections.new }
     {
         if was_asking && matches!(connections.phase(place), Phase::Answering(_)) {
             self.give_time(rt, connections, place);
@@ -257,8 +231,7 @@ impl Server {
     // The client at a place isn't heard on before there is room for its bytes. If there is no memory to note that, it is
     // disconnected.
     fn wait_for_room(&mut self, rt: &HostRuntime, connections: &mut Connections, place: usize)
-        ensures run { HasRun connections.old connections.new }
-        ensures line { LineGoesOn self.old self.new }
+        ensures { HasRun connections.old connections.new }
     {
         self.clients.short.remove(place);
         if self.clients.short.push(place, self.opened.now).is_err() {
@@ -269,8 +242,7 @@ impl Server {
 
     // For each client whose bytes have no room one is given up that is quiet, and of whose bytes some are held.
     fn make_room(&mut self, rt: &HostRuntime, connections: &mut Connections)
-        ensures run { HasRun connections.old connections.new }
-        ensures line { LineGoesOn self.old self.new }
+        ensures { HasRun connections.old connections.new }
     {
         for _ in 0..self.clients.short.len() {
             let quiet = self
@@ -287,8 +259,7 @@ impl Server {
     // Those whose bytes had no room are heard on, as far as there is room now.
     fn hear_short(&mut self, rt: &HostRuntime, connections: &mut Connections, block: &mut [u8])
         requires { 0 < length block.old }
-        ensures run { HasRun connections.old connections.new }
-        ensures line { LineGoesOn self.old self.new }
+        ensures { HasRun connections.old connections.new }
     {
         for _ in 0..self.clients.short.len() {
             let short = self
@@ -312,8 +283,7 @@ impl Server {
         block: &mut [u8],
     )
         requires { 0 < length block.old }
-        ensures run { HasRun connections.old connections.new }
-        ensures line { LineGoesOn self.old self.new }
+        ensures { HasRun connections.old connections.new }
     {
         if connections.held() >= held {
             return;
@@ -330,8 +300,7 @@ impl Server {
         block: &mut [u8],
     )
         requires { 0 < length block.old }
-        ensures run { HasRun connections.old connections.new }
-        ensures line { LineGoesOn self.old self.new }
+        ensures { HasRun connections.old connections.new }
     {
         let place = call.place();
         let Some(Some(client)) = self.clients.at.get_mut(place) else {
@@ -351,9 +320,7 @@ impl Server {
 
     // Notes that the reply to the client at a place is another one, or has another rest, than before its turn: then `was_left`
     // bytes were left.
-    fn note_reply(&mut self, connections: &Connections, place: usize, was_left: usize)
-        ensures { self.new ≡ self.old }
-    {
+    fn note_reply(&mut self, connections: &Connections, place: usize, was_left: usize) {
         let left = connections.left_at(place);
         if left > 0 && left != was_left {
             self.clients.note_took(place, self.opened.now);
@@ -362,8 +329,7 @@ impl Server {
 
     // While replies that clients haven't taken keep too much memory, the client is disconnected that took bytes longest ago.
     fn bound_replies(&mut self, rt: &HostRuntime, connections: &mut Connections)
-        ensures run { HasRun connections.old connections.new }
-        ensures line { LineGoesOn self.old self.new }
+        ensures { HasRun connections.old connections.new }
     {
         for _ in 0..self.clients.took.len() {
             if connections.reply_memory() <= MAX_REPLIES {
@@ -385,8 +351,7 @@ impl Server {
         block: &mut [u8],
     ) -> bool
         requires { 0 < length block.old }
-        ensures run { HasRun connections.old connections.new }
-        ensures line { LineGoesOn self.old self.new }
+        ensures { HasRun connections.old connections.new }
     {
         let place = part.place();
         let Some(Some(client)) = self.clients.at.get_mut(place) else {
@@ -414,8 +379,7 @@ impl Server {
         block: &mut [u8],
     )
         requires { 0 < length block.old }
-        ensures run { HasRun connections.old connections.new }
-        ensures line { LineGoesOn self.old self.new }
+        ensures { HasRun connections.old connections.new }
     {
         match when {
             When::AtOnce(call) => {
@@ -443,8 +407,7 @@ impl Server {
         block: &mut [u8],
     )
         requires { 0 < length block.old }
-        ensures run { HasRun connections.old connections.new }
-        ensures line { LineGoesOn self.old self.new }
+        ensures { HasRun connections.old connections.new }
     {
         for _ in 0..PARTS {
             match self.when(connections, place, block) {
@@ -466,7 +429,6 @@ impl Server {
     // When the client at a place has its turn, if one is there.
     fn when(&mut self, connections: &Connections, place: usize, block: &mut [u8]) -> Option<When>
         requires { 0 < length block.old }
-        ensures { self.new ≡ self.old }
     {
         match self.clients.at.get_mut(place) {
             Some(Some(client)) => Some(client.when(connections, block)),
@@ -482,8 +444,7 @@ impl Server {
         place: usize,
         channel: usize,
     )
-        ensures run { HasRun connections.old connections.new }
-        ensures line { LineGoesOn self.old self.new }
+        ensures { HasRun connections.old connections.new }
     {
         if self.clients.line.join(place, channel).is_err() {
             self.faults.tell(rt, EdgeFault::OutOfMemory.text());
@@ -491,33 +452,18 @@ impl Server {
         }
     }
 
-    // Calls the one whose turn it is of those that stand in line, and gives it its turn. Whether another may be called in this
-    // round: its request isn't answered.
-    fn call_one(&mut self, rt: &HostRuntime, connections: &mut Connections, block: &mut [u8]) -> bool
-        requires { 0 < length block.old }
-        ensures run { HasRun connections.old connections.new }
-        ensures line { LineIsCalled self.old self.new }
-    {
-        let Some(call) = self.clients.line.call_next() else {
-            return false;
-        };
-        self.serve(rt, connections, &call, block);
-        connections.is_asking(call.place())
-    }
-
     // Calls those that stand in line, by the turns of their channels, until the request of one is answered: at most one in a
-    // round. None is called twice. If somebody stands there, the one is called whose turn it is.
+    // round. None is called twice.
     fn call_line(&mut self, rt: &HostRuntime, connections: &mut Connections, block: &mut [u8])
         requires { 0 < length block.old }
-        ensures run { HasRun connections.old connections.new }
-        ensures line { LineIsCalled self.old self.new }
+        ensures { HasRun connections.old connections.new }
     {
-        let waiting = self.clients.line.len();
-        if !self.call_one(rt, connections, block) {
-            return;
-        }
-        for _ in 1..waiting {
-            if !self.call_one(rt, connections, block) {
+        for _ in 0..self.clients.line.len() {
+            let Some(call) = self.clients.line.call_next() else {
+                return;
+            };
+            self.serve(rt, connections, &call, block);
+            if !connections.is_asking(call.place()) {
                 return;
             }
         }
@@ -531,8 +477,7 @@ impl Server {
         block: &mut [u8],
     )
         requires { 0 < length block.old }
-        ensures run { HasRun connections.old connections.new }
-        ensures line { LineGoesOn self.old self.new }
+        ensures { HasRun connections.old connections.new }
     {
         if place == PLACES {
             self.on_somebody(rt, connections);
@@ -550,8 +495,7 @@ impl Server {
         block: &mut [u8],
     )
         requires { 0 < length block.old }
-        ensures run { HasRun connections.old connections.new }
-        ensures line { LineGoesOn self.old self.new }
+        ensures { HasRun connections.old connections.new }
     {
         for event in events.iter() {
             let Token(place) = event.token();
@@ -561,8 +505,7 @@ impl Server {
 
     // Somebody waits to be let in. If no file was left for it, the client that has asked longest is disconnected.
     fn on_somebody(&mut self, rt: &HostRuntime, connections: &mut Connections)
-        ensures run { HasRun connections.old connections.new }
-        ensures line { LineGoesOn self.old self.new }
+        ensures { HasRun connections.old connections.new }
     {
         if self.door != Door::NoFile {
             self.door = Door::Open;
@@ -595,8 +538,7 @@ impl Server {
         rt: &HostRuntime,
         connections: &mut Connections,
     ) -> Option<Seat<Socket>>
-        ensures run { HasRun connections.old connections.new }
-        ensures line { LineGoesOn self.old self.new }
+        ensures { HasRun connections.old connections.new }
     {
         if self.clients.vacant.is_empty() {
             let place = self
@@ -614,8 +556,7 @@ impl Server {
         connections: &mut Connections,
         stream: TcpStream,
     ) -> Option<usize>
-        ensures run { HasRun connections.old connections.new }
-        ensures line { LineGoesOn self.old self.new }
+        ensures { HasRun connections.old connections.new }
     {
         let seat = self.seat_for_one(rt, connections)?;
         let place = seat.place();
@@ -630,9 +571,7 @@ impl Server {
     }
 
     // The next client that waits, if one does.
-    fn next_client(&mut self) -> Option<TcpStream>
-        ensures { self.new ≡ self.old }
-    {
+    fn next_client(&mut self) -> Option<TcpStream> {
         match self.opened.next_client() {
             Ok(stream) => Some(stream),
             Err(door) => {
@@ -651,8 +590,7 @@ impl Server {
         block: &mut [u8],
     )
         requires { 0 < length block.old }
-        ensures run { HasRun connections.old connections.new }
-        ensures line { LineGoesOn self.old self.new }
+        ensures { HasRun connections.old connections.new }
     {
         if self.admission.is_open() {
             self.admission.let_in();
@@ -666,8 +604,7 @@ impl Server {
     // Lets in those who wait, at most `LET_IN` of them.
     fn let_in(&mut self, rt: &HostRuntime, connections: &mut Connections, block: &mut [u8])
         requires { 0 < length block.old }
-        ensures run { HasRun connections.old connections.new }
-        ensures line { LineGoesOn self.old self.new }
+        ensures { HasRun connections.old connections.new }
     {
         for _ in 0..LET_IN {
             if self.door != Door::Open || self.is_full(connections) {
@@ -686,8 +623,7 @@ impl Server {
 
     // Closes those that had time to end.
     fn close_late(&mut self, connections: &mut Connections)
-        ensures run { HasRun connections.old connections.new }
-        ensures line { LineGoesOn self.old self.new }
+        ensures { HasRun connections.old connections.new }
     {
         for _ in 0..PLACES {
             let overdue = self
@@ -710,8 +646,7 @@ impl Server {
         block: &mut [u8],
     )
         requires { 0 < length block.old }
-        ensures run { HasRun connections.old connections.new }
-        ensures line { LineGoesOn self.old self.new }
+        ensures { HasRun connections.old connections.new }
     {
         let Some(Some(client)) = self.clients.at.get_mut(place) else {
             return;
@@ -725,8 +660,7 @@ impl Server {
     // Looks at each client whose time is up, and that doesn't stand in line.
     fn give_up_late(&mut self, rt: &HostRuntime, connections: &mut Connections, block: &mut [u8])
         requires { 0 < length block.old }
-        ensures run { HasRun connections.old connections.new }
-        ensures line { LineGoesOn self.old self.new }
+        ensures { HasRun connections.old connections.new }
     {
         for _ in 0..PLACES {
             let overdue = self
@@ -743,8 +677,7 @@ impl Server {
     // At each tick: clients whose time is up are given up, and after an error it is tried again to let clients in.
     fn tick(&mut self, rt: &HostRuntime, connections: &mut Connections, block: &mut [u8])
         requires { 0 < length block.old }
-        ensures run { HasRun connections.old connections.new }
-        ensures line { LineGoesOn self.old self.new }
+        ensures { HasRun connections.old connections.new }
     {
         if !has_come(self.next_tick, self.opened.now) {
             return;
@@ -760,7 +693,7 @@ impl Server {
     }
 
     /// A round over `connections`: of the clients that `events` name, and of those that are let in then, each has its
-    /// turn if it reads what stands, or is answered. Of the others the one is called whose turn it is, and has its request applied.
+    /// turn if it reads what stands, or is answered. Of the others the first one has its request applied.
     /// If replies keep too much memory then, those are disconnected that took bytes longest ago.
     /// Those whose bytes had no room are heard on if there is some now. Then those are given up whose time is up, and of whom
     /// nothing is unread. `block` is room for a read.
@@ -772,8 +705,7 @@ impl Server {
         block: &mut [u8],
     )
         requires { 0 < length block.old }
-        ensures run { HasRun connections.old connections.new }
-        ensures line { LineIsCalled self.old self.new }
+        ensures { HasRun connections.old connections.new }
     {
         let held = connections.held();
         self.serve_events(rt, connections, events, block);

@@ -1,7 +1,6 @@
 pub mod Held
 pub mod Served
 pub mod Leading
-pub mod LineLeading
 pub mod Seated
 pub mod Turning
 mod Isolated

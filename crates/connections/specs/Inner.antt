@@ -1,3 +1,2 @@
 pub mod Giving
-pub mod LineSteps
 pub mod Outlooks

@@ -163,9 +163,3 @@ abbrev pub RoundsAreFew : Type 0
 RoundsAreFew = (place channel : ℕ) (before : List LineEvent) (rounds : List (List LineEvent)) → let line : LineState = line_after new_line before in
     channel ≤ no_channel → StandsFor place channel line → CallEach rounds → Waits place line (events_in rounds)
     → length rounds < turn_count * (ahead channel place line.standing + 1)
-
--- some events led from one line to the other, and by one of them at least the one was called whose turn it was
-pub record LineIsCalled (old new : LineState) : Type 0 where
-  pub events : List LineEvent
-  pub leads : new ≡ line_after old events
-  pub called : 1 ≤ calls_in events

@@ -1,6 +1,5 @@
-use Rattle.connections.specs.Inner.LineSteps.{LineGoesOn}
 use Rattle.connections.specs.Runs.{HasRun}
 use Rattle.adsplice.proofs.server.Server.hear_short.Given as goal
 
 abbrev pub invariant-loop : goal.invariant-loop
-invariant-loop l = HasRun l.fn.connections l.connections × LineGoesOn l.fn.self l.self
+invariant-loop l = HasRun l.fn.connections l.connections
