@@ -117,16 +117,14 @@ def byte_at_a_time(server):
     return them
 
 
-def unread(server, path):
-    """A reader of a text that takes nothing of it."""
-    it = server.connect()
-    it.setsockopt(socket.SOL_SOCKET, socket.SO_RCVBUF, 4096)
-    is_sent(it, b"GET %s HTTP/1.1\r\n\r\n" % path)
-    return it
-
-
 def reading_nothing(server):
-    return [unread(server, b"/channels/large/live.m3u8") for _ in range(100)]
+    them = []
+    for _ in range(100):
+        it = server.connect()
+        it.setsockopt(socket.SOL_SOCKET, socket.SO_RCVBUF, 4096)
+        is_sent(it, b"GET /channels/large/live.m3u8 HTTP/1.1\r\n\r\n")
+        them.append(it)
+    return them
 
 
 def resetting(server):
@@ -189,8 +187,8 @@ CROWDS = {"600 silent clients": silent, "200 that send a byte at a time": byte_a
           "100 that read nothing of 4 MB": reading_nothing, "351 that reset at each stage": resetting,
           "a flood of 20,000": flooding, "40 bodies of 4 MiB less a byte": large_bodies}
 MAX_MEMORY = 192 << 20
-UNREAD_TEXTS, UNREAD_SEGMENTS = 12, 2_000  # texts of 32 MB, of which each has a reader that reads nothing
-MAX_UNREAD_PEAK = 288 << 20  # 64 MiB of them, and the channel's own
+UNREAD_TEXTS, UNREAD_SEGMENTS = 40, 2_000  # texts of 8 MB, of which each has a reader that reads nothing
+MAX_UNREAD_PEAK = 192 << 20  # 64 MiB of them, and the channels' own
 
 
 def begun(run_live, program, **given):
@@ -319,7 +317,7 @@ def why_of_long_pods(run_live, program):
 
 
 def long_text(first):
-    """A playlist of short URIs, from the segment `first` on: under a base of 16 KB it is written as 32 MB."""
+    """A playlist of short URIs, from the segment `first` on: under a base of 4 KB it is written as 8 MB."""
     segments = b"".join(b"#EXTINF:10,\n%d.ts\n" % number for number in range(first, first + UNREAD_SEGMENTS))
     return b"#EXTM3U\n#EXT-X-TARGETDURATION:10\n#EXT-X-MEDIA-SEQUENCE:%d\n" % first + segments
 
@@ -328,21 +326,22 @@ def unread_texts(run_live, program):
     """Texts that only their readers hold take 64 MiB at most: who took bytes longest ago is disconnected, and the newest one isn't."""
     server = begun(run_live, program, stderr=subprocess.DEVNULL)
     try:
-        base = b'{"base":"http://origin.example/%s/index.m3u8"}' % (b"b" * 16_000)
+        base = b'{"base":"http://origin.example/%s/index.m3u8"}' % (b"b" * 4_000)
         said, readers = [server.put(b"/channels/texts", base)], []
         for first in range(UNREAD_TEXTS):
             said.append(server.put(b"/channels/texts/origin", long_text(first)))
-            readers.append(unread(server, b"/channels/texts/live.m3u8"))
-            time.sleep(0.1)
+            readers.append(server.connect())
+            is_sent(readers[-1], b"GET /channels/texts/live.m3u8 HTTP/1.1\r\n\r\n")
+            time.sleep(0.02)
         with Beside(server) as good:
             peak = costs.peak_bytes(server.running.pid)
-        found = good.differences(f"{UNREAD_TEXTS} texts of 32 MB that nobody reads")
+        found = good.differences(f"{UNREAD_TEXTS} texts of 8 MB that nobody reads")
         found += [f"the server didn't take its lists: {said}"[:200]] if said != [run_live.CREATED] + [run_live.NO_CONTENT] * UNREAD_TEXTS else []
         found += [f"the server had {peak >> 20} MiB"] if peak > MAX_UNREAD_PEAK else []
         oldest, newest = (len(run_live.read_all(it)) for it in (readers[0], readers[-1]))
-        print(f"{UNREAD_TEXTS} texts of 32 MB that nobody reads: {peak >> 20} MiB; of the oldest {oldest:,} bytes came, of the newest {newest:,}")
-        found += ["the oldest reader wasn't disconnected"] if oldest > 32_000_000 else []
-        return found + (["the newest reader was disconnected"] if newest < 32_000_000 else [])
+        print(f"{UNREAD_TEXTS} texts of 8 MB that nobody reads: {peak >> 20} MiB; of the oldest {oldest:,} bytes came, of the newest {newest:,}")
+        found += ["the oldest reader wasn't disconnected"] if oldest > 8_000_000 else []
+        return found + (["the newest reader was disconnected"] if newest < 8_000_000 else [])
     finally:
         server.stop()
 

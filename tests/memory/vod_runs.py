@@ -78,7 +78,8 @@ def answer(program, control, run, words, first, most):
 
 def differences(program, control, ports, run, way):
     """How many runs were refused memory before the first that wasn't, and what they answered that isn't owed. A run may do
-    without what it was refused if it asks again and is given it, or if its fault needs no memory."""
+    without what it was refused if it asks again and is given it, if its fault needs no memory, or if only a next refresh would need
+    it: then it answers all that is owed."""
     with tempfile.NamedTemporaryFile() as file:
         file.write(run.decisions or b"")
         file.flush()
@@ -88,9 +89,7 @@ def differences(program, control, ports, run, way):
         while refused:
             first += 1
             answered, refused = answer(program, control, run, words, first, WAYS[way])
-            may_be = [OUT_OF_MEMORY] if refused else [run.owed]
-            if refused and (way == "it alone" or run.owed[0]):
-                may_be.append(run.owed)
+            may_be = [run.owed, OUT_OF_MEMORY] if refused else [run.owed]
             if answered not in may_be:
                 found.append(f"allocation {first}: status {answered[0]}, {answered[1][:60]}, {answered[2][:80]}")
     return first - 1, found
