@@ -4,7 +4,7 @@
   gen.py DIR [N ...]      writes DIR/<shape>-<N>.m3u8 and DIR/<shape>-<N>.json for N in 10 100 1000 10000, and
                           DIR/hostile-<name>.m3u8 with DIR/hostile-<name>.json
 
-plain: segments alone. break: one program date time, one break of 30 s, a pod of two segments. encrypted: the same
+plain: segments alone, of which no break is signalled. break: one program date time, one break of 30 s, a pod of two segments. encrypted: the same
 under AES-128 without IV (each kept segment then states its own IV: the longest output a line of input can ask for).
 rich: all that a packager writes: a key tag every 20 segments, half of them without IV, maps under a key of their own, a date on each
 segment, byte ranges with and without offset, titles, comments, unknown tags, a discontinuity every 50 segments and a
@@ -37,7 +37,7 @@ def plain(n):
     l = ["#EXTM3U", "#EXT-X-TARGETDURATION:10"]
     for i in range(n):
         l += ["#EXTINF:9.5," if i == 2 else "#EXTINF:10,", "s%d.ts" % i]
-    return l + ["#EXT-X-ENDLIST"], None
+    return l + ["#EXT-X-ENDLIST"], AB
 
 
 def with_break(n, head=()):
