@@ -12,7 +12,7 @@ from tools import PLANT, PYTHON, FakeServer
 sys.path.insert(0, PLANT)
 
 NEEDS = ("httpx",)
-SECONDS = 25
+SECONDS = 60
 
 
 def test_grown_inputs_break_no_promise(room):
