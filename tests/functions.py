@@ -51,6 +51,8 @@ def owner_named(head):
     trait, name, of = parts_of(head)
     if re.match(rf"<(?:[^<>]*\W)?{name}\b", head):  # (an impl of a trait for each type that a parameter stands for)
         name = "Any"
+    if re.search(r" for &", head):
+        name = "Ref" + name[:1].upper() + name[1:]
     if not trait and of and len(of) > 1:  # (not a parameter: as in Shared+Text)
         return f"{name}+{of}"
     return name + "".join(re.findall(r"(\w+)(?!\w|::)", re.sub(r"<T>", "", trait)))
