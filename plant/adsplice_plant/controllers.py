@@ -130,7 +130,8 @@ def push(turn: Turn, channel: str) -> Request:
         return Request(What.PUSH, listed_from(stands, place, controller.ahead, until, since), stands.entry, True)
     if controller.led < stands.entry and (announced := announced_after(stands, history, new)):
         until = next((n for n in range(new, len(history)) if is_begin(history[n], announced.values())), len(history))
-        return Request(What.PUSH, listed_from(stands, place, controller.ahead, until, since, announced), stands.entry, True)
+        if until:  # (at the least it has the segment again that the controller took last)
+            return Request(What.PUSH, listed_from(stands, min(place, until - 1), controller.ahead, until, since, announced), stands.entry, True)
     return Request(What.PUSH, listed_from(stands, place, controller.ahead, since=since), stands.entry)
 
 
@@ -309,7 +310,7 @@ def made(turn: Turn, event: Answered) -> None:
     channel = event.channel
     if event.status == 201:
         turn.put_controller(channel, trials=0)
-        begin_anew(turn, channel)
+        begin_anew(turn, channel, turn.state.entry)
         turn.tell(channel, "adsplice", 201, "", "makes the channel")
     elif event.status == 409:
         turn.put_controller(channel, way=Way.MADE, trials=0)
@@ -335,7 +336,7 @@ def looked(turn: Turn, event: Answered) -> None:
         return
     turn.tell(event.channel, "adsplice", 409, "", "the channel is there already; goes on with it")
     if event.status == 404:
-        begin_anew(turn, event.channel)
+        begin_anew(turn, event.channel, 0)
     else:
         go_on(turn, event.channel, event.body)
 
@@ -380,13 +381,14 @@ def newest_in(written: bytes, history: list[PackagedSegment]) -> int:
     return max((it.number for it in history if it.begins in instants), default=history[-1].number if history else 0)
 
 
-def begin_anew(turn: Turn, channel: str) -> None:
-    """The channel has no list: it is given all that is open, and begins where viewers' list stood."""
+def begin_anew(turn: Turn, channel: str, anew: int) -> None:
+    """The channel has no list: it is given all that is open, and begins where viewers' list stood. `anew`: the number of the newest entry if it was made just
+    now; 0 if it was there, and may have what the log has taken back since."""
     it = turn.state.renditions[channel]
     reached = max(it.controller.took, it.controller.reached)
     if turn.state.life and it.controller.listed < it.stands.after and not is_bare_since(turn, it.stands, reached):
         reached = -1  # (other machines have shown what it lacks, and the log forgets with what breaks began that aren't listed any more)
-    turn.put(channel, controller=Controller(Way.THERE, reached=reached, anew=turn.state.entry, dropped_at=it.controller.dropped_at), before=None)
+    turn.put(channel, controller=Controller(Way.THERE, reached=reached, anew=anew, dropped_at=it.controller.dropped_at), before=None)
     stands = it.stands
     if it.is_blocked:
         last = stands.repairer.last[-1]

@@ -82,7 +82,7 @@ def adopt(turn: Turn, state: State, is_behind: bool) -> None:
     turn.state, turn.is_kept = new, False
     for channel, it in turn.renditions():
         if not is_behind and it.controller.way is Way.THERE and it.controller.took < 0:
-            controllers.begin_anew(turn, channel)
+            controllers.begin_anew(turn, channel, it.controller.anew)
     for name, file in new.files.items():
         was = old.files.get(name)
         late = [it for it in file.ids if it in file.late and (was is None or it not in was.late)]

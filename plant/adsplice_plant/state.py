@@ -37,7 +37,7 @@ class Controller:
     the list; `took`: the media number of that list's newest segment, -1 if it has no list; `reached`: that of the channel that it had
     before this one. Its media and discontinuity numbers are ahead of
     the log's by `ahead`. `first`: what a channel without a list is given before its first one, so that breaks begin as they did for viewers.
-    `anew`: the number of the newest entry when it had no list; of the decisions up to there it is given those that still say something.
+    `anew`: the number of the newest entry when it was made; of the decisions up to there it is given those that still say something.
     `led`: the number of the newest entry of which it has what comes ahead of the list. `sent`: the request that it hasn't answered; `trials`:
     how often it didn't, in a row; `retry_at`: when it is tried again; `unfit`: how many lists in a row it refused since they don't go on after the
     last one; `is_unseen`: whether its written playlist is to be looked at. Of a log that several machines have: the number of the newest entry whose list it
