@@ -66,7 +66,7 @@ def up_to(body: bytes, mine: Reach, edge: Reach) -> bytes:
         end = None  # (they state no instants, or one of them is on another clock than the other)
     while (place := body.rfind(EXTINF, 0, at)) > first:
         duration = duration_of(body[place + len(EXTINF):body.find(b"\n", place)].decode("utf-8", "replace")) or 0
-        if edge.covers(Reach(end, number, duration)) if end is None or edge.instant is None else end <= edge.instant + duration // 2:
+        if edge.covers(Reach(end, number, duration)) if end is None or edge.instant is None else end < edge.instant + duration // 2:
             break
         end, number, at = None if end is None else end - duration, number - 1, place
     return body if at == len(body) else body[:end_of_segment(body, body.rfind(EXTINF, 0, at))]

@@ -7,7 +7,7 @@ from __future__ import annotations
 
 from bisect import bisect_left
 from dataclasses import dataclass, field, replace
-from itertools import accumulate, dropwhile
+from itertools import dropwhile
 
 from . import growth, packaged, repairs, spelling, variables
 from .growth import Accepted
@@ -319,7 +319,9 @@ class Repairer:
         last = self.last[-1]
         if last.begins is None:
             return []
-        first = found.segments[0].begins
+        first, missed = found.segments[0].begins, found.segments[0].own - last.own - 1
+        if first is not None and missed > 0 and (taken := siblings.after(last, missed, first)):
+            return taken
         if first is not None and first < last.begins and (taken := siblings.after_clock(last, first)):
             return ahead_of(found.segments, last, taken)
         end = last.begins + last.duration
@@ -495,12 +497,9 @@ def ahead_of(segments: list[PackagedSegment], last: PackagedSegment, taken: list
     if its numbers don't go on. If its clock went on meanwhile, the first of them come before `last`."""
     if segments[0].own <= last.own or not taken:
         return taken
-    missed = missed_by(last, segments)
+    missed = segments[0].own - last.own - 1
     is_next = abs((taken[0].begins or 0) - (last.begins or 0) - last.duration) <= taken[0].duration
-    inorder = taken if is_next or (segments[0].begins or 0) < (last.begins or 0) else taken[::-1]
-    lasted = accumulate((it.duration for it in inorder), initial=0)
-    found = [it for it, sofar in zip(inorder, lasted) if sofar + it.duration // 2 <= missed]
-    return found if inorder is taken else found[::-1]
+    return taken[:missed] if is_next or (segments[0].begins or 0) < (last.begins or 0) else taken[max(0, len(taken) - missed):]
 
 
 def without_ranges(it: PackagedSegment) -> PackagedSegment:

@@ -34,6 +34,17 @@ class Sibling(NamedTuple):
         begins = [it.begins or 0 for it in self.segments]
         return self.segments[next((place for place in range(len(begins) - 1, 0, -1) if begins[place] < begins[place - 1]), 0):]
 
+    def places_at(self, instant: int) -> list[tuple[bool, bool, int, int, PackagedSegment]]:
+        """How its segments lie to the `instant`: whether one is far away, whether the packager's clock has gone back since, how far they are apart, and how
+        many segments come between if it is the last one."""
+        newest, found = len(self.newest()), []
+        for place, it in enumerate(reversed(self.segments)):
+            if it.begins is not None:
+                more = max(0, (instant - it.begins + it.duration // 2) // it.duration) if not place and it.duration else 0
+                by = abs(instant - it.begins)
+                found.append((by > it.duration and not 0 < more <= FAR, place >= newest, by, more, it))
+        return found
+
     def has(self, other: PackagedSegment) -> bool:
         """Whether it has a segment with the media number of the `other` rendition's that begins when that does, or nearly."""
         return any(it.number == other.number and abs((it.begins or 0) - (other.begins or 0)) <= other.duration // 2 for it in self.segments)
@@ -61,7 +72,7 @@ class Reach(NamedTuple):
     def covers(self, other: Reach) -> bool:
         """Whether this list goes as far as the `other`, which may be cut at other times: by instants if both are stated, else by numbers."""
         if self.instant is not None and other.instant is not None:
-            return self.instant + other.last // 2 >= other.instant
+            return self.instant + other.last // 2 > other.instant
         return self.number >= other.number
 
 
@@ -89,13 +100,11 @@ class Siblings:
     def place_at(self, instant: int | None) -> tuple[int | None, int] | None:
         """Another rendition's media number and discontinuity number at `instant`, by the segment that begins nearest to it. Past its last segment the
         next ones are as long as that; none if it is so far away that the two have other clocks. One whose segments are as long is asked first;
-        of another one the media number says nothing (none)."""
-        known = [(not one.is_alike, abs(it.begins - instant), place == 0, it) for one in self.found for place, it in enumerate(reversed(one.newest()))
-                 if it.begins is not None and instant is not None]
-        if not known or instant is None:
+        of another one the media number says nothing (none). One from before its packager's clock went back counts if no newer one is near."""
+        known = [(not one.is_alike, *placed) for one in self.found for placed in (one.places_at(instant) if instant is not None else [])]
+        if not known:
             return None
-        is_other, _, is_last, it = min(known, key=lambda one: one[:2])
-        more = max(0, (instant - (it.begins or 0) + it.duration // 2) // it.duration) if is_last and it.duration else 0
+        is_other, _, _, _, more, it = min(known, key=lambda one: one[:4])
         return (None if is_other else it.number + more, it.discontinuity) if more <= FAR else None
 
     def is_awaited(self, instant: int | None, duration: int) -> bool:
@@ -112,6 +121,12 @@ class Siblings:
         found = [[[it for it in those if it.begins is not None and start <= middle_of(it) < end] for those in (one.newest(), (it for it in one.segments if it.number > last.number))]
                  for one in self.found]
         return self.most([now or before for now, before in found])
+
+    def after(self, last: PackagedSegment, count: int, first: int) -> list[PackagedSegment]:
+        """The `count` segments of one of them after the one that is the `last` one of a rendition, by their media numbers; none if none has them all, or
+        if they end more than a segment from the instant `first`."""
+        found = [[it for it in one.segments if last.number < it.number <= last.number + count] if one.has(last) else [] for one in self.found]
+        return self.most([those if len(those) == count and is_before(those[-1], first) else [] for those in found])
 
     def after_clock(self, last: PackagedSegment, first: int) -> list[PackagedSegment]:
         """The segments of one of them after the one that is the `last` one of a rendition, up to the instant `first` by a clock that has gone back
@@ -152,6 +167,11 @@ def numbering_of(mine: list[PackagedSegment], theirs: list[PackagedSegment]) -> 
 def middle_of(it: PackagedSegment) -> int:
     """The instant in the middle of the segment `it`, whose begin is known."""
     return (it.begins or 0) + it.duration // 2
+
+
+def is_before(it: PackagedSegment, first: int) -> bool:
+    """Whether the segment `it` ends within one like it of the instant `first`, by where it is put or by what its packager states."""
+    return any(abs(at + it.duration - first) <= it.duration for at in (it.begins, it.stated) if at is not None)
 
 
 def moved(it: PackagedSegment, base: str) -> PackagedSegment:
