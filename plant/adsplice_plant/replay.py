@@ -15,6 +15,7 @@ from .signals import duration_of, pieces_of
 from .state import Standing
 from .turn import history_of
 
+MILLISECOND = 1_000_000
 BY_POD = "its pod"  # says where a break ends that says nothing of it (ends_of)
 ENDED = ("END-DATE", "DURATION", "SCTE35-IN")  # attributes that say where a break ended (RFC 8216, 4.3.2.7)
 ENDS = (*ENDED, "PLANNED-DURATION")  # and where it is to end
@@ -98,10 +99,10 @@ def as_elsewhere(stands: Standing, others: list[Standing], line: str, segments: 
 
 
 def ended_by(stands: Standing, run: Run, line: str) -> int:
-    """The instant at which the `run` of a break ended, of which the list that stands so had the EXT-X-DATERANGE `line`: what that says, if the run went on to
-    the segment after it, or else where that segment begins."""
-    said = length_of(read_range(line))
-    is_said = said is not None and 0 <= run.end - run.start - said + TOLERANCE < stands.repairer.last[-1].duration
+    """The instant at which the `run` of a break ended, of which the list that stands so had the EXT-X-DATERANGE `line`: what that says, if that is within the
+    run's last segment, or else where the segment after it begins."""
+    said, newest = length_of(read_range(line)), history_of(stands)[(run.last or 0) - 1]
+    is_said = said is not None and (newest.begins or 0) + TOLERANCE < run.start + said <= run.end + TOLERANCE
     return run.start + said if said is not None and is_said else run.end
 
 
@@ -115,8 +116,8 @@ def lasting(began: int, end: int, start: int | None, segments: list[PackagedSegm
 
 def as_it_runs(stands: Standing, line: str, one: Break | None) -> str:
     """The EXT-X-DATERANGE `line` of a break that is open, and had no end when it began. It ends with its pod then, unless it is ended before: what
-    says a later end may come after lists that nobody read. `one`: what is known of it; if the packager's clock changed within it, it ends so by the
-    new clock."""
+    says a later end may come after lists that nobody read. Once adsplice was told so, an END-DATE alone says an earlier end. `one`: what is known of it;
+    if the packager's clock changed within it, it ends so by the new clock."""
     reckoned, found = stands.viewed.reckoned, read_range(line)
     if reckoned is None or reckoned.run is None or reckoned.run.id != found.id:
         return line
@@ -125,10 +126,13 @@ def as_it_runs(stands: Standing, line: str, one: Break | None) -> str:
     known = next((it for it in reckoned.breaks if it.id == found.id), None)
     length, total = length_of(found), reckoned.run.shape.total()
     by_pod, given = f"DURATION={seconds_text(total)}", stands.viewed.ranges.get(found.id, ("", 0))[0]
-    is_by_pod = known is not None and [name for name, _ in rules.ends_of(known, total)] == [BY_POD]
-    if length is None or length <= total + TOLERANCE or not (is_by_pod or given.endswith(f",{by_pod}")):
+    is_by_pod, is_told = known is not None and [name for name, _ in rules.ends_of(known, total)] == [BY_POD], given.endswith(f",{by_pod}")
+    if length is None or not (is_by_pod or is_told):
         return line
-    return f"{without(line, ENDS)},{by_pod}"
+    if length > total + TOLERANCE:
+        return f"{without(line, ENDS)},{by_pod}"
+    is_earlier = is_told and "END-DATE" not in found.said and length < total - TOLERANCE
+    return f'{without(line, ENDS)},END-DATE="{instant_text((found.start() or 0) + length)}"' if is_earlier else line
 
 
 def length_of(found: DateRange) -> int | None:
@@ -142,11 +146,14 @@ def put_past(stands: Standing, found: PackagedList, ended: int | None, tolerance
     reckoned = stands.viewed.reckoned
     if ended is None or reckoned is None or reckoned.run is None or not stands.repairer.last:
         return None
-    known = next((it for it in known_after(reckoned, found.date_ranges()) if it.id == reckoned.run.id), None)
+    breaks = {it.id: it for it in known_after(reckoned, found.date_ranges())}
+    known = breaks.pop(reckoned.run.id, None)
     end = None if known is None else ends_at(known, reckoned.run.shape.total())
     it = next((it for it in found.segments if it.number > stands.repairer.last[-1].number), None)
     if end is None or it is None or it.begins is None or not ended - tolerance <= it.begins < end - tolerance:
         return None
+    if any(one.start is not None and abs(one.start - end) <= tolerance for one in breaks.values()):
+        end += tolerance + MILLISECOND  # (another break begins there, with a later segment)
     began, it.begins, found.pieces, found.timed = it.begins, end, None, None
     return began, end
 
