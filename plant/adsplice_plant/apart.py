@@ -48,8 +48,11 @@ def compare(turn: Turn) -> None:
 
 def newest_of(after: int, lists: Mapping[str, Standing], first: str, alike: list[str]) -> Found | None:
     """The numbers that viewers have of the newest segment of the channel `first` past the media number `after` which all `lists` have: by media
-    numbers in those that are cut `alike`, as far as these have one clock there; in the others by the instant at which it begins. None if there is none."""
+    numbers in those that are cut `alike`, as far as these have one clock there; in the others by the instant at which it begins, unless one has a
+    discontinuity near it. None if there is none."""
     for one in sorted((it for it in lists[first].repairer.last if it.number > after), key=lambda it: -it.number):
+        if len(alike) < len(lists) and any(has_step(it, one) for it in lists.values()):
+            continue
         found: dict[str, tuple[int | None, int]] = {}
         for channel, it in lists.items():
             there = numbered(it, one) if channel in alike else None
@@ -58,6 +61,11 @@ def newest_of(after: int, lists: Mapping[str, Standing], first: str, alike: list
         if len(found) == len(lists):
             return found
     return None
+
+
+def has_step(stands: Standing, other: PackagedSegment) -> bool:
+    """Whether a discontinuity is listed within half of the `other` rendition's segment of where that begins: the one of that rendition may stand elsewhere."""
+    return any(it.discontinuities and abs((it.begins or 0) - (other.begins or 0)) <= other.duration // 2 for it in stands.repairer.last)
 
 
 def numbered(stands: Standing, other: PackagedSegment) -> Numbers | None:
