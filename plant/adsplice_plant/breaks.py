@@ -3,6 +3,7 @@ from __future__ import annotations
 
 from bisect import bisect_left, insort
 from collections import deque
+from collections.abc import Collection
 from dataclasses import dataclass
 from typing import Any, NamedTuple
 
@@ -122,14 +123,15 @@ class Line:
 
 
 class Jump(NamedTuple):
-    """A change of a list's clock `by` so much at the instant `at`, after the segment of the media `number`, which began at the instant `last`.
-    `is_within`: the packager lists no discontinuity there, and leaves no number out, so that nothing of the programme lies between."""
+    """A change of a list's clock `by` so much at the instant `at`, after the segment of the media `number`, which began at the instant `last`, and before
+    the segment at the `place`. `is_within`: the packager lists no discontinuity there, and leaves no number out, so that nothing of the programme lies between."""
 
     last: int
     at: int
     by: int
     number: int
     is_within: bool
+    place: int
 
 
 class Numbering(NamedTuple):
@@ -157,14 +159,16 @@ class Timeline:
         self.end = self.begins[-1] + segments[-1].duration
         self.first = min(self.begins[self.low], *self.begins[:self.low]) if self.low else self.begins[0]
 
-    def jumps(self, fresh: int) -> list[Jump]:
-        """Where, from the place `fresh` on, the clock changes by more than a segment."""
+    def jumps(self, fresh: int, began: int | None = None) -> list[Jump]:
+        """Where, from the place `fresh` on, the clock changes by more than a segment. `began`: when the segment before that place began, if it was put
+        elsewhere since."""
         found = []
         for n in range(max(1, fresh), len(self.segments)):
             before, it = self.segments[n - 1], self.segments[n]
-            at = self.begins[n - 1] + before.duration
-            if abs(self.begins[n] - at) > max(SECOND, before.duration):
-                found.append(Jump(self.begins[n - 1], at, self.begins[n] - at, self.numbering.of(before.number), it.own == before.own + 1 and not it.discontinuities))
+            last = self.begins[n - 1] if began is None or n > fresh else began
+            by = self.begins[n] - last - before.duration
+            if abs(by) > max(SECOND, before.duration):
+                found.append(Jump(last, last + before.duration, by, self.numbering.of(before.number), it.own == before.own + 1 and not it.discontinuities, n))
         return found
 
     def has_turned(self, one: Break) -> bool:
@@ -174,7 +178,7 @@ class Timeline:
             return one.clock is None or self.last > one.clock or any(abs(jump.number - one.clock) <= NEAR_JUMPS for jump in self.jumps(1))
         by, newest = one.start - one.said, self.begins[-1]
         is_past = self.low_number > one.clock + 1 or self.low_number > one.clock and abs(newest - one.start) <= abs(newest - one.said)
-        return is_past or any(abs(jump.by - by) <= self.segments[-1].duration // 2 for jump in self.jumps(1))
+        return is_past or any(abs(jump.by - by) <= self.segments[-1].duration // 2 or abs(jump.number - one.clock) <= NEAR_JUMPS for jump in self.jumps(1))
 
     def end_before(self, one: Break) -> int | None:
         """Where the break `one`, which begins and ends by a clock that changed since, ended by the clock before: at one of the listed segments from before
@@ -205,13 +209,14 @@ class Timeline:
         return self.segments[place].duration // 2
 
     def nearest(self, instant: int) -> PackagedSegment | None:
-        """The listed segment that begins within half a segment of the `instant`; none if there is none, or if the end of the list,
-        where the next segment will begin, is nearer."""
+        """The listed segment that begins within half a segment of the `instant`; none if there is none, or if the end of the list, where the next segment
+        will begin, is nearer. Of two that are as near it is the later one, which may be still to come; but the earlier one of longer segments than those of
+        other renditions."""
         place = bisect_left(self.begins, instant, self.low)
-        near = [place for place in (place - 1, place) if self.low <= place < len(self.begins)]
-        found = min(near, key=lambda it: abs(self.begins[it] - instant))
-        by = abs(self.begins[found] - instant)
-        return self.segments[found] if by <= self.half(instant) and by <= abs(self.end - instant) else None
+        near, later = [place for place in (place - 1, place) if self.low <= place < len(self.begins)], self.is_shortest()
+        found = min(near, key=lambda it: (abs(self.begins[it] - instant), -it if later else it))
+        by, last = abs(self.begins[found] - instant), abs(self.end - instant)
+        return self.segments[found] if by <= self.half(instant) and (by < last or by == last and not later) else None
 
     def aligned(self, instant: int) -> int:
         """The begin of the listed segment that is nearest to the `instant`; that itself if none is."""
@@ -339,7 +344,7 @@ class Breaks:
         announced break `before`: two that touch may be stated less than half a segment apart."""
         event = it.signal.message.event
         is_own = it.signal.message.type == before.type and event and before.event and event != before.event
-        return bool(is_own) and line.will_have(before.start) and line.place_of(start) != line.place_of(before.start)
+        return bool(is_own) and (line.will_have(before.start) or not before.is_settled) and line.place_of(start) != line.place_of(line.aligned(before.start))
 
     def is_spoken_of(self, before: Break, it: Placed, start: int, half: int, planned: int | None) -> bool:
         """Whether the signal `it`, at `start`, says once more that the break `before` begins or is open, or is of a span within it.
@@ -470,10 +475,11 @@ class Breaks:
                 self.tell(f"breaks/{shown(one.id)}", "Ends", f"at {instant_text(end)}, after {seconds_text(end - one.start)} s ({one.name})")
         self.known.sort(key=lambda it: it.start)
 
-    def forget(self, first: int, number: int) -> None:
+    def forget(self, first: int, number: int, moved: Collection[str]) -> None:
         """Forgets the breaks that were over at the instant `first`, since which segments are listed, the first one of them with the media `number`. Once
-        the packager's clock has changed, renditions are known by numbers alone to have come so far."""
-        self.known = [it for it in self.known if not it.is_over(first) or it.is_on_new_clock(number) or it.clock is not None and it.number >= number]
+        the packager's clock has changed, renditions are known by numbers alone to have come so far. Those of the IDs `moved` stay while a list has
+        them: it states another START-DATE than what was written."""
+        self.known = [it for it in self.known if not it.is_over(first) or it.is_on_new_clock(number) or it.clock is not None and it.number >= number or it.id in moved]
 
     def kept(self) -> list[dict[str, Any]]:
         """The breaks as JSON."""

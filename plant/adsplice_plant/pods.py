@@ -48,9 +48,10 @@ class Pods:
 
     # ---- lists
 
-    def enter(self, starts: Mapping[str, int], known: Collection[str], fresh: list[int], tolerance: int) -> None:
-        """A list is about to be pushed whose breaks have these `starts`, and whose new segments begin at the instants `fresh`. Those of
-        `known` were listed before. A break begins with a segment within the `tolerance` of its start (docs/operating/channel.md, tolerance)."""
+    def enter(self, starts: Mapping[str, int], known: Collection[str], fresh: list[int], first: int, tolerance: int) -> None:
+        """A list is about to be pushed whose breaks have these `starts`, whose segments begin from the instant `first` on, and the new ones at the instants
+        `fresh`. Those of `known` were listed before. A break begins with a segment within the `tolerance` of its start (docs/operating/channel.md,
+        tolerance). One that starts before the list is nobody's; or, if the packager's clock is going back, still to come."""
         for name, start in starts.items():
             if name in self.entered:
                 continue
@@ -60,7 +61,7 @@ class Pods:
                     self.entered[name] = ads
                 else:
                     self.missed.add(name)
-            elif name not in known and fresh and start < fresh[-1]:
+            elif name not in known and fresh and first - tolerance <= start < fresh[-1]:
                 self.missed.add(name)
 
     def of(self, names: Collection[str]) -> Pods:

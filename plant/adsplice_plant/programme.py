@@ -590,7 +590,8 @@ def standing(before: Standing, it: Taken, text: bytes, entry: int, translator: T
     ahead = ranges.without_moved(before.text, listed_before, lines, tolerance) or b""
     stands = Standing(repairer, viewed, entry, text, ahead, before.pods, before.repairs, before.entry)
     pods = before.pods.of(window_of(stands) | ranges.ids_in(lines) | {one.id for one in translator.breaks.known}).copy()
-    pods.enter(ranges.starts_in(lines), before.viewed.ranges.keys(), [one.begins for one in new if one.begins is not None], tolerance)
+    begins = [one.begins for one in listed if one.begins is not None]
+    pods.enter(ranges.starts_in(lines), before.viewed.ranges.keys(), [one.begins for one in new if one.begins is not None], min(begins, default=0), tolerance)
     target = repairer.head.target if repairer.head is not None else 0
     until = turned_in(before, new, [*ranges.starts_in(lines).values()], tolerance) if last and not ahead else 0
     if until:

@@ -81,8 +81,8 @@ class Translator:
         if instants is None:
             return Translated(None, self.tellings())
         line, before = Timeline(found.segments, instants, self.aligns, numbering), {it.id for it in self.breaks.known}
-        self.restate(ranges, line, fresh, rendition)
-        self.count(self.of_segments(found, fresh) + self.of_ranges(ranges, line, fresh, rendition), line)
+        tags = self.restate(ranges, self.of_segments(found, fresh), line, fresh, rendition)
+        self.count(tags + self.of_ranges(ranges, line, fresh, rendition), line)
         self.breaks.settle(line)
         newest, last = found.segments[-1], self.done.get(rendition)
         if fresh < len(found.segments):
@@ -90,7 +90,8 @@ class Translator:
         self.firsts[rendition], self.lows[rendition] = self.done[rendition].since(line.first), line.low_number
         self.breaks.is_first = False
         near = [name for name in self.firsts if self.is_near(name, line)]
-        self.breaks.forget(min((self.firsts[name] for name in near), default=line.first), min(self.lows.get(name, line.low_number) for name in (*near, rendition)))
+        self.breaks.forget(min((self.firsts[name] for name in near), default=line.first), min(self.lows.get(name, line.low_number) for name in (*near, rendition)),
+                           {it.id for it in self.breaks.known if any(self.is_moved(it, name) for name in self.stated)})
         self.cut(line, rendition)
         listed = [it for it in self.breaks.known if self.is_listed(it, line, rendition)]
         is_known = self.passes(ranges, listed, line, rendition)
@@ -104,23 +105,30 @@ class Translator:
         behind = (line.low_number - self.lows.get(rendition, line.low_number)) * line.segments[-1].duration
         return self.firsts[rendition] >= line.first - STALE or self.breaks.clock is not None and behind <= STALE
 
-    def restate(self, ranges: list[DateRange], line: Timeline, fresh: int, rendition: str) -> None:
+    def restate(self, ranges: list[DateRange], tags: list[Placed], line: Timeline, fresh: int, rendition: str) -> list[Placed]:
         """A packager whose clock was put right states another START-DATE of a break: one that hasn't begun in a segment before the place
-        `fresh` begins then. The rest as in `of_ranges`."""
+        `fresh` begins then. Of the signals of `tags` those before a change of its clock count before that; answers the others. The rest as in `of_ranges`."""
         before = self.stated.get(rendition, {})
         self.stated[rendition] = {it.id: start for it in ranges if it.is_splice() and (start := it.start()) is not None}
         moved = {name: start for name, start in self.stated[rendition].items() if abs(start - before.get(name, start)) > self.tolerance}
-        for jump in line.jumps(fresh) if self.done.get(rendition) is not None else []:
+        done = self.done.get(rendition)
+        began = done.begins if done is not None and fresh and line.segments[fresh - 1].number == done.number else None
+        for jump in line.jumps(fresh, began) if done is not None else []:
+            if jump.by < 0:  # (what began before the list by the old clock may be still to come by the new one)
+                self.seen[rendition] = {name: said for name, said in self.seen.get(rendition, {}).items() if self.breaks.named(name) is not None}
+            self.count([it for it in tags if it.order[0] < jump.place], line)
+            tags = [it for it in tags if it.order[0] >= jump.place]
             self.breaks.turn_clock(jump, {name for name, start in moved.items() if abs(start - before[name] - jump.by) <= line.half(jump.at)})
         for name, start in moved.items():
             one = self.breaks.named(name)
-            if one is None or abs(one.start - start) <= line.half(start):
+            if one is None or abs(one.start - start) <= (line.half(start) if one.is_settled else self.tolerance):
                 continue
             if not self.breaks.move(one, start, line, fresh):
                 self.stated[rendition][name] = before[name]  # (the segments of the new clock are still to come)
                 continue
             for cuts in self.cuts.values():
                 cuts.pop(name, None)
+        return tags
 
     def first_new(self, found: PackagedList, rendition: str) -> int:
         """The place of the first segment of the list `found` that the `rendition` hasn't listed before; past the last one if none is."""
@@ -251,13 +259,18 @@ class Translator:
         start, until = self.cuts[rendition][one.id]
         return start not in (None, one.start) or until not in (None, one.until)
 
+    def is_moved(self, one: Break, rendition: str) -> bool:
+        """Whether the break `one` has another START-DATE in the `rendition` than its packager states."""
+        stated = self.stated.get(rendition, {}).get(one.id)
+        return stated is not None and abs(self.start_in(one, rendition) - stated) > self.tolerance
+
     def passes(self, ranges: list[DateRange], listed: list[Break], line: Timeline, rendition: str) -> bool:
         """Whether adsplice by itself makes of the date ranges `ranges` just the breaks that are `listed` in the `rendition`. It keeps the first
         value of each attribute, so one of a break that was cancelled, or isn't written yet, may not pass."""
         said: dict[str, dict[str, str]] = {}
         for it in ranges:
             said[it.id] = it.said | said.get(it.id, {})
-        if said.keys() & (self.breaks.cancelled | {it.id for it in self.breaks.known if not it.is_settled and it not in listed}):
+        if said.keys() & (self.breaks.cancelled | {it.id for it in self.breaks.known if it not in listed and (not it.is_settled or self.is_moved(it, rendition))}):
             return False
         if any(it.said is not None or self.is_cut_elsewhere(it, rendition) for it in listed):
             return False
@@ -277,6 +290,8 @@ class Translator:
         if one.until is not None and self.is_ended(one, line):
             until = until if until is not None else one.until if one.clock is not None else line.expected(one.until)
             text += f',END-DATE="{instant_text(until)}"'
+        elif planned is not None and (later := self.next_start(one, rendition)) is not None and start < later < start + planned - self.tolerance:
+            text += f',END-DATE="{instant_text(later)}"'  # (the segments aren't cut where the plan says)
         text += f",PLANNED-DURATION={seconds_text(planned)}" if planned is not None else ""
         return f"{DATE_RANGE}{text},SCTE35-OUT={splice.insert_text((one.event or one.number) % 2**32, planned)}"
 
@@ -293,6 +308,11 @@ class Translator:
         """The instant at which the break `one` begins in the `rendition`, as far as that is known."""
         start = self.cuts.get(rendition, {}).get(one.id, [None, None])[0]
         return one.start if start is None else start
+
+    def next_start(self, one: Break, rendition: str) -> int | None:
+        """The instant of the segment of the `rendition` with which the break after `one` begins; none if none has begun there."""
+        starts = (self.cuts[rendition][it.id][0] for it in self.breaks.known if it.start > one.start and it.clock == one.clock)
+        return next((it for it in starts if it is not None), None)
 
     def ended(self, name: str, rendition: str) -> int | None:
         """The instant of the segment with which the break `name` has ended in the `rendition`; none if it hasn't."""

@@ -98,7 +98,12 @@ def test_days_that_once_broke_a_promise_break_none(room):
     with open(FAILED, encoding="utf-8") as it:
         days = [line.split() for line in it if not line.startswith("#")]
     assert days
-    broken = {seed: [str(it) for it in found[:2]] for seed, each in days if (found := simulated.play(draw(int(seed), float(each))).found)}
+    broken = {}
+    for seed, each, *group in days:
+        simulated.WAYS["is_group"] = bool(group)  # (several machines)
+        if found := simulated.play(simulated.drawn(int(seed), float(each))).found:
+            broken[seed] = [str(it) for it in found[:2]]
+    simulated.WAYS["is_group"] = False
     assert not broken, broken
 
 

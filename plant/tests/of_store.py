@@ -76,7 +76,7 @@ def taken(state, channel, body, seconds, is_refused=False):
     viewed.forget((repairer.past or repairer.last)[0].number)
     pods = copy.deepcopy(stands.pods)
     new = [it.begins for it in repairer.last if it.begins is not None and (not last or it.number > last[-1].number)]
-    pods.enter(starts_in(ranges_in(text)), stands.viewed.ranges.keys(), new, TOLERANCE)
+    pods.enter(starts_in(ranges_in(text)), stands.viewed.ranges.keys(), new, min((it.begins for it in repairer.last if it.begins is not None), default=0), TOLERANCE)
     viewed.reckon(repairer.last, ranges_in(text), Store(pods.held, pods.fallback), TOLERANCE, repairer.head.target)
     repairs = dict(stands.repairs)
     for kind in found.kinds:
