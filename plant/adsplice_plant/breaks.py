@@ -19,6 +19,7 @@ TOLERANCE = SECOND // 10  # adsplice's own
 STALE = 1800 * SECOND  # after which a break without a duration that nothing ended is over
 MOST = 256  # breaks known at a time: adsplice decides no more
 MOST_ALIKE = 8  # segments that are compared, to see whether they are cut regularly
+AWAY = 2  # segments by which a packager that was away may have been so longer than it is seen
 NEAR_JUMPS = 2  # segments by which renditions' media numbers may differ where one change of the packager's clock shows
 SHOWN = 100  # letters of an ID that are told
 Order = tuple[int, int]  # of a tag: the place of the segment before which it stands, and its place among the tags there
@@ -124,7 +125,8 @@ class Line:
 
 class Jump(NamedTuple):
     """A change of a list's clock `by` so much at the instant `at`, after the segment of the media `number`, which began at the instant `last`, and before
-    the segment at the `place`. `is_within`: the packager lists no discontinuity there, and leaves no number out, so that nothing of the programme lies between."""
+    the segment at the `place`. `is_within`: the packager leaves no number out, and lists no discontinuity there, or it can't have been away so long meanwhile: so nothing of
+    the programme lies between."""
 
     last: int
     at: int
@@ -150,10 +152,10 @@ class Numbering(NamedTuple):
 
 class Timeline:
     """The `instants` of a list's `segments`. With `aligns` what lies within half a segment of a segment's begin is put there. `numbering`: which media
-    numbers its segments have in a programme's other renditions."""
+    numbers its segments have in a programme's other renditions; `waited`: how many seconds after the list before it came."""
 
-    def __init__(self, segments: list[PackagedSegment], instants: Instants, aligns: bool = True, numbering: Numbering | None = None) -> None:
-        self.segments, self.aligns, self.numbering = segments, aligns, numbering or Numbering()
+    def __init__(self, segments: list[PackagedSegment], instants: Instants, aligns: bool = True, numbering: Numbering | None = None, waited: float = float("inf")) -> None:
+        self.segments, self.aligns, self.numbering, self.waited = segments, aligns, numbering or Numbering(), waited
         self.low_number, self.last = self.numbering.of(segments[0].number), self.numbering.of(segments[-1].number)
         self.begins, self.low = instants
         self.end = self.begins[-1] + segments[-1].duration
@@ -168,7 +170,8 @@ class Timeline:
             last = self.begins[n - 1] if began is None or n > fresh else began
             by = self.begins[n] - last - before.duration
             if abs(by) > max(SECOND, before.duration):
-                found.append(Jump(last, last + before.duration, by, self.numbering.of(before.number), it.own == before.own + 1 and not it.discontinuities, n))
+                is_within = it.own == before.own + 1 and (not it.discontinuities or by > self.waited * SECOND + AWAY * it.duration)
+                found.append(Jump(last, last + before.duration, by, self.numbering.of(before.number), is_within, n))
         return found
 
     def has_turned(self, one: Break) -> bool:

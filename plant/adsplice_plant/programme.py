@@ -108,7 +108,8 @@ def take_list(turn: Turn, event: ListRead) -> None:
         return
     reach = reach_of(event.body) if len(turn.state.renditions) > 1 else None
     came_at = it.came_at if reach is not None and reach == it.reach else turn.at
-    turn.put(event.channel, came=event.body, reach=reach, came_at=came_at, is_new=True, older=older_than(it, event.body))
+    waited = max(it.waited if it.is_new or came_at == it.came_at else 0.0, came_at - it.came_at) if it.came is not None else it.waited
+    turn.put(event.channel, came=event.body, reach=reach, came_at=came_at, waited=waited, is_new=True, older=older_than(it, event.body))
     if reach is not None and came_at == turn.at:
         note_behind(turn, event.channel, reach)
     turn.set(waits_until=0.0)
@@ -144,7 +145,7 @@ def begin_again(turn: Turn) -> None:
     """The feed has begun: whether the controllers are there isn't known. Nobody waits any more for what an earlier feed waited for."""
     for channel, it in turn.renditions():
         turn.put_controller(channel, way=Way.UNKNOWN, sent=None, trials=0, retry_at=0.0, is_unseen=False)
-        turn.put(channel, came_at=turn.at)
+        turn.put(channel, came_at=turn.at, waited=float("inf"))
     begun = decided.begun_of(turn, turn.state.asked)  # (the others are asked for again, unless they were answered)
     turn.set(asked=dict.fromkeys(begun, turn.at), waits_until=0.0, in_step_since=None)
     presence.begin_again(turn)
@@ -373,11 +374,12 @@ def translate(turn: Turn, translator: Translator, found: dict[str, Taken], busy:
     others.sort(key=lambda it: it[0] in numberings)
     if len(lists) + len(others) > 1:
         for channel, it in (*others, *lists.items()):
-            told += translator.take(it, turn.state.renditions[channel].settings.rendition(), numberings.get(channel)).told
+            rendition = turn.state.renditions[channel]
+            told += translator.take(it, rendition.settings.rendition(), numberings.get(channel), rendition.waited).told
     for channel, it in lists.items():
         rendition = turn.state.renditions[channel]
         name = rendition.settings.rendition()
-        said = translator.take(it, name, numberings.get(channel))
+        said = translator.take(it, name, numberings.get(channel), rendition.waited)
         told, it.signals = told + said.told, said.ranges
         run = rendition.stands.viewed.reckoned.run if rendition.stands.viewed.reckoned is not None else None
         if run is not None and (moved := put_past(rendition.stands, it, translator.ended(run.id, name), translator.tolerance)) is not None:

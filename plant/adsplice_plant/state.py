@@ -80,8 +80,8 @@ class Standing:
 class Rendition:
     """A rendition, whose channel the `settings` tell of: where its lists stand (`stands`), and where they stood `before` its newest one was
     given, until that is answered. `came`: the newest list that was read; how far that goes in a ladder (`reach`), and the moment at which a list came
-    so far first (`came_at`), and the moment since then at which another rendition's came farther first (`behind_since`); `older`: those before it that it doesn't go
-    on from; `is_new`: whether one of them is still to be taken in. `seen_at`: when the written playlist was looked at last."""
+    so far first (`came_at`), how many seconds after the one before (`waited`), and the moment since then at which another rendition's came farther first
+    (`behind_since`); `older`: those before it that it doesn't go on from; `is_new`: whether one of them is still to be taken in. `seen_at`: when the written playlist was looked at last."""
 
     settings: Settings
     stands: Standing
@@ -90,6 +90,7 @@ class Rendition:
     older: tuple[bytes, ...] = ()
     reach: Reach | None = None
     came_at: float = float("-inf")
+    waited: float = float("inf")
     behind_since: float = float("-inf")
     is_new: bool = False
     controller: Controller = Controller()

@@ -71,8 +71,9 @@ class Translator:
 
     # ---- what a list says
 
-    def take(self, found: PackagedList, rendition: str = "", numbering: Numbering | None = None) -> Translated:
-        """Looks at the list `found` of a `rendition`, whose media numbers have this `numbering` in its programme, and answers what it becomes."""
+    def take(self, found: PackagedList, rendition: str = "", numbering: Numbering | None = None, waited: float = float("inf")) -> Translated:
+        """Looks at the list `found` of a `rendition`, whose media numbers have this `numbering` in its programme, and which came so many seconds after the
+        list before (`waited`); answers what it becomes."""
         if not found.segments:
             return Translated()
         ranges, fresh = ranges_of(found), self.first_new(found, rendition)
@@ -80,7 +81,7 @@ class Translator:
         self.look_for_styles(found, ranges, fresh, instants is None)
         if instants is None:
             return Translated(None, self.tellings())
-        line, before = Timeline(found.segments, instants, self.aligns, numbering), {it.id for it in self.breaks.known}
+        line, before = Timeline(found.segments, instants, self.aligns, numbering, waited), {it.id for it in self.breaks.known}
         tags = self.restate(ranges, self.of_segments(found, fresh), line, fresh, rendition)
         self.count(tags + self.of_ranges(ranges, line, fresh, rendition), line)
         self.breaks.settle(line)

@@ -247,6 +247,12 @@ def test_two_announced_breaks_that_touch_are_two_though_the_first_is_short(room)
     assert (run.numbers(), len(run.ids())) == ([14, 15, 16, 17, 18, 19], 2), (run.numbers(), run.ids())
 
 
+def test_a_drawn_case_that_once_went_wrong_is_right(room):
+    """Two breaks touch. The second one is announced in the list that has the first one's segment, 0.95 s after what the first one states."""
+    import drawn
+    assert drawn.wrong_with(753300, 3) is None
+
+
 def test_drawn_sequences_replace_what_they_mean(room):
     seed = random.randrange(10**6)
     print(f"plant: sequences of seed {seed} (plant/tests/drawn.py {seed} 40)", flush=True)
