@@ -211,24 +211,24 @@ class Timeline:
         place = min(max(bisect_left(self.begins, instant + 1, self.low) - 1, self.low), len(self.segments) - 1)
         return self.segments[place].duration // 2
 
-    def nearest(self, instant: int) -> PackagedSegment | None:
+    def nearest(self, instant: int, is_end: bool = False) -> PackagedSegment | None:
         """The listed segment that begins within half a segment of the `instant`; none if there is none, or if the end of the list, where the next segment
-        will begin, is nearer. Of two that are as near it is the later one, which may be still to come; but the earlier one of longer segments than those of
-        other renditions."""
+        will begin, is nearer. Of two that are as near a break begins with the later one, which may be still to come. It ends (`is_end`) with the earlier one,
+        and with that it begins, too, in segments that are longer than those of other renditions."""
         place = bisect_left(self.begins, instant, self.low)
-        near, later = [place for place in (place - 1, place) if self.low <= place < len(self.begins)], self.is_shortest()
+        near, later = [place for place in (place - 1, place) if self.low <= place < len(self.begins)], self.is_shortest() and not is_end
         found = min(near, key=lambda it: (abs(self.begins[it] - instant), -it if later else it))
         by, last = abs(self.begins[found] - instant), abs(self.end - instant)
         return self.segments[found] if by <= self.half(instant) and (by < last or by == last and not later) else None
 
-    def aligned(self, instant: int) -> int:
-        """The begin of the listed segment that is nearest to the `instant`; that itself if none is."""
-        found = self.nearest(instant) if self.aligns else None
+    def aligned(self, instant: int, is_end: bool = False) -> int:
+        """The begin of the listed segment that is nearest to the `instant`; that itself if none is. `is_end` as in `nearest`."""
+        found = self.nearest(instant, is_end) if self.aligns else None
         return instant if found is None or found.begins is None else found.begins
 
-    def is_reached(self, instant: int) -> bool:
-        """Whether a segment is listed that begins at the `instant` or after it, or within half a segment before it."""
-        return self.begins[-1] >= instant or self.nearest(instant) is self.segments[-1]
+    def is_reached(self, instant: int, is_end: bool = False) -> bool:
+        """Whether a segment is listed that begins at the `instant` or after it, or within half a segment before it. `is_end` as in `nearest`."""
+        return self.begins[-1] >= instant or self.nearest(instant, is_end) is self.segments[-1]
 
     def will_have(self, instant: int) -> bool:
         """Whether the `instant` is after the listed segments."""
@@ -432,7 +432,7 @@ class Breaks:
     def finish(self, it: Placed, line: Timeline) -> None:
         """The signal `it` ends a break: the one of its own ID; by a tag that says so the newest open one; by a section one of
         its type, and of its event if both have one."""
-        message, at, half = it.signal.message, line.aligned(it.at), line.half(it.at)
+        message, at, half = it.signal.message, line.aligned(it.at, True), line.half(it.at)
         own = self.named(it.id) if it.is_own_end else None
         if it.is_own_end and own is None and it.signal.is_cue:
             return
@@ -470,10 +470,10 @@ class Breaks:
                 found = line.nearest(one.start)
                 one.number = found.number if found else one.number
                 one.start, one.is_settled = line.aligned(one.start), True
-            if one.until is not None and not one.is_ended and line.has_turned(one) and line.is_reached(one.until):
-                one.until, one.is_ended = line.aligned(one.until) if line.is_shortest() else one.until, True
+            if one.until is not None and not one.is_ended and line.has_turned(one) and line.is_reached(one.until, True):
+                one.until, one.is_ended = line.aligned(one.until, True) if line.is_shortest() else one.until, True
             end = one.end()
-            if end is not None and not one.is_told and line.has_turned(one) and line.is_reached(end):
+            if end is not None and not one.is_told and line.has_turned(one) and line.is_reached(end, True):
                 one.is_told = True
                 self.tell(f"breaks/{shown(one.id)}", "Ends", f"at {instant_text(end)}, after {seconds_text(end - one.start)} s ({one.name})")
         self.known.sort(key=lambda it: it.start)

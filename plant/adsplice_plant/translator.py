@@ -239,9 +239,9 @@ class Translator:
             found = self.cuts[rendition][it.id]
             for place, instant in enumerate((it.start if it.said is None else it.said, it.until)):
                 is_by_old_clock = not place and it.said is not None
-                if instant is not None and found[place] is None and line.is_reached(instant) and (is_by_old_clock or line.has_turned(it)):
+                if instant is not None and found[place] is None and line.is_reached(instant, bool(place)) and (is_by_old_clock or line.has_turned(it)):
                     known = line.end_before(it) if place else line.begin_by_number(it, instant, self.breaks.set_at)
-                    own = known if known is not None else line.aligned(instant) if line.has_turned(it) else instant
+                    own = known if known is not None else line.aligned(instant, bool(place)) if line.has_turned(it) else instant
                     found[place] = own if abs(own - instant) > self.tolerance else instant
             if found[0] is None and it.said is not None and line.has_turned(it) and (first := line.nearest(it.start)) is not None:
                 found[0] = first.begins  # (here the clock changed with the segment with which it begins, or before)
@@ -302,7 +302,7 @@ class Translator:
         and by the packager's new clock, if that has changed, once the list has segments of it."""
         if one.clock is not None:
             return one.is_ended and line.has_turned(one)
-        is_at_end = one.until is not None and one.is_ended and line.is_reached(one.until)
+        is_at_end = one.until is not None and one.is_ended and line.is_reached(one.until, True)
         return is_at_end or one.is_extended() and line.is_reached(one.start + (one.planned or 0))
 
     def start_in(self, one: Break, rendition: str) -> int:
