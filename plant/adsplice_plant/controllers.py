@@ -92,18 +92,22 @@ def next_decision(turn: Turn, channel: str) -> Decided | None:
     """The next decision of the log that the controller of the `channel` hasn't acknowledged; none if it has all."""
     it = turn.state.renditions[channel]
     for one in turn.state.decisions:
-        if one.entry > it.controller.decided and (one.entry > it.controller.anew or not is_idle(turn, channel, one)):
+        if one.entry > it.controller.decided and not is_idle(turn, channel, one):
             return one
     return None
 
 
 def is_idle(turn: Turn, channel: str, one: Decided) -> bool:
-    """Whether the decision `one` says nothing to a channel without a list: a later one takes its place, or takes it back."""
-    later = [it for it in turn.state.decisions if it.entry > one.entry]
+    """Whether the decision `one` says nothing to a channel without a list: its breaks are passed, or to one that was made after it a later one takes its
+    place, or takes it back."""
+    it = turn.state.renditions[channel]
+    is_made = one.entry <= it.controller.anew
     if one.kind == decided.FALLBACK:
-        return any(it.kind == decided.FALLBACK for it in later) or decided.body_of(one, channel) == NO_FALLBACK
-    held = turn.state.renditions[channel].stands.pods.held
-    return one.kind == decided.WITHDRAW or bool(one.ids) and not any(name in held for name in one.ids)
+        is_last = not any(later.kind == decided.FALLBACK and later.entry > one.entry for later in turn.state.decisions)
+        return is_made and (not is_last or decided.body_of(one, channel) == NO_FALLBACK)
+    if one.kind == decided.WITHDRAW:
+        return is_made
+    return (is_made or it.controller.took < 0) and bool(one.ids) and not any(name in it.stands.pods.held for name in one.ids)
 
 
 # ---- lists
