@@ -11,6 +11,7 @@ from .date_ranges import DateRange, read_range
 from .packaged import PackagedList, PackagedSegment
 from .playlist import instant_text, seconds_text
 from .reckoning import known_after
+from .siblings import is_alike, pace_of
 from .signals import duration_of, pieces_of
 from .state import Standing
 from .turn import history_of
@@ -81,8 +82,10 @@ def as_elsewhere(stands: Standing, others: list[Standing], line: str, segments: 
     name, found = packaged.id_in(line), read_range(line)
     for other in others:
         said = other.viewed.ranges.get(name)
-        run = run_of(other, history_of(other), said[0]) if said is not None and name in other.pods.entered and is_behind(stands, other) else None
-        if said is None or run is None or run.is_turned() or (run.end if run.last is not None else end_of(other)) <= end_of(stands):
+        run = run_of(other, history_of(other), said[0]) if said is not None and name in other.pods.entered else None
+        if run is not None and (end := turned_end(stands, other, run, found)) is not None:
+            return f'{without(line, ENDS)},END-DATE="{instant_text(end)}"'
+        if said is None or run is None or not is_behind(stands, other) or run.is_turned() or (run.end if run.last is not None else end_of(other)) <= end_of(stands):
             continue
         length, half = length_of(found), stands.repairer.last[-1].duration // 2
         if run.last is None:
@@ -96,6 +99,16 @@ def as_elsewhere(stands: Standing, others: list[Standing], line: str, segments: 
         if run.last is not None:
             break
     return line
+
+
+def turned_end(stands: Standing, other: Standing, run: Run, found: DateRange) -> int | None:
+    """Where a break is to end that the date range `found` ends before segments which the `other` rendition has in its `run` of it already, if the packager's
+    clock went back within that, and if the rendition that `stands` so is behind. None if it ends as it says."""
+    end, stated = end_of(other), packaged.instant_of(found.said.get("END-DATE", ""))
+    if run.last is not None or end > run.start or stated is None or not stands.repairer.last or not is_alike(pace_of(stands.repairer.last), pace_of(other.repairer.last)):
+        return None
+    mine, its = stands.repairer.last[-1], other.repairer.last[-1]
+    return end if mine.number < its.number and stated + its.duration // 2 < end else None
 
 
 def ended_by(stands: Standing, run: Run, line: str) -> int:
