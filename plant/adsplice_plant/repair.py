@@ -166,7 +166,7 @@ class Repairer:
         self.set_times(found, False)
         if is_timed:
             self.follow_clock(found.segments, kinds)
-            self.keep_clock(found.segments, kinds)
+            self.keep_clock(found.segments, kinds, found.segments[front].number if "began again" in kinds else None)
         if is_untimed:
             kinds["times"] = ""
             self.agree(found.segments)
@@ -287,9 +287,10 @@ class Repairer:
         found.segments = stays + found.segments
         return None if is_over else lead, len(stays)
 
-    def keep_clock(self, segments: list[PackagedSegment], kinds: dict[str, str]) -> None:
+    def keep_clock(self, segments: list[PackagedSegment], kinds: dict[str, str], begun: int | None = None) -> None:
         """Puts those of the new `segments` which another rendition has by another clock on that one: where a packager's clock changes, and which
-        breaks are open there, is the programme's. The packager's numbers say which ones they are: so these have to go on."""
+        breaks are open there, is the programme's. The packager's numbers say which ones they are: so these have to go on. `begun`: the media number from
+        which on it began again, if it did."""
         if self.siblings is None or not self.last:
             return
         new = [self.last[-1], *(it for it in segments if it.number > self.last[-1].number)]
@@ -302,7 +303,7 @@ class Repairer:
                 there = known.get(it.number)
                 if there is None or it.begins is None or it.number - new[0].number != it.own - new[0].own or abs(it.begins - there - by) <= max(SECOND, it.duration):
                     continue
-                if "began again" in kinds or abs(it.begins - mine[it.number] - there + their[it.number] - by) <= it.duration // 2:
+                if begun is not None and it.number >= begun or abs(it.begins - mine[it.number] - there + their[it.number] - by) <= it.duration // 2:
                     kinds["clock"] = ""
                     it.begins = there + by
             return
