@@ -4,7 +4,7 @@ Renditions whose segments are as long have equal media numbers, too. Others have
 """
 from __future__ import annotations
 
-from bisect import bisect_left
+from bisect import bisect_left, bisect_right
 from collections.abc import Mapping
 
 from .packaged import PackagedSegment
@@ -65,7 +65,9 @@ def newest_of(after: int, lists: Mapping[str, Standing], first: str, alike: list
 
 def has_step(stands: Standing, other: PackagedSegment) -> bool:
     """Whether a discontinuity is listed within half of the `other` rendition's segment of where that begins: the one of that rendition may stand elsewhere."""
-    return any(it.discontinuities and abs((it.begins or 0) - (other.begins or 0)) <= other.duration // 2 for it in stands.repairer.last)
+    listed, at, half = stands.repairer.last, other.begins or 0, other.duration // 2
+    low, high = bisect_left(listed, at - half, key=lambda it: it.begins or 0), bisect_right(listed, at + half, key=lambda it: it.begins or 0)
+    return any(it.discontinuities for it in listed[low:high])
 
 
 def numbered(stands: Standing, other: PackagedSegment) -> Numbers | None:
