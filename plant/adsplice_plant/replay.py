@@ -134,12 +134,14 @@ def as_it_runs(stands: Standing, line: str, one: Break | None) -> str:
     reckoned, found = stands.viewed.reckoned, read_range(line)
     if reckoned is None or reckoned.run is None or reckoned.run.id != found.id:
         return line
-    if one is not None and one.said is not None:
-        return line if one.end() is not None else f'{without(line, ENDS)},END-DATE="{instant_text(one.start + reckoned.run.shape.total())}"'
     known = next((it for it in reckoned.breaks if it.id == found.id), None)
     length, total = length_of(found), reckoned.run.shape.total()
     by_pod, given = f"DURATION={seconds_text(total)}", stands.viewed.ranges.get(found.id, ("", 0))[0]
     is_by_pod, is_told = known is not None and [name for name, _ in rules.ends_of(known, total)] == [BY_POD], given.endswith(f",{by_pod}")
+    if one is not None and one.said is not None:
+        end = one.end()
+        is_later = end is None or is_by_pod and end > one.start + total + TOLERANCE
+        return f'{without(line, ENDS)},END-DATE="{instant_text(one.start + total)}"' if is_later else line
     if length is None or not (is_by_pod or is_told):
         return line
     if length > total + TOLERANCE:
