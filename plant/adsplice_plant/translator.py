@@ -225,9 +225,9 @@ class Translator:
         another rendition has come to it. One within which the packager's clock changed is written as long as a segment from before that is listed."""
         if one.is_on_new_clock(line.low_number):
             return True
-        if line.aligns and not line.is_reached(one.start) and not line.will_begin(one.start):
-            return False
         end, start, first = one.end(), self.cuts[rendition][one.id][0], self.firsts[rendition]
+        if line.aligns and start is None and not line.is_reached(one.start) and not line.will_begin(one.start):
+            return False
         return end > first if end is not None else (one.start if start is None else start) >= first - TOLERANCE
 
     def cut(self, line: Timeline, rendition: str) -> None:
