@@ -81,10 +81,11 @@ def question_of(channel: str, renditions: list[str], target: int, one: Break, la
             "name": one.name, "upid": one.upid, "number": one.part or None, "of": one.parts or None, "target": target, "renditions": renditions, "ladder": ladder}
 
 
-def rendition_of(name: str, traits: Traits, piece: int) -> dict[str, Any]:
-    """What a question says of the rendition called `name`: its `traits`, and how long a `piece` is, in nanoseconds; null what isn't known."""
+def rendition_of(name: str, traits: Traits, piece: int, replaced: int | None) -> dict[str, Any]:
+    """What a question says of the rendition called `name`: its `traits`, how long a `piece` is, and how much of it was `replaced`, in nanoseconds; null
+    what isn't known."""
     return {"name": name, "kind": traits.kind or None, "codecs": traits.codecs or None, "size": traits.size or None,
-            "segment": piece / playlist.SECOND if piece else None}
+            "segment": piece / playlist.SECOND if piece else None, "replaced": replaced / playlist.SECOND if replaced is not None else None}
 
 
 def decision_of(body: bytes, name: str) -> tuple[dict[str, Any] | None, str]:
@@ -141,9 +142,10 @@ class Asker:
         """The names of the programme's renditions; none for a channel by itself."""
         return [it for it in self.folders if it]
 
-    def ladder(self, pieces: Mapping[str, int]) -> list[dict[str, Any]]:
-        """What a question says of each rendition; `pieces`: how long their segments are, by the channels' names."""
-        return [rendition_of(name, self.traits.get(name, Traits()), pieces.get(f"{self.name}-{name}" if name else self.name, 0)) for name in self.folders]
+    def ladder(self, it: Ask) -> list[dict[str, Any]]:
+        """What a question says of each rendition, as `it` has that of their channels."""
+        channels = {name: f"{self.name}-{name}" if name else self.name for name in self.folders}
+        return [rendition_of(name, self.traits.get(name, Traits()), it.pieces.get(channel, 0), it.replaced.get(channel)) for name, channel in channels.items()]
 
     def longest(self, target: int | None) -> float:
         """The seconds that a list of this `target` duration may wait: below half of it."""
@@ -190,7 +192,7 @@ class Asker:
     def begin(self, one: Break, it: Ask, now: float, is_again: bool) -> None:
         """Asks for the break `one`. `is_again`: the feed ended while its question was open."""
         lead = max(0.0, (one.start - it.end) / playlist.SECOND)
-        said = question_of(self.name, self.renditions(), it.target or 0, one, self.ladder(it.pieces))
+        said = question_of(self.name, self.renditions(), it.target or 0, one, self.ladder(it))
         bare = frozenset(name for name in self.folders if name and f"{self.name}-{name}" in it.bare)
         question = Question(one.id, one.start, said, now, now + max(self.longest(it.target), lead), bare)
         self.open.append(question)

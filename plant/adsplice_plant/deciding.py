@@ -6,7 +6,7 @@ import json
 import threading
 import time
 from collections import Counter
-from collections.abc import Callable
+from collections.abc import Callable, Mapping
 from concurrent.futures import Future, ThreadPoolExecutor
 from dataclasses import dataclass, field
 from pathlib import Path
@@ -39,7 +39,8 @@ Tell = Callable[[str, str, str, str], None]  # who, status, word, text
 @dataclass(frozen=True)
 class Question:
     """A question of the feed: the `channel`, the break's `id`, its `start` in nanoseconds from 1970 (none if it isn't said), how long it is `planned`
-    in nanoseconds, the longest segment (`target`, in seconds), and the names of the renditions."""
+    in nanoseconds, the longest segment (`target`, in seconds), the names of the renditions, and how many nanoseconds of each one pods have `replaced`, as
+    far as that is said."""
 
     channel: str
     id: str
@@ -47,6 +48,7 @@ class Question:
     planned: int | None
     target: int
     renditions: tuple[str, ...]
+    replaced: Mapping[str, int] = field(default_factory=dict)
 
     def key(self) -> str:
         """By what it is known if it comes again."""
@@ -63,9 +65,16 @@ def question_of(body: bytes) -> Question:
         if not is_right or not isinstance(renditions, list) or not all(isinstance(it, str) for it in renditions):
             raise ValueError("a member has another type")
         start = playlist.read_instant(str(said.get("start") or ""))
-        return Question(channel, id_, start, filling.planned_of(said.get("planned")), target, tuple(renditions))
+        return Question(channel, id_, start, filling.planned_of(said.get("planned")), target, tuple(renditions), replaced_of(said.get("ladder")))
     except (ValueError, KeyError, TypeError, AttributeError, RecursionError) as fault:
         raise ValueError(f"it isn't a question of adsplice-feed: {type(fault).__name__} {str(fault)[:80]}") from None
+
+
+def replaced_of(ladder: object) -> dict[str, int]:
+    """How many nanoseconds of each rendition pods have replaced, by what a question says of its `ladder`; of a rendition of which it says none nothing."""
+    rows = [it for it in ladder if isinstance(it, dict)] if isinstance(ladder, list) else []
+    said = [(it.get("name"), it.get("replaced")) for it in rows]
+    return {name: round(it * SECOND) for name, it in said if isinstance(name, str) and isinstance(it, (int, float)) and 0 <= it < 1e9}
 
 
 @dataclass
@@ -99,7 +108,7 @@ class Channel:
         self.breaks: list[tuple[int, int | None]] = []  # of the schedule
         self.read: tuple[int, int] | None = None  # the time and the size of the file that has them
         self.cleaned = -1e9  # when old answers were taken away
-        self.over = 0  # nanoseconds by which the sound of all its answers lasts longer than the pictures
+        self.balance = filling.Balance()
 
     def begin(self, now: int) -> None:
         """Takes in what an earlier program kept that isn't over at the instant `now`, in nanoseconds from 1970."""
@@ -186,9 +195,11 @@ class Channel:
             return Pod(lacks=found.lacks)
         pod = filling.fill(found, planned, functools.partial(self.ready, ladder=ladder, is_alone=is_alone), self.slate(ladder, is_alone))
         with self.lock:
-            pod, over = filling.balanced(pod, self.over)
-            if question.start is not None:  # (a question by hand is of no break, and its pod isn't shown)
-                self.over = over
+            if question.start is None:  # (a question by hand is of no break, and its pod isn't shown)
+                pod, _ = filling.balanced(pod, self.balance.over)
+            else:
+                self.balance.cut(ladder.cut_apart(question.replaced), ladder.piece // 2)
+                pod, self.balance.over = filling.balanced(pod, self.balance.over)
         return Pod(pod.ready, pod.ads, found.lacks + pod.lacks)
 
     def search(self, client: Asking, planned: int | None, until: float) -> Found:

@@ -81,6 +81,14 @@ class Ladder:
         """Whether its segments have an initialisation section."""
         return any(it.container == FMP4 for it in self.renditions.values())
 
+    def cut_apart(self, replaced: Mapping[str, int]) -> int | None:
+        """By how many nanoseconds pods took more of the sound than of the pictures, if so much was `replaced` of each rendition. None if there is no
+        sound apart from pictures, or one of both isn't known."""
+        sounds = [replaced.get(name) for name, it in self.renditions.items() if it.sound and not it.picture]
+        pictures = [replaced.get(name) for name, it in self.renditions.items() if it.picture]
+        sound, picture = (its[0] if its else None for its in (sounds, pictures))
+        return None if sound is None or picture is None else sound - picture
+
     def rate(self) -> Fraction:
         """How many pictures in a second the cuts go by: the lowest rate of its renditions. Of sound alone, its frames."""
         rates = [it.picture.rate for it in self.renditions.values() if it.picture]

@@ -226,11 +226,14 @@ def range_of(old: tuple[str, int] | None, said: list[Any]) -> tuple[str, int]:
 
 
 def reckoned_said(old: Reckoned | None, now: Reckoned | None) -> Said | None:
-    """What adsplice has by what it was given: its numbers, and the shape of its run's pod and the breaks if they are others than in `old`."""
+    """What adsplice has by what it was given: its numbers, and what was replaced, the shape of its run's pod and the breaks if they are others than in
+    `old`."""
     if now is None:
         return None
     newest, given, media, steps, _, entered = now.kept()
     said: Said = {"at": [newest, given, media, steps, entered, now.is_marked]}
+    if now.replaced != (old.replaced if old is not None else 0):
+        said["replaced"] = now.replaced
     if now.run is not None:
         said["run"] = [now.run.id, now.run.lasted]
         if old is None or old.run is None or old.run.shape != now.run.shape:
@@ -249,7 +252,8 @@ def reckoned_of(old: Reckoned | None, said: Said | None) -> Reckoned | None:
     shape = said.get("shape", before)
     run = [said["run"][0], *shape, said["run"][1]] if "run" in said else None
     breaks = said["breaks"] if "breaks" in said else [kept_break(it) for it in old.breaks] if old is not None else []
-    return replace(Reckoned.read([newest, given, media, steps, run, entered], breaks), is_marked=bool(is_marked))
+    replaced = int(said.get("replaced", old.replaced if old is not None else 0))
+    return replace(Reckoned.read([newest, given, media, steps, run, entered], breaks), is_marked=bool(is_marked), replaced=replaced)
 
 
 def of_viewed(old: Viewed, now: Viewed) -> Said:

@@ -486,7 +486,8 @@ def ask(turn: Turn, translator: Translator, found: dict[str, Taken], end: int) -
     if new:
         listed = {name: found[name].found().segments if name in found else it.stands.repairer.last for name, it in turn.renditions()}
         bare = frozenset(name for name, segments in listed.items() if segments and segments[-1].section is None)
-        turn.actions.append(Ask(tuple(new), target, end, {name: usual_length(it) for name, it in listed.items()}, bare))
+        replaced = {name: reckoned.replaced for name, it in turn.renditions() if (reckoned := it.stands.viewed.reckoned) is not None}
+        turn.actions.append(Ask(tuple(new), target, end, {name: usual_length(it) for name, it in listed.items()}, bare, replaced))
 
 
 def is_decided(turn: Turn, name: str) -> bool:

@@ -94,8 +94,8 @@ class Store:
 class Reckoned:
     """What adsplice has after the lists that it was given: the newest segment's media number (`newest`; none before the first list) and
     discontinuity number (`given`), as they were given; the numbers of the last segment that was written before the open run; that
-    `run`; the known `breaks`, each with the first value of its attributes; the one that was `entered` last; and whether one began or ended
-    in the newest list, or passed without a pod (`is_marked`)."""
+    `run`; the known `breaks`, each with the first value of its attributes; the one that was `entered` last; whether one began or ended
+    in the newest list, or passed without a pod (`is_marked`); and the nanoseconds of the runs that are over (`replaced`)."""
 
     newest: int | None = None
     given: int = 0
@@ -105,6 +105,7 @@ class Reckoned:
     breaks: tuple[Break, ...] = ()
     entered: str | None = None
     is_marked: bool = False
+    replaced: int = 0
 
     def end(self) -> Numbers:
         """The numbers of the last segment that was written."""
@@ -197,7 +198,7 @@ def known_after(before: Reckoned, lines: Iterable[str]) -> tuple[Break, ...]:
 def reckoned(before: Reckoned, new: Sequence[PackagedSegment], moment: Moment) -> tuple[Reckoned, dict[int, Numbers]]:
     """What adsplice has after a list whose segments `new` it wasn't given before; and for each of these that is written, or begins a run, the
     numbers with which a new channel has to begin there to go on, by its media number."""
-    run, entered, is_marked = before.run, before.entered, False
+    run, entered, is_marked, over = before.run, before.entered, False, before.replaced
     media, discontinuity, given = before.media, before.discontinuity, before.given
     begins: dict[int, Numbers] = {}
     if before.newest is None and new:
@@ -205,7 +206,7 @@ def reckoned(before: Reckoned, new: Sequence[PackagedSegment], moment: Moment) -
     for it in new:
         mark = run if moment.goes_on(run, it.begins) else moment.entered(it.begins, entered)
         if run is not None and mark is not run:  # (it is over, and its pod is written as a whole)
-            media, discontinuity, is_marked = media + run.shape.size(), discontinuity + len(run.shape.ads), True
+            media, discontinuity, is_marked, over = media + run.shape.size(), discontinuity + len(run.shape.ads), True, over + run.lasted
         is_marked = is_marked or mark is not run or moment.begins(it.begins)
         if mark is None:
             media, discontinuity = media + 1, discontinuity + (it.discontinuity - given if run is None else 1)
@@ -214,4 +215,4 @@ def reckoned(before: Reckoned, new: Sequence[PackagedSegment], moment: Moment) -
             entered, begins[it.number] = mark.id, (media + 1, discontinuity)
         run, given = None if mark is None else replace(mark, lasted=mark.lasted + it.duration), it.discontinuity
     newest = new[-1].number if new else before.newest
-    return Reckoned(newest, given, media, discontinuity, run, moment.breaks, entered, is_marked), begins
+    return Reckoned(newest, given, media, discontinuity, run, moment.breaks, entered, is_marked, over), begins

@@ -131,7 +131,7 @@ def test_a_break_is_asked_for_once_and_its_list_waits_for_the_answer(room):
     until(lambda: os.path.exists(f"{room.path}/1001.json"), 20, "the answer")
     assert server.questions == [{"channel": "news", "id": "1001", "start": instant(24), "planned": 10, "event": 1001, "type": 0x34,
                                  "name": "Provider Placement Opportunity Start", "upid": "000000002CA0A18A", "number": 1, "of": 1, "target": 2, "renditions": [],
-                                 "ladder": [{"name": "", "kind": None, "codecs": None, "size": None, "segment": 2}]}]
+                                 "ladder": [{"name": "", "kind": None, "codecs": None, "size": None, "segment": 2, "replaced": 0}]}]
     with open(f"{room.path}/1001.json", encoding="utf-8") as file:
         assert file.read() == json.dumps(json.loads(decided(("1001", 5))))
     for newest in range(13, 20):
@@ -298,8 +298,36 @@ def test_a_question_has_what_each_rendition_is_like(room):
     it.channels = [replace(it.channels[0], traits=Traits("VIDEO", "avc1.640028", "1920x1080")), replace(it.channels[1], traits=Traits("AUDIO", "mp4a.40.2"))]
     it.begin()
     it.give(12)
-    assert server.questions[0]["ladder"] == [{"name": "hd", "kind": "VIDEO", "codecs": "avc1.640028", "size": "1920x1080", "segment": 2},
-                                             {"name": "en", "kind": "AUDIO", "codecs": "mp4a.40.2", "size": None, "segment": 2}]
+    assert server.questions[0]["ladder"] == [{"name": "hd", "kind": "VIDEO", "codecs": "avc1.640028", "size": "1920x1080", "segment": 2, "replaced": 0},
+                                             {"name": "en", "kind": "AUDIO", "codecs": "mp4a.40.2", "size": None, "segment": 2, "replaced": 0}]
+
+
+def long_sound(now):
+    """The lists of pictures of 2 s and of sound of 4 s in whole frames at a second of the programme, with breaks of 12 s each 20 s from 12 s on."""
+    frames, cues = [0, 188], {**{at: "#EXT-X-CUE-OUT:12\n" for at in (12, 32, 52)}, **{at: "#EXT-X-CUE-IN\n" for at in (24, 44, 64)}}
+    cuts = {"v": [(2 * n, 2) for n in range(50)], "a": [((375 * (n // 2) + frames[n % 2]) * 1024 / 48_000, (187 if n % 2 else 188) * 1024 / 48_000) for n in range(25)]}
+    found = {}
+    for name, its in cuts.items():
+        there = [(n, *it) for n, it in enumerate(its) if now - 20 <= it[0] and sum(it) <= now + 0.1]
+        lines = [f"{cues.get(at, '') if name == 'v' else ''}#EXT-X-PROGRAM-DATE-TIME:{instant(at)}\n#EXTINF:{lasts:.6f},\n{name}{n}.ts" for n, at, lasts in there]
+        found[name] = "\n".join(["#EXTM3U", "#EXT-X-VERSION:6", "#EXT-X-TARGETDURATION:4", f"#EXT-X-MEDIA-SEQUENCE:{there[0][0]}", *lines, ""])
+    return found
+
+
+def test_a_question_says_how_much_of_each_rendition_pods_have_replaced(room):
+    from adsplice_plant.events import AskedInVain, Began, FallbackRead, ListRead
+    from of_slate import Steps
+    it = Steps("v", "a", ask="http://127.0.0.1:1/decide", fallback="/nowhere/{}.json", slate=None)
+    it.take(Began())
+    pod = json.dumps({"fallback": {"ads": [{"segments": [{"uri": f"http://ads.example/{n}.ts", "duration": "2"} for n in range(6)]}]}})
+    for name in ("v", "a"):
+        it.take(FallbackRead(f"news-{name}", pod.encode()))
+    for now in range(8, 76, 2):
+        for name, text in long_sound(now).items():
+            it.take(ListRead(f"news-{name}", text.encode()))
+        for one in {one.id for asked in it.asked for one in asked.known}:
+            it.take(AskedInVain(one))
+    assert [[one.replaced[f"news-{name}"] for name in ("v", "a")] for one in it.asked] == [[0, 0], [12 * 10**9, 11_989_333 * 10**3], [24 * 10**9, 24 * 10**9]], [one.replaced for one in it.asked]
 
 
 def test_subtitles_beside_fragmented_mp4_get_no_initialisation_section(room):

@@ -11,31 +11,38 @@ NEEDS = ()
 SLATE = json.dumps({"fallback": {"ads": [{"segments": [{"uri": f"http://ads.example/slate-{it}.ts", "duration": "2"} for it in range(2)]}]}}).encode()
 
 
-def settings_of(*names):
-    """The settings of a ladder of the renditions `names`; of a channel by itself if there is one without a name."""
+def settings_of(*names, **more):
+    """The settings of a ladder of the renditions `names`, with `more` of them; of a channel by itself if there is one without a name."""
     from adsplice_plant.settings import ladder_of
-    said = {"origin": "http://origin.example/{}/index.m3u8", "at": "http://127.0.0.1:1", "decisions": "/nowhere/{}", "slate": "/nowhere/slate.json"}
+    said = {"origin": "http://origin.example/{}/index.m3u8", "at": "http://127.0.0.1:1", "decisions": "/nowhere/{}", "slate": "/nowhere/slate.json", **more}
     return ladder_of("news", {**said, "renditions": " ".join(names)} if names != ("",) else {key: it.replace("{}", "a") for key, it in said.items()})
 
 
 class Steps:
-    """A programme of the renditions `names`, each event of which comes a tenth of a second after the last one."""
+    """A programme of the renditions `names`, each event of which comes a tenth of a second after the last one; `more` are settings. It has the lines that
+    were told, and the questions that were asked."""
 
-    def __init__(self, *names):
+    def __init__(self, *names, **more):
         from adsplice_plant import state
-        self.names, self.now, self.lines = names, 0.0, []
-        self.state = state.begin(settings_of(*names), 10**8)
+        from simulation.controller import Controller
+        self.names, self.now, self.lines, self.asked, self.controller = names, 0.0, [], [], Controller()
+        self.state = state.begin(settings_of(*names, **more), 10**8)
 
     def take(self, event):
-        """Takes an event, and answers each request that follows as a controller does that takes all."""
+        """Takes an event, and has a controller answer each request that follows."""
         from adsplice_plant import programme
-        from adsplice_plant.events import Answered, Send, Tell, What
+        from adsplice_plant.events import Answered, Ask, Send, Tell
+        from adsplice_rules.edge import Request
         events = [event]
         while events:
             self.now += 0.1
             self.state, actions = programme.step(self.state, events.pop(0), self.now, int(self.now * 10**9))
             self.lines += [f"{it.who} {it.fault or '-'}: {it.text}" for it in actions if isinstance(it, Tell)]
-            events += [Answered(it.channel, it.request, 201 if it.request.what is What.MAKE else 404 if it.request.what in (What.LOOK, What.CHECK) else 204) for it in actions if isinstance(it, Send)]
+            self.asked += [it for it in actions if isinstance(it, Ask)]
+            for it in (it for it in actions if isinstance(it, Send)):
+                path = f"/channels/{it.channel}/{it.request.what.path}".rstrip("/")
+                reply = self.controller.answer(Request(it.request.what.method, path, it.request.body))
+                events.append(Answered(it.channel, it.request, reply.status, reply.body.partition("\n")[0], body=reply.body.encode()))
 
     def begin(self, **slates):
         """It begins, and has the slate; or that of `slates`, by the renditions' names."""
