@@ -12,10 +12,11 @@ from typing import NamedTuple
 from adsplice_rules.decisions import decisions_of
 from adsplice_rules.values import Fault
 
-from .playlist import SECOND
+from .playlist import SECOND, seconds_text
 from .siblings import is_alike
 
 TEXTS = (".vtt", ".webvtt")  # endings of subtitles' files
+MOST_APART = 0.03  # seconds between the lengths of a break's pods that aren't told: whole frames of sound are no nearer to pictures than half a frame
 Pod = tuple[tuple[float, ...], ...]  # the seconds of the segments of each ad
 
 
@@ -88,6 +89,20 @@ def differences(bodies: Mapping[str, bytes]) -> list[str]:
             found.append(f"{name}: it hasn't the breaks of {first[0]}, with ads {'and segments ' if alike else ''}as long")
         elif None not in (sections, first[2]) and sections != first[2]:
             found.append(f"{name}: its ads have {'' if sections else 'no '}initialisation sections, and those of {first[0]} have {'none' if sections else 'some'}")
+    return found
+
+
+def lengths_apart(bodies: Mapping[str, bytes]) -> list[str]:
+    """Which pods of the decision files `bodies` of a ladder's renditions, by their names, last longer or shorter than those of the first one, though they fit: a
+    sentence for each. The files are right."""
+    (first, shape), *others = ((name, shape_of(body)) for name, body in bodies.items())
+    found = []
+    for name, other in others:
+        for one, pod in other.pods.items() if other is not None and shape is not None else ():
+            by = sum(map(sum, pod)) - sum(map(sum, shape.pods.get(one, pod)))
+            if abs(by) > MOST_APART:
+                found.append(f"{name}: {f'the pod of {one}' if one else 'the fallback'} lasts {seconds_text(round(abs(by) * SECOND))} s {'longer' if by > 0 else 'less'} than that of {first}: "
+                             "players that join streams end to end are out of step by so much more after each such break")
     return found
 
 

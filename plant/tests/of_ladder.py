@@ -238,6 +238,24 @@ def test_ladder_decision_of_which_one_way_is_cut_is_given_once_all_answer(room):
     assert [set(asked(controller, it, "decisions")) for it in NAMES] == [{decided(("b1", 2))}] * 3
 
 
+def test_ladder_an_ad_whose_sound_has_a_rest_is_given_to_none(room):
+    """ffmpeg cuts the sound of an ad of 10 s into five pieces of 2 s, and a sixth one of a frame: numbers would come apart by one at each break."""
+    from adsplice_plant.events import Began, FallbackRead, FolderRead
+    from of_slate import Steps
+    pods = {"v": ["2"] * 5, "a": ["2"] * 5 + ["0.021333"]}
+    ads = {name: {"ads": [{"segments": [{"uri": f"http://ads.example/{name}{n}.ts", "duration": it} for n, it in enumerate(its)]}]} for name, its in pods.items()}
+    it = Steps("v", "a", fallback="/nowhere/{}.json", slate=None)
+    it.take(Began())
+    for name, pod in ads.items():
+        it.take(FallbackRead(f"news-{name}", json.dumps({"fallback": pod}).encode()))
+        it.take(FolderRead(f"news-{name}", {"one.json": ((1, 1, 1), json.dumps({"breaks": [{"id": "b1", **pod}]}).encode())}))
+    for newest in range(5, 14):
+        it.list(listed(max(0, newest - 8), newest, [("b1", 14, 10)]))
+    told = {line for line in it.lines if "Unequal" in line}
+    assert len(told) == 2 and any("fallback Unequal: the renditions' fallback files don't have ads and segments of the same lengths: news-a's aren't those of news-v" in line for line in told), told
+    assert any("decisions/one.json Unequal" in line for line in told) and not any("ads.example" in uri for name in ads for _, uri, _ in it.controller.items(f"news-{name}"))
+
+
 def test_ladder_fallback_that_one_refuses_is_none_in_all(room):
     controller = room.server(FakeController())
     controller.refusals[("PUT", "news-2/decisions")] = [(422, "J3 BadUri ad 0 segment 0\n")]

@@ -153,7 +153,18 @@ def test_the_files_of_a_ladder_are_held_against_one_another(room):
         files = [room.write(name, text) for name, text in (("a.json", one), ("b.json", other))]
         status, out, err = room.run("adsplice-pod", "--check", *files)
         where = f"{room.path}/"
+        assert "out of step" not in out, (one, other, out)
         assert err == "" and (out == "".join(f"{it}: right\n" for it in files)) == (owed == "") == (status == 0) and owed.replace("{}", where) in out, (one, other, out, err)
+
+
+    for pieces, owed in ((["2.0138"] * 5, "0.069 s longer"), (["1.98"] * 5, "0.1 s less"), (["2.004"] * 5, ""), (["2.006"] * 5, "")):
+        for of in ("breaks", "fallback"):
+            texts = [said(it) if of == "breaks" else json.dumps({"fallback": {"ads": json.loads(said(it))["breaks"][0]["ads"]}}) for it in (["2"] * 5, pieces)]
+            files = [room.write(name, text) for name, text in zip(("a.json", "b.json"), texts)]
+            status, out, err = room.run("adsplice-pod", "--check", *files)
+            what = "the pod of b1" if of == "breaks" else "the fallback"
+            line = f"{files[1]}: {what} lasts {owed} than that of {files[0]}: players that join streams end to end are out of step by so much more after each such break\n" if owed else ""
+            assert (status, out, err) == (0, line + "".join(f"{it}: right\n" for it in files), ""), (pieces, of, out, err)
 
 
 test_the_files_of_a_ladder_are_held_against_one_another.needs = ()
