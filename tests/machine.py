@@ -17,7 +17,7 @@ ORIGIN, ADS = "origin.example", "ads.example"
 HOME = "/root/adsplice"  # where the repository is
 SECONDS = 60.0  # until a machine has to be up
 LEFT = ("/opt/adsplice", "/etc/adsplice", "/var/lib/adsplice", "/usr/lib/adsplice", "/var/www/ch", "/usr/sbin/policy-rc.d")  # of an installation on this machine, and of an image
-SERVE_ORIGIN = "(setsid python3 /usr/local/bin/origin >/dev/null 2>&1 &); sleep 1"  # serves a packager's playlist at http://ORIGIN/ch/index.m3u8
+SERVE_ORIGIN = "(setsid python3 /usr/local/bin/origin >/dev/null 2>&1 &); sleep 1"  # serves a packager's playlist at http://ORIGIN/ch/index.m3u8, and at that name in each folder
 ORIGIN_SERVER = '''
 import time
 from datetime import datetime, timezone
@@ -37,7 +37,7 @@ def playlist(now):
 
 class Handler(BaseHTTPRequestHandler):
     def do_GET(self):
-        body = playlist(time.time()).encode() if self.path == "/ch/index.m3u8" else b"x"
+        body = playlist(time.time()).encode() if self.path.endswith("/index.m3u8") else b"x"
         self.send_response(200)
         self.send_header("Content-Length", str(len(body)))
         self.end_headers()
@@ -71,9 +71,9 @@ ln -s /proc/self/fd/0 "$root/dev/stdin"; ln -s /proc/self/fd/1 "$root/dev/stdout
 mount -t tmpfs tmpfs "$root/run"
 mount -t tmpfs tmpfs "$root/tmp"
 ip link set lo up
-hostname tv1
-echo tv1 >"$root/etc/hostname"
-printf '127.0.0.1 localhost tv1 %s %s viewers.example\n' "$3" "$4" >"$root/etc/hosts"
+hostname "$6"
+echo "$6" >"$root/etc/hostname"
+printf '127.0.0.1 localhost %s %s %s viewers.example\n' "$6" "$3" "$4" >"$root/etc/hosts"
 for it in $5; do rm -rf "$root$it"; done
 rm -rf "$root/var/log/journal" "$root"/etc/systemd/system/*.wants
 cd "$root"
@@ -92,11 +92,11 @@ def lacking() -> str:
 
 
 class Machine:
-    """A machine that has the repository at the path `repository` in HOME, and the built `program` where tests/build finds it. A program that
-    `is_unproved` has checks at run time, which need more memory than its unit allows; there the unit's limits of memory don't hold."""
+    """A machine called `name` that has the repository at the path `repository` in HOME, and the built `program` where tests/build finds it. A program
+    that `is_unproved` has checks at run time, which need more memory than its unit allows; there the unit's limits of memory don't hold."""
 
-    def __init__(self, repository: str, program: str, is_unproved: bool = False) -> None:
-        self.repository, self.program, self.is_unproved = repository, program, is_unproved
+    def __init__(self, repository: str, program: str, is_unproved: bool = False, name: str = "tv1") -> None:
+        self.repository, self.program, self.is_unproved, self.name = repository, program, is_unproved, name
         self.room = tempfile.mkdtemp(prefix="machine-")
         self.outer: subprocess.Popen[bytes] | None = None
         self.init = 0
@@ -104,7 +104,7 @@ class Machine:
     def __enter__(self) -> Machine:
         """Starts it, and waits until it is up. Raises OSError if it isn't up in time."""
         apart = ["unshare", "--mount", "--net", "--pid", "--ipc", "--uts", "--cgroup", "--fork", "--kill-child"]
-        self.outer = subprocess.Popen([*apart, "sh", "-c", BOOT, "boot", self.room, self.repository, ORIGIN, ADS, " ".join(LEFT)], stdin=subprocess.DEVNULL, stdout=subprocess.DEVNULL, start_new_session=True)
+        self.outer = subprocess.Popen([*apart, "sh", "-c", BOOT, "boot", self.room, self.repository, ORIGIN, ADS, " ".join(LEFT), self.name], stdin=subprocess.DEVNULL, stdout=subprocess.DEVNULL, start_new_session=True)
         until = time.monotonic() + SECONDS
         try:
             while time.monotonic() < until:
@@ -167,3 +167,37 @@ class Machine:
 
     def __exit__(self, kind: type[BaseException] | None, value: BaseException | None, trace: TracebackType | None) -> None:
         self.end()
+
+
+class Network:
+    """A switch that machines are joined to, in a network of its own."""
+
+    def __init__(self) -> None:
+        self.holder = subprocess.Popen(["unshare", "--net", "sleep", "infinity"], stdin=subprocess.DEVNULL)
+
+    def __enter__(self) -> Network:
+        """It is there. Raises OSError if it can't be."""
+        own, until = os.readlink("/proc/self/ns/net"), time.monotonic() + SECONDS
+        while os.readlink(f"/proc/{self.holder.pid}/ns/net") == own and time.monotonic() < until:
+            time.sleep(0.1)
+        self.ip("link", "add", "switch", "type", "bridge")
+        self.ip("link", "set", "switch", "up")
+        return self
+
+    def ip(self, *words: str) -> None:
+        """Runs iproute2's `ip` with these `words` in it; raises OSError with what it says if it fails."""
+        done = subprocess.run(["nsenter", f"--target={self.holder.pid}", "--net", "ip", *words], capture_output=True, text=True, check=False)
+        if done.returncode:
+            raise OSError(f"ip {' '.join(words)}: {done.stderr.strip()}")
+
+    def join(self, machine: Machine, address: str) -> None:
+        """Joins the `machine` to it: its eth0 has the `address`, with the length of its prefix."""
+        self.ip("link", "add", machine.name, "type", "veth", "peer", "name", "eth0", "netns", str(machine.init))
+        self.ip("link", "set", machine.name, "master", "switch", "up")
+        status, text = machine.run(f"ip addr add {address} dev eth0 && ip link set eth0 up")
+        if status:
+            raise OSError(f"{machine.name}: {text.strip()}")
+
+    def __exit__(self, kind: type[BaseException] | None, value: BaseException | None, trace: TracebackType | None) -> None:
+        self.holder.kill()
+        self.holder.wait()

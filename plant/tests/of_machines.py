@@ -173,7 +173,7 @@ def nginx_of_a_machine(room, own, second, third):
         text = it.read()
     paths = "".join(f"    {it}_temp_path {room.path}/{it};\n" for it in ("client_body", "proxy", "fastcgi", "uwsgi", "scgi"))
     for old, new in (("127.0.0.1:8090", f"127.0.0.1:{own.port}"), ("10.0.0.2:8082", f"127.0.0.1:{second.port}"), ("10.0.0.3:8082", f"127.0.0.1:{third.port}"), ("listen 8080", f"listen 127.0.0.1:{viewers}"),
-                     ("listen 10.0.0.1:8082", f"listen 127.0.0.1:{machines}"), ("allow 10.0.0.0/24", "allow 127.0.0.1"), ("/var/cache/nginx/adsplice", f"{room.path}/cache"),
+                     ("listen 10.0.0.1:8082", f"listen 127.0.0.1:{machines}"), ("allow 10.0.0.0/24", "allow 127.0.0.1"), ("/var/cache/adsplice", f"{room.path}/cache"),
                      ("/var/lib/adsplice/kept", room.path), ("worker_rlimit_nofile 65536;\n", ""), ("worker_connections 16384", "worker_connections 512"),
                      ("http {\n", f"error_log {room.path}/error.log;\npid {room.path}/nginx.pid;\nhttp {{\n{paths}"), ("proxy_cache_valid 200 1s", "proxy_cache_valid 200 0s")):
         assert old in text, old
