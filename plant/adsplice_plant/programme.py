@@ -449,7 +449,7 @@ def leave_out(turn: Turn, one: Break, past: set[str], bare: set[str], fills_othe
         pods.missed.add(one.id)
         turn.put_standing(channel, pods=pods)
     if new and past | bare != turn.state.renditions.keys():
-        why = [f"{', '.join(sorted(its))} {text}" for its, text in ((past, "had passed its start before it was known"), (bare, "has no segment near its start")) if its]
+        why = [f"{', '.join(sorted(its))} {text}" for its, text in ((past, "had passed its start without a pod"), (bare, "has no segment near its start")) if its]
         where = "begins in the other renditions alone" if fills_others else "begins in no rendition"
         turn.tell("", f"breaks/{shown(one.id)}", 0, "Passed", f"{'; '.join(why)}: {where}", is_again=True)
 

@@ -134,8 +134,8 @@ def test_a_break_that_a_rendition_has_passed_is_filled_in_none_or_in_all_others(
     """The pictures signal, and their lists come late: sound has gone past the start by then."""
     late = of(Fault(28.0, "unread", "v", 7.0), Fault(28.0, "unread", "w", 7.0), plan=replace(THREE, speakers=("v", "w")))
     none, others = shown(late), shown(replace(late, fill="others"))
-    assert none == ({"v": "b1 b2", "a": "b1 b2", "w": "b1 b2"}, [], ["p-a had passed its start before it was known: begins in no rendition"]), none
-    assert others == ({"v": "b0 b1 b2", "a": "b1 b2", "w": "b0 b1 b2"}, [], ["p-a had passed its start before it was known: begins in the other renditions alone"]), others
+    assert none == ({"v": "b1 b2", "a": "b1 b2", "w": "b1 b2"}, [], ["p-a had passed its start without a pod: begins in no rendition"]), none
+    assert others == ({"v": "b0 b1 b2", "a": "b1 b2", "w": "b0 b1 b2"}, [], ["p-a had passed its start without a pod: begins in the other renditions alone"]), others
 
 
 def test_a_break_is_filled_in_the_renditions_that_have_not_passed_it(room):
