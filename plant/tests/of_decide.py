@@ -616,14 +616,16 @@ def test_both_makings_of_an_ad_are_given_by_turns(room):
     decide = Decide(room, settings(room, server))
     until(lambda: decide.pod(planned=4.0) == [("car", 2)], 90, "the ad")
 
-    def folder(number=0):
-        return decide.ask(f"t{number}", planned=4.0)[1]["breaks"][0]["ads"][0]["segments"][0]["uri"].split("/")[-3]
+    def folder(number=0, **more):
+        return decide.ask(f"t{number}", planned=4.0, **more)[1]["breaks"][0]["ads"][0]["segments"][0]["uri"].split("/")[-3]
     until(lambda: decide.figure("adsplice_decide_made_total") == 2, 90, "its other making")
     seen = [folder(n) for n in range(12)]
     for n in range(9):
         decide.ask(f"hand{n}", planned=4.0, start=None)
     assert folder(12) != seen[-1], seen  # (what is asked by hand isn't shown, and doesn't count)
     assert len(set(seen)) == 2 and all(seen[n] != seen[n + 1] for n in range(2, 11)), seen
+    cut = [folder(20 + n, ladder=[{"name": "v", "replaced": 4.0 * n}, {"name": "en", "replaced": 4.010666667 * n}, {"name": 3, "replaced": "x"}, 4]) for n in range(8)]
+    assert set(cut[2:]) == {min(seen, key=len)}, (cut, seen)  # (breaks take half a frame more of the sound: each gets the making that has half a frame more)
     frames = []
     for name in sorted(set(seen), key=len):
         path = next(Path(f"{room.path}/ads").glob(f"*/{name}"))
