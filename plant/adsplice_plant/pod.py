@@ -145,7 +145,7 @@ def check(names: list[str], is_verified: bool) -> int:
     wrong = {name: said for name, body in bodies.items() if (said := verdict(body))}
     unlike = [] if wrong else shapes.differences(bodies)
     is_right = not wrong and not unlike
-    lines = unlike or ([] if wrong else shapes.lengths_apart(bodies))
+    lines = list(unlike) if wrong or unlike else shapes.lengths_apart(bodies)
     for name, body in bodies.items():
         absent = absent_of(body) if is_verified and name not in wrong else []
         is_right &= not absent
