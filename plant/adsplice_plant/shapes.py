@@ -95,14 +95,14 @@ def differences(bodies: Mapping[str, bytes]) -> list[str]:
 def lengths_apart(bodies: Mapping[str, bytes]) -> list[str]:
     """Which pods of the decision files `bodies` of a ladder's renditions, by their names, last longer or shorter than those of the first one, though they fit: a
     sentence for each. The files are right."""
-    (first, shape), *others = ((name, shape_of(body)) for name, body in bodies.items())
-    found = []
-    for name, other in others:
-        for one, pod in other.pods.items() if other is not None and shape is not None else ():
-            by = sum(map(sum, pod)) - sum(map(sum, shape.pods.get(one, pod)))
-            if abs(by) > MOST_APART:
-                found.append(f"{name}: {f'the pod of {one}' if one else 'the fallback'} lasts {seconds_text(round(abs(by) * SECOND))} s {'longer' if by > 0 else 'less'} than that of {first}: "
-                             "players that join streams end to end are out of step by so much more after each such break")
+    found = list[str]()
+    known = [(name, it.pods) for name, body in bodies.items() if (it := shape_of(body)) is not None]
+    first, pods = known[0] if known else ("", {})
+    for name, one, pod in [(name, one, pod) for name, its in known[1:] for one, pod in its.items()]:
+        by = sum(sum(ad) for ad in pod) - sum(sum(ad) for ad in pods.get(one, pod))
+        if abs(by) > MOST_APART:
+            found.append(f"{name}: {f'the pod of {one}' if one else 'the fallback'} lasts {seconds_text(round(abs(by) * SECOND))} s {'longer' if by > 0 else 'less'} than that of {first}: "
+                         "players that join streams end to end are out of step by so much more after each such break")
     return found
 
 
