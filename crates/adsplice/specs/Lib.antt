@@ -1,1 +1,3 @@
+pub mod Clients
 pub mod Decisions
+pub mod Inner

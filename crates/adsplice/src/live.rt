@@ -1,8 +1,10 @@
 //! `adsplice live PORT COUNT`: connections on the loopback address, side by side in one thread. The system tells which
 //! of them are ready. What they are answered, and which are given up when, `connections` decides.
-#![tactic(auto, using(connections::proofs::Leading::stays, connections::proofs::Leading::by_one, connections::proofs::Leading::and_then))]
+#![tactic(auto, using(connections::proofs::Leading::stays, connections::proofs::Leading::by_one, connections::proofs::Leading::and_then, connections::proofs::Calling::no_round, connections::proofs::Calling::round_after))]
 
-ghost use Rattle.std.specs.Prelude.{◌<◌, length, vec_len, IfOk};
+ghost use Rattle.std.specs.Prelude.{◌≡◌, ◌<◌, length, vec_len, IfOk};
+ghost use Rattle.connections.specs.Inner.Going.{RoundsGoOn};
+ghost use Rattle.connections.specs.Lines.{new_line};
 ghost use Rattle.connections.specs.Runs.{HasRun};
 
 use crate::clients::Clients;
@@ -72,7 +74,8 @@ fn start_server(
     port: u16,
     count: u32,
 ) -> Result<Started, StartFault>
-    ensures { IfOk result (λ started. 0 < vec_len started.block) }
+    ensures room { IfOk result (λ started. 0 < vec_len started.block) }
+    ensures line { IfOk result (λ started. started.server.line ≡ new_line) }
 {
     let alloc = rt.alloc();
     let NewTable { connections, seats } = Connections::over_new_edge(alloc, hashing)?;
@@ -100,7 +103,8 @@ fn serve_all_sockets(
     block: &mut [u8],
 ) -> bool
     requires { 0 < length block.old }
-    ensures { HasRun connections.old connections.new }
+    ensures run { HasRun connections.old connections.new }
+    ensures rounds { RoundsGoOn server.old.line server.new.line }
 {
     for _ in 0..u64::MAX {
         if server.is_over() {

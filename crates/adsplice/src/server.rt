@@ -1,10 +1,14 @@
 //! Whose turn it is of all clients, who is let in, and whose time is up.
-#![tactic(auto, using(connections::proofs::Leading::stays, connections::proofs::Leading::by_one, connections::proofs::Leading::and_then))]
+#![tactic(auto, using(connections::proofs::Leading::stays, connections::proofs::Leading::by_one, connections::proofs::Leading::and_then, connections::proofs::Calling::line_stays, connections::proofs::Calling::line_goes_on, connections::proofs::Calling::goes_on_after_call, connections::proofs::Calling::is_called_after, connections::proofs::Calling::called_again))]
 
-ghost use Rattle.std.specs.Prelude.{◌<◌, length};
+ghost use Rattle.std.specs.Prelude.{◌≡◌, ◌<◌, length};
+ghost use Rattle.connections.specs.Inner.Going.{LineGoesOn};
+ghost use Rattle.connections.specs.Lines.{LineIsCalled};
 ghost use Rattle.connections.specs.Runs.{HasRun};
 
-use crate::clients::{Clients, fault_at_socket, was_socket_granted};
+use crate::clients::{
+    Clients, call_next, fault_at_socket, join_line, leave_line, was_socket_granted,
+};
 use crate::door::{Door, Opened};
 use crate::faults::Faults;
 use connections::{
@@ -15,6 +19,7 @@ use http_edge::{EdgeFault, MAX_CHANNELS};
 use mio::net::TcpStream;
 use mio::{Events, Token};
 use std::io;
+use std::marker::Model;
 use std::time::{Duration, Instant};
 
 // How many clients are let in before the others have their turn again.
@@ -37,6 +42,14 @@ pub struct Server {
     next_tick: Instant,
 }
 
+impl Model for Server {
+    ghost use Rattle.adsplice.specs.Clients.{ClientsState};
+
+    ghost Value = { ClientsState };
+
+    ghost view = { λ s. s.clients };
+}
+
 fn server_tick_after(now: Instant) -> Instant {
     match now.checked_add(Duration::from_millis(TICK_MILLIS)) {
         Some(then) => then,
@@ -47,7 +60,9 @@ fn server_tick_after(now: Instant) -> Instant {
 impl Server {
     /// A server that has nobody yet of `clients`, and lets in `count` connections of those that come to what was
     /// `opened`. It tells `faults` on standard error.
-    pub fn new(clients: Clients, opened: Opened, faults: Faults, count: u32) -> Server {
+    pub fn new(clients: Clients, opened: Opened, faults: Faults, count: u32) -> Server
+        ensures { result ≡ clients }
+    {
         let next_tick = opened.now;
         Server {
             clients,
@@ -65,7 +80,9 @@ impl Server {
     }
 
     /// Writes the line of the fault `text` to standard error, unless that would wait.
-    pub fn tell(&mut self, rt: &HostRuntime, text: &str) {
+    pub fn tell(&mut self, rt: &HostRuntime, text: &str)
+        ensures { self.new ≡ self.old }
+    {
         self.faults.tell(rt, text);
     }
 
@@ -82,7 +99,9 @@ impl Server {
     }
 
     /// Waits until a client is ready, or a tick has passed. `events` has the clients that are ready.
-    pub fn wait(&mut self, rt: &HostRuntime, events: &mut Events) -> io::Result<()> {
+    pub fn wait(&mut self, rt: &HostRuntime, events: &mut Events) -> io::Result<()>
+        ensures { self.new ≡ self.old }
+    {
         let patience = self.patience();
         self.opened.wait(rt, events, patience)
     }
@@ -98,7 +117,8 @@ impl Server {
 
     // Closes a connection, and has its seat for another.
     fn close(&mut self, connections: &mut Connections, place: usize)
-        ensures { HasRun connections.old connections.new }
+        ensures run { HasRun connections.old connections.new }
+        ensures line { LineGoesOn self.old.line self.new.line }
     {
         self.leave(connections, place);
         self.clients.stop_serving(place);
@@ -108,7 +128,8 @@ impl Server {
 
     // Waits for a client, or closes its connection if the system can't tell of it.
     fn watch(&mut self, connections: &mut Connections, place: usize, again: bool)
-        ensures { HasRun connections.old connections.new }
+        ensures run { HasRun connections.old connections.new }
+        ensures line { LineGoesOn self.old.line self.new.line }
     {
         let Some(Some(client)) = self.clients.at.get_mut(place) else {
             return;
@@ -127,7 +148,8 @@ impl Server {
 
     // Ends a connection whose reply is gone, or that is given up: what its client still sends is awaited for a while.
     fn finish(&mut self, connections: &mut Connections, place: usize, was_granted: bool)
-        ensures { HasRun connections.old connections.new }
+        ensures run { HasRun connections.old connections.new }
+        ensures line { LineGoesOn self.old.line self.new.line }
     {
         self.leave(connections, place);
         self.clients.stop_serving(place);
@@ -148,14 +170,17 @@ impl Server {
     }
 
     // Tells the fault of a connection that is given up.
-    fn tell_given_up(&mut self, rt: &HostRuntime, connections: &Connections, place: usize) {
+    fn tell_given_up(&mut self, rt: &HostRuntime, connections: &Connections, place: usize)
+        ensures { self.new ≡ self.old }
+    {
         if let Some(fault) = fault_at_socket(connections, place) {
             self.faults.tell(rt, fault.text());
         }
     }
 
     fn give_up(&mut self, rt: &HostRuntime, connections: &mut Connections, place: usize)
-        ensures { HasRun connections.old connections.new }
+        ensures run { HasRun connections.old connections.new }
+        ensures line { LineGoesOn self.old.line self.new.line }
     {
         self.tell_given_up(rt, connections, place);
         self.finish(connections, place, false);
@@ -163,7 +188,8 @@ impl Server {
 
     // Gives up a connection whose place, or whose file, another one needs.
     fn evict(&mut self, rt: &HostRuntime, connections: &mut Connections, place: usize)
-        ensures { HasRun connections.old connections.new }
+        ensures run { HasRun connections.old connections.new }
+        ensures line { LineGoesOn self.old.line self.new.line }
     {
         self.tell_given_up(rt, connections, place);
         self.close(connections, place);
@@ -178,7 +204,8 @@ impl Server {
         turn: Turn,
         was_ending: bool,
     )
-        ensures { HasRun connections.old connections.new }
+        ensures run { HasRun connections.old connections.new }
+        ensures line { LineGoesOn self.old.line self.new.line }
     {
         match turn {
             Turn::Waits => self.watch(connections, place, false),
@@ -198,7 +225,8 @@ impl Server {
 
     // From now on a client has its time.
     fn give_time(&mut self, rt: &HostRuntime, connections: &mut Connections, place: usize)
-        ensures { HasRun connections.old connections.new }
+        ensures run { HasRun connections.old connections.new }
+        ensures line { LineGoesOn self.old.line self.new.line }
     {
         self.clients.served.remove(place);
         if self
@@ -221,7 +249,8 @@ impl Server {
         place: usize,
         was_asking: bool,
     )
-        ensures { HasRun connections.old connections.new }
+        ensures run { HasRun connections.old connections.new }
+        ensures line { LineGoesOn self.old.line self.new.line }
     {
         if was_asking && matches!(connections.phase(place), Phase::Answering(_)) {
             self.give_time(rt, connections, place);
@@ -231,7 +260,8 @@ impl Server {
     // The client at a place isn't heard on before there is room for its bytes. If there is no memory to note that, it is
     // disconnected.
     fn wait_for_room(&mut self, rt: &HostRuntime, connections: &mut Connections, place: usize)
-        ensures { HasRun connections.old connections.new }
+        ensures run { HasRun connections.old connections.new }
+        ensures line { LineGoesOn self.old.line self.new.line }
     {
         self.clients.short.remove(place);
         if self.clients.short.push(place, self.opened.now).is_err() {
@@ -242,7 +272,8 @@ impl Server {
 
     // For each client whose bytes have no room one is given up that is quiet, and of whose bytes some are held.
     fn make_room(&mut self, rt: &HostRuntime, connections: &mut Connections)
-        ensures { HasRun connections.old connections.new }
+        ensures run { HasRun connections.old connections.new }
+        ensures line { LineGoesOn self.old.line self.new.line }
     {
         for _ in 0..self.clients.short.len() {
             let quiet = self
@@ -259,7 +290,8 @@ impl Server {
     // Those whose bytes had no room are heard on, as far as there is room now.
     fn hear_short(&mut self, rt: &HostRuntime, connections: &mut Connections, block: &mut [u8])
         requires { 0 < length block.old }
-        ensures { HasRun connections.old connections.new }
+        ensures run { HasRun connections.old connections.new }
+        ensures line { LineGoesOn self.old.line self.new.line }
     {
         for _ in 0..self.clients.short.len() {
             let short = self
@@ -283,7 +315,8 @@ impl Server {
         block: &mut [u8],
     )
         requires { 0 < length block.old }
-        ensures { HasRun connections.old connections.new }
+        ensures run { HasRun connections.old connections.new }
+        ensures line { LineGoesOn self.old.line self.new.line }
     {
         if connections.held() >= held {
             return;
@@ -300,7 +333,8 @@ impl Server {
         block: &mut [u8],
     )
         requires { 0 < length block.old }
-        ensures { HasRun connections.old connections.new }
+        ensures run { HasRun connections.old connections.new }
+        ensures line { LineGoesOn self.old.line self.new.line }
     {
         let place = call.place();
         let Some(Some(client)) = self.clients.at.get_mut(place) else {
@@ -320,7 +354,9 @@ impl Server {
 
     // Notes that the reply to the client at a place is another one, or has another rest, than before its turn: then `was_left`
     // bytes were left.
-    fn note_reply(&mut self, connections: &Connections, place: usize, was_left: usize) {
+    fn note_reply(&mut self, connections: &Connections, place: usize, was_left: usize)
+        ensures { self.new ≡ record self.old { took = self.new.took } }
+    {
         let left = connections.left_at(place);
         if left > 0 && left != was_left {
             self.clients.note_took(place, self.opened.now);
@@ -329,7 +365,8 @@ impl Server {
 
     // While replies that clients haven't taken keep too much memory, the client is disconnected that took bytes longest ago.
     fn bound_replies(&mut self, rt: &HostRuntime, connections: &mut Connections)
-        ensures { HasRun connections.old connections.new }
+        ensures run { HasRun connections.old connections.new }
+        ensures line { LineGoesOn self.old.line self.new.line }
     {
         for _ in 0..self.clients.took.len() {
             if connections.reply_memory() <= MAX_REPLIES {
@@ -351,7 +388,8 @@ impl Server {
         block: &mut [u8],
     ) -> bool
         requires { 0 < length block.old }
-        ensures { HasRun connections.old connections.new }
+        ensures run { HasRun connections.old connections.new }
+        ensures line { LineGoesOn self.old.line self.new.line }
     {
         let place = part.place();
         let Some(Some(client)) = self.clients.at.get_mut(place) else {
@@ -379,11 +417,12 @@ impl Server {
         block: &mut [u8],
     )
         requires { 0 < length block.old }
-        ensures { HasRun connections.old connections.new }
+        ensures run { HasRun connections.old connections.new }
+        ensures line { LineGoesOn self.old.line self.new.line }
     {
         match when {
             When::AtOnce(call) => {
-                self.clients.line.leave(place);
+                leave_line(&mut self.clients.line, place);
                 self.serve(rt, connections, &call, block);
             }
             When::Part(part) => {
@@ -407,7 +446,8 @@ impl Server {
         block: &mut [u8],
     )
         requires { 0 < length block.old }
-        ensures { HasRun connections.old connections.new }
+        ensures run { HasRun connections.old connections.new }
+        ensures line { LineGoesOn self.old.line self.new.line }
     {
         for _ in 0..PARTS {
             match self.when(connections, place, block) {
@@ -429,6 +469,7 @@ impl Server {
     // When the client at a place has its turn, if one is there.
     fn when(&mut self, connections: &Connections, place: usize, block: &mut [u8]) -> Option<When>
         requires { 0 < length block.old }
+        ensures { self.new ≡ self.old }
     {
         match self.clients.at.get_mut(place) {
             Some(Some(client)) => Some(client.when(connections, block)),
@@ -444,26 +485,46 @@ impl Server {
         place: usize,
         channel: usize,
     )
-        ensures { HasRun connections.old connections.new }
+        ensures run { HasRun connections.old connections.new }
+        ensures line { LineGoesOn self.old.line self.new.line }
     {
-        if self.clients.line.join(place, channel).is_err() {
+        if join_line(&mut self.clients.line, place, channel).is_err() {
             self.faults.tell(rt, EdgeFault::OutOfMemory.text());
             self.close(connections, place);
         }
+    }
+
+    // Calls the one whose turn it is of those that stand in line. Whether none is called after it in this round: nobody stands
+    // there, or its request is answered.
+    fn call_one(
+        &mut self,
+        rt: &HostRuntime,
+        connections: &mut Connections,
+        block: &mut [u8],
+    ) -> bool
+        requires { 0 < length block.old }
+        ensures run { HasRun connections.old connections.new }
+        ensures line { LineIsCalled self.old.line self.new.line }
+    {
+        let Some(call) = call_next(&mut self.clients.line) else {
+            return true;
+        };
+        self.serve(rt, connections, &call, block);
+        !connections.is_asking(call.place())
     }
 
     // Calls those that stand in line, by the turns of their channels, until the request of one is answered: at most one in a
     // round. None is called twice.
     fn call_line(&mut self, rt: &HostRuntime, connections: &mut Connections, block: &mut [u8])
         requires { 0 < length block.old }
-        ensures { HasRun connections.old connections.new }
+        ensures run { HasRun connections.old connections.new }
+        ensures line { LineIsCalled self.old.line self.new.line }
     {
+        if self.call_one(rt, connections, block) {
+            return;
+        }
         for _ in 0..self.clients.line.len() {
-            let Some(call) = self.clients.line.call_next() else {
-                return;
-            };
-            self.serve(rt, connections, &call, block);
-            if !connections.is_asking(call.place()) {
+            if self.call_one(rt, connections, block) {
                 return;
             }
         }
@@ -477,7 +538,8 @@ impl Server {
         block: &mut [u8],
     )
         requires { 0 < length block.old }
-        ensures { HasRun connections.old connections.new }
+        ensures run { HasRun connections.old connections.new }
+        ensures line { LineGoesOn self.old.line self.new.line }
     {
         if place == PLACES {
             self.on_somebody(rt, connections);
@@ -495,7 +557,8 @@ impl Server {
         block: &mut [u8],
     )
         requires { 0 < length block.old }
-        ensures { HasRun connections.old connections.new }
+        ensures run { HasRun connections.old connections.new }
+        ensures line { LineGoesOn self.old.line self.new.line }
     {
         for event in events.iter() {
             let Token(place) = event.token();
@@ -505,7 +568,8 @@ impl Server {
 
     // Somebody waits to be let in. If no file was left for it, the client that has asked longest is disconnected.
     fn on_somebody(&mut self, rt: &HostRuntime, connections: &mut Connections)
-        ensures { HasRun connections.old connections.new }
+        ensures run { HasRun connections.old connections.new }
+        ensures line { LineGoesOn self.old.line self.new.line }
     {
         if self.door != Door::NoFile {
             self.door = Door::Open;
@@ -538,7 +602,8 @@ impl Server {
         rt: &HostRuntime,
         connections: &mut Connections,
     ) -> Option<Seat<Socket>>
-        ensures { HasRun connections.old connections.new }
+        ensures run { HasRun connections.old connections.new }
+        ensures line { LineGoesOn self.old.line self.new.line }
     {
         if self.clients.vacant.is_empty() {
             let place = self
@@ -556,7 +621,8 @@ impl Server {
         connections: &mut Connections,
         stream: TcpStream,
     ) -> Option<usize>
-        ensures { HasRun connections.old connections.new }
+        ensures run { HasRun connections.old connections.new }
+        ensures line { LineGoesOn self.old.line self.new.line }
     {
         let seat = self.seat_for_one(rt, connections)?;
         let place = seat.place();
@@ -571,7 +637,9 @@ impl Server {
     }
 
     // The next client that waits, if one does.
-    fn next_client(&mut self) -> Option<TcpStream> {
+    fn next_client(&mut self) -> Option<TcpStream>
+        ensures { self.new ≡ self.old }
+    {
         match self.opened.next_client() {
             Ok(stream) => Some(stream),
             Err(door) => {
@@ -590,7 +658,8 @@ impl Server {
         block: &mut [u8],
     )
         requires { 0 < length block.old }
-        ensures { HasRun connections.old connections.new }
+        ensures run { HasRun connections.old connections.new }
+        ensures line { LineGoesOn self.old.line self.new.line }
     {
         if self.admission.is_open() {
             self.admission.let_in();
@@ -604,7 +673,8 @@ impl Server {
     // Lets in those who wait, at most `LET_IN` of them.
     fn let_in(&mut self, rt: &HostRuntime, connections: &mut Connections, block: &mut [u8])
         requires { 0 < length block.old }
-        ensures { HasRun connections.old connections.new }
+        ensures run { HasRun connections.old connections.new }
+        ensures line { LineGoesOn self.old.line self.new.line }
     {
         for _ in 0..LET_IN {
             if self.door != Door::Open || self.is_full(connections) {
@@ -623,7 +693,8 @@ impl Server {
 
     // Closes those that had time to end.
     fn close_late(&mut self, connections: &mut Connections)
-        ensures { HasRun connections.old connections.new }
+        ensures run { HasRun connections.old connections.new }
+        ensures line { LineGoesOn self.old.line self.new.line }
     {
         for _ in 0..PLACES {
             let overdue = self
@@ -646,7 +717,8 @@ impl Server {
         block: &mut [u8],
     )
         requires { 0 < length block.old }
-        ensures { HasRun connections.old connections.new }
+        ensures run { HasRun connections.old connections.new }
+        ensures line { LineGoesOn self.old.line self.new.line }
     {
         let Some(Some(client)) = self.clients.at.get_mut(place) else {
             return;
@@ -660,7 +732,8 @@ impl Server {
     // Looks at each client whose time is up, and that doesn't stand in line.
     fn give_up_late(&mut self, rt: &HostRuntime, connections: &mut Connections, block: &mut [u8])
         requires { 0 < length block.old }
-        ensures { HasRun connections.old connections.new }
+        ensures run { HasRun connections.old connections.new }
+        ensures line { LineGoesOn self.old.line self.new.line }
     {
         for _ in 0..PLACES {
             let overdue = self
@@ -677,7 +750,8 @@ impl Server {
     // At each tick: clients whose time is up are given up, and after an error it is tried again to let clients in.
     fn tick(&mut self, rt: &HostRuntime, connections: &mut Connections, block: &mut [u8])
         requires { 0 < length block.old }
-        ensures { HasRun connections.old connections.new }
+        ensures run { HasRun connections.old connections.new }
+        ensures line { LineGoesOn self.old.line self.new.line }
     {
         if !has_come(self.next_tick, self.opened.now) {
             return;
@@ -705,7 +779,8 @@ impl Server {
         block: &mut [u8],
     )
         requires { 0 < length block.old }
-        ensures { HasRun connections.old connections.new }
+        ensures run { HasRun connections.old connections.new }
+        ensures line { LineIsCalled self.old.line self.new.line }
     {
         let held = connections.held();
         self.serve_events(rt, connections, events, block);

@@ -7,4 +7,5 @@ mod Isolated
 mod Sent
 mod TurnOrder
 mod Lined
+pub mod Calling
 mod FirstBytes

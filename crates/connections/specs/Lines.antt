@@ -163,3 +163,11 @@ abbrev pub RoundsAreFew : Type 0
 RoundsAreFew = (place channel : ℕ) (before : List LineEvent) (rounds : List (List LineEvent)) → let line : LineState = line_after new_line before in
     channel ≤ no_channel → StandsFor place channel line → CallEach rounds → Waits place line (events_in rounds)
     → length rounds < turn_count * (ahead channel place line.standing + 1)
+
+-- ---- what a server does to its line
+
+-- these events, the newest first, lead from one line to another, and one is called among them, at least
+pub record LineIsCalled (old new : LineState) : Type 0 where
+  pub events : List LineEvent
+  pub leads : new ≡ line_after old events
+  pub called : 1 ≤ calls_in events
