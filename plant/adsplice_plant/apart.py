@@ -48,10 +48,10 @@ def compare(turn: Turn) -> None:
 
 def newest_of(after: int, lists: Mapping[str, Standing], first: str, alike: list[str]) -> Found | None:
     """The numbers that viewers have of the newest segment of the channel `first` past the media number `after` which all `lists` have: by media
-    numbers in those that are cut `alike`, as far as these have one clock there; in the others by the instant at which it begins, unless one has a
-    discontinuity near it. None if there is none."""
+    numbers in those that are cut `alike`, as far as these have one clock there; in the others by the instant at which it begins, unless a discontinuity
+    near it isn't there in all of them. None if there is none."""
     for one in sorted((it for it in lists[first].repairer.last if it.number > after), key=lambda it: -it.number):
-        if len(alike) < len(lists) and any(has_step(it, one) for it in lists.values()):
+        if len(alike) < len(lists) and {step_near(it, one) for it in lists.values()} not in ({None}, {True}):
             continue
         found: dict[str, tuple[int | None, int]] = {}
         for channel, it in lists.items():
@@ -63,11 +63,13 @@ def newest_of(after: int, lists: Mapping[str, Standing], first: str, alike: list
     return None
 
 
-def has_step(stands: Standing, other: PackagedSegment) -> bool:
-    """Whether a discontinuity is listed within half of the `other` rendition's segment of where that begins: the one of that rendition may stand elsewhere."""
+def step_near(stands: Standing, other: PackagedSegment) -> bool | None:
+    """Whether the discontinuity that is listed within half of the `other` rendition's segment of where that begins stands there: that of the other
+    rendition may stand elsewhere. None if there is none."""
     listed, at, half = stands.repairer.last, other.begins or 0, other.duration // 2
     low, high = bisect_left(listed, at - half, key=lambda it: it.begins or 0), bisect_right(listed, at + half, key=lambda it: it.begins or 0)
-    return any(it.discontinuities for it in listed[low:high])
+    steps = [it for it in listed[low:high] if it.discontinuities]
+    return all(abs((it.begins or 0) - at) < it.duration // 2 for it in steps) if steps else None
 
 
 def numbered(stands: Standing, other: PackagedSegment) -> Numbers | None:
