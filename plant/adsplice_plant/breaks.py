@@ -33,7 +33,8 @@ class Break:
     `event` and the `upid`, and which of how many breaks it is (`part`, `parts`; 0 if that isn't said). `number`: of its first segment. `latest`: the
     instant of the newest signal that spoke of it. `is_in_step`: its SCTE35-IN came before any segment after it. `others`: further attributes of its tag. `is_told`: its end was
     told. `clock`: the media number of the last segment before the packager's clock changed, if it was put on the new clock.
-    `said`: its start by the old one, if it had begun by that."""
+    `said`: its start by the old one, if it had begun by that. `slack`: how far from its start it may begin in truth, if only a rendition with longer
+    segments than others has shown that."""
 
     id: str
     start: int
@@ -54,6 +55,7 @@ class Break:
     said: int | None = None
     part: int = 0
     parts: int = 0
+    slack: int = 0
 
     def end(self) -> int | None:
         """Where it ends as far as that is known, by a signal or else by its planned duration."""
@@ -192,6 +194,11 @@ class Timeline:
         begins = (begin for begin, it in zip(self.begins, self.segments) if self.numbering.of(it.number) <= one.clock)
         return end if any(abs(it - end) <= TOLERANCE for it in begins) else None
 
+    def end_after(self, start: int, end: int) -> int:
+        """The instant `end` at which a break ends that begins with the segment at `start`: with the next segment at the earliest."""
+        first = next((it for it in self.segments if it.begins is not None and abs(it.begins - start) <= TOLERANCE), None)
+        return end if first is None else max(end, start + first.duration)
+
     def begin_by_number(self, one: Break, instant: int, clock: int | None) -> int | None:
         """Where the break `one` begins that is said to begin at the `instant`, if no segment begins near it: with the one that has the number of its first
         segment, if that begins less than a segment away, or the packager's clock changed there (`clock`: after the segment of this number). None if there
@@ -319,10 +326,13 @@ class Breaks:
         if message.type is not None and message.type not in self.types and (self.is_narrowed or not it.signal.is_cue):
             self.ignore(it, "begins no break by the settings")
             return None
-        start, half = line.aligned(it.at), line.half(it.at)
+        start, half = line.aligned(it.at) if line.is_shortest() else it.at, line.half(it.at)
+        if self.is_shown_again(it, start, line):
+            return None
         before = self.latest(start + half)
         planned = self.duration_of(it)
-        if self.named(it.id) or it.id in self.cancelled or planned is not None and start + planned <= line.first:
+        is_known = self.named(it.id) is not None or not it.id and self.named(self.name_of(it, line.nearest(start), line)) is not None
+        if is_known or it.id in self.cancelled or planned is not None and start + planned <= line.first:
             return None  # (it is known, or was over before this list)
         if before is not None and not self.is_next(before, it, start, line) and self.is_spoken_of(before, it, start, half, planned):
             return None
@@ -332,6 +342,19 @@ class Breaks:
         if before is not None and not before.is_over(start + half):
             before.until = start
         return self.add(it, line, start, planned)
+
+    def is_shown_again(self, it: Placed, start: int, line: Timeline) -> bool:
+        """Whether the signal `it`, at `start`, is that of a break which a rendition with longer segments has shown already. That begins there then: longer
+        segments say less of it."""
+        message = it.signal.message
+        near = [one for one in self.known if one.slack and one.clock == self.clock and abs(one.start - start) <= one.slack + line.half(start)
+                and message.type == one.type and (0 in (message.event, one.event) or message.event == one.event) and it.id in ("", one.id)]
+        if not near or not line.is_shortest():
+            return False
+        one = min(near, key=lambda one: abs(one.start - start))
+        one.number, one.start, one.latest, one.slack = line.numbering.of(it.number), start, max(one.latest, start), 0
+        self.known.sort(key=lambda it: it.start)
+        return True
 
     def duration_of(self, it: Placed) -> int | None:
         """How long the break of the signal `it` is planned to last: by its tag, or else by its section."""
@@ -374,12 +397,18 @@ class Breaks:
         is_section = message.type is not None or message.event
         name = message.name() if is_section or not it.signal.is_cue else "a tag without a section"
         number = line.numbering.of(found.number if found else it.number)
-        new = Break(it.id or f"{message.event or 'cue'}-{number}", start, number, name, message.type, message.event, message.upid, planned,
-                    is_settled=found is not None or start < line.first or not line.aligns, latest=start, others=it.others, clock=self.clock, part=message.part, parts=message.parts)
+        new = Break(it.id or self.name_of(it, found, line), start, number, name, message.type, message.event, message.upid, planned,
+                    is_settled=line.is_shortest() and found is not None or start < line.first or not line.aligns, latest=start, others=it.others, clock=self.clock, part=message.part,
+                    parts=message.parts, slack=0 if line.is_shortest() or it.id else line.half(start))
         insort(self.known, new, key=lambda one: one.start)
         length = "without a duration" if planned is None else f"planned for {seconds_text(planned)} s"
         self.tell(f"breaks/{shown(new.id)}", "Begins", f"at {instant_text(start)}, {length} ({name})")
         return new
+
+    @staticmethod
+    def name_of(it: Placed, first: PackagedSegment | None, line: Timeline) -> str:
+        """The ID of a break that the signal `it` begins without one: by its event, and by the media number of its `first` segment on `line`."""
+        return f"{it.signal.message.event or 'cue'}-{line.numbering.of(first.number if first else it.number)}"
 
     def move(self, one: Break, start: int, line: Timeline, fresh: int) -> bool:
         """The break `one` is said to begin at `start`, perhaps by another clock than before. It does, unless it has begun on `line` before

@@ -1,31 +1,56 @@
 """One edge for all renditions of a programme: what is given ends where all of them have come (RFC 8216, 6.2.4)."""
 from __future__ import annotations
 
-from .packaged import duration_of
-from .siblings import Reach, is_alike, pace_of, reach_of
-from .state import Rendition
-from .turn import Turn
+from .breaks import AWAY
+from .packaged import PackagedSegment, duration_of
+from .playlist import SECOND
+from .siblings import NEAR, Reach, is_alike, pace_of, reach_of
+from .state import Rendition, Standing
+from .turn import Turn, history_of
 
 PATIENCE = 2.0  # target durations without a new segment, after which nobody waits for a rendition
 MOST_APART = 4  # segments by which media numbers of lists may differ and still be of one count, if their instants don't tell
+UNKNOWN = 2**63  # a media number that no list has
 EXTINF = b"#EXTINF:"
 
 
 def edge_of(turn: Turn, channel: str) -> Reach | None:
-    """How far the list of the `channel` is given: up to where each other rendition has come that is waited for; none if none is. One whose segments
-    are longer says nothing of the time until its next one is whole; one whose segments are shorter has come within half of one of its own."""
-    mine, reaches, others = measured(turn.state.renditions[channel]), list[Reach](), list[Reach]()
+    """How far the list of the `channel` is given, by its own clock: up to where each other rendition has come that is waited for; none if none is. One whose
+    segments are longer says nothing of the time until its next one is whole; one whose segments are shorter has come within half of one of its own."""
+    its = turn.state.renditions[channel]
+    mine, reaches, others = measured(its), list[Reach](), list[Reach]()
     for name, it in turn.renditions():
         if name == channel or (reach := awaited(turn, it)) is None:
             continue
+        reach = reach if reach.instant is None else reach._replace(instant=reach.instant - set_between(its.stands, it.stands))
         if is_alike(mine, pace := measured(it)):
             reaches.append(reach)
         elif reach.instant is not None:
-            others.append(reach._replace(instant=reach.instant + (pace - mine * 5 // 8 if pace > mine else (pace - mine) // 2)))
+            others.append(Reach(reach.instant + (pace - mine * 5 // 8 if pace > mine else (pace - mine) // 2), UNKNOWN, reach.last))
     timed = [it for it in (*reaches, *others) if it.instant is not None]
     if timed and all(it.is_near(timed[0]) for it in timed):
         return min(timed, key=lambda it: it.instant or 0)
     return min(reaches, key=lambda it: it.number) if reaches else None
+
+
+def set_between(mine: Standing, other: Standing) -> int:
+    """By how many nanoseconds the packager has set its clock between the newest segments that were given of a rendition (`mine`) and of the `other` one, of
+    which one has come farther; 0 if it hasn't, or if that isn't known."""
+    if not mine.repairer.last or not other.repairer.last:
+        return 0
+    one, last = mine.repairer.last[-1], other.repairer.last[-1]
+    if one.begins is None or last.begins is None or abs(one.begins - last.begins) <= 2 * max(one.duration, last.duration):
+        return 0
+    return set_since(one, history_of(other)) or -set_since(last, history_of(mine))
+
+
+def set_since(one: PackagedSegment, history: list[PackagedSegment]) -> int:
+    """By how many nanoseconds a clock was set in the `history` of another rendition since the segment `one` began; 0 if that has no segment then."""
+    for place in range(len(history) - 1, max(-1, len(history) - 1 - NEAR), -1):
+        it = history[place]
+        if it.begins is not None and abs(it.begins - (one.begins or 0)) <= max(it.duration, one.duration) // 2:
+            return (history[-1].begins or 0) - it.begins - sum(one.duration for one in history[place:-1])
+    return 0
 
 
 def measured(it: Rendition) -> int:
@@ -39,7 +64,18 @@ def awaited(turn: Turn, it: Rendition) -> Reach | None:
     came = it.came if it.came is not None else it.stands.text
     if not came or turn.at >= patience_ends(it, turn.target()) or it.older or it.stands.repairer.held_since is not None:
         return None
-    return it.reach if it.reach is not None else reach_of(came)
+    return by_last(it, it.reach if it.reach is not None else reach_of(came))
+
+
+def by_last(it: Rendition, reach: Reach) -> Reach:
+    """How far a list of the rendition goes that goes as far as `reach`, by the clock of what was given last. The packager may have set its clock since: it
+    went back, or on farther than the time in which no list came."""
+    last = it.stands.repairer.last[-1] if it.stands.repairer.last else None
+    if last is None or last.begins is None or reach.instant is None or not 0 < (count := reach.number - last.own - 1) <= NEAR:
+        return reach
+    end = last.begins + last.duration + count * reach.last
+    by, most = reach.instant - end, max(SECOND, last.duration, reach.last)
+    return reach._replace(instant=end) if by < -most or by > it.waited * SECOND + (AWAY + count) * most else reach
 
 
 def patience_ends(it: Rendition, target: float) -> float:
@@ -49,10 +85,12 @@ def patience_ends(it: Rendition, target: float) -> float:
     return max(found, it.behind_since + target) if it.behind_since > it.came_at else found
 
 
-def note_behind(turn: Turn, channel: str, reach: Reach) -> None:
-    """A list of the `channel` has come as far as `reach`: the others that haven't are behind from now on, unless they are already."""
+def note_behind(turn: Turn, channel: str, reach: Reach, since: float) -> None:
+    """A list of the `channel` has come as far as `reach`: the others that haven't are behind from now on, unless they are already. If no rendition has had
+    a new segment `since` longer than a target duration ago, none of them was behind until now."""
+    is_quiet = turn.at - since > turn.target()
     for name, it in turn.renditions():
-        if name != channel and it.reach is not None and it.behind_since <= it.came_at and not it.reach.covers(reach):
+        if name != channel and it.reach is not None and (is_quiet or it.behind_since <= it.came_at) and not it.reach.covers(reach):
             turn.put(name, behind_since=turn.at)
 
 

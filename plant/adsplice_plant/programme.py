@@ -10,7 +10,7 @@ from collections.abc import Collection, Mapping
 from dataclasses import dataclass, replace
 
 from . import apart, controllers, decided, joining, packaged, presence, ranges, repairs, slates, spelling
-from .edges import edge_of, note_behind, patience_ends, up_to
+from .edges import by_last, edge_of, note_behind, patience_ends, up_to
 from .breaks import Break, Line, Numbering, shown
 from .events import Action, Answered, Ask, AskedInVain, Began, Event, FallbackRead, FolderRead, Found, ListRead, Looked, OriginChanged, SlateRead, Tell
 from .events import Repaired as RepairTold
@@ -109,9 +109,10 @@ def take_list(turn: Turn, event: ListRead) -> None:
     reach = reach_of(event.body) if len(turn.state.renditions) > 1 else None
     came_at = it.came_at if reach is not None and reach == it.reach else turn.at
     waited = max(it.waited if it.is_new or came_at == it.came_at else 0.0, came_at - it.came_at) if it.came is not None else it.waited
+    since = max(one.came_at for _, one in turn.renditions())
     turn.put(event.channel, came=event.body, reach=reach, came_at=came_at, waited=waited, is_new=True, older=older_than(it, event.body))
     if reach is not None and came_at == turn.at:
-        note_behind(turn, event.channel, reach)
+        note_behind(turn, event.channel, reach, since)
     turn.set(waits_until=0.0)
 
 
@@ -310,7 +311,7 @@ def righted(turn: Turn, channel: str, found: dict[str, Taken]) -> Taken:
     if not it.settings.repair:
         return Taken(it.stands.repairer, Repaired(packaged.as_listed(read(body)), came=body), body, False)
     edge = edge_of(turn, channel) if len(turn.state.renditions) > 1 and not it.older else None
-    text = up_to(body, it.reach or reach_of(body), edge) if edge is not None else body
+    text = up_to(body, by_last(it, it.reach or reach_of(body)), edge) if edge is not None else body
     repairer = changed(it.stands.repairer)
     repairer.siblings = siblings_of(turn, channel, found) if len(turn.state.renditions) > 1 else None
     if it.is_other:

@@ -90,7 +90,8 @@ def as_elsewhere(stands: Standing, others: list[Standing], line: str, segments: 
         length, half = length_of(found), stands.repairer.last[-1].duration // 2
         if run.last is None:
             lasts, longest = end_of(other) - run.start, other.repairer.last[-1].duration
-            is_other = length is not None and length < lasts - (half if 3 * half > longest else longest)  # (longer segments say less of the end)
+            least = lasting(run.start, end_of(other), found.start(), segments) if 3 * half > longest else lasts - longest  # (longer segments say less of the end)
+            is_other = length is not None and length < least - TOLERANCE
         else:
             lasts = lasting(run.start, ended_by(other, run, said[0]), found.start(), segments)
             is_other = length is None or abs(length - lasts) > half
@@ -120,9 +121,10 @@ def ended_by(stands: Standing, run: Run, line: str) -> int:
 
 
 def lasting(began: int, end: int, start: int | None, segments: list[PackagedSegment]) -> int:
-    """How long a break lasts that began at the instant `start` here, and in another rendition from `began` to `end`: up to the nearest of the `segments`."""
-    near = min((it for it in segments if it.begins is not None), key=lambda it: abs((it.begins or 0) - end), default=None)
-    if near is None or near.begins is None or start is None or 2 * abs(near.begins - end) >= near.duration:
+    """How long a break lasts that began at the instant `start` here, and in another rendition from `began` to `end`: up to the nearest of the `segments` after
+    its first one."""
+    near = min((it for it in segments if it.begins is not None and it.begins > (start or 0) + TOLERANCE), key=lambda it: abs((it.begins or 0) - end), default=None)
+    if near is None or near.begins is None or start is None or 2 * abs(near.begins - end) > near.duration:
         return end - began
     return near.begins - start
 
@@ -139,9 +141,10 @@ def as_it_runs(stands: Standing, line: str, one: Break | None) -> str:
     by_pod, given = f"DURATION={seconds_text(total)}", stands.viewed.ranges.get(found.id, ("", 0))[0]
     is_by_pod, is_told = known is not None and [name for name, _ in rules.ends_of(known, total)] == [BY_POD], given.endswith(f",{by_pod}")
     if one is not None and one.said is not None:
-        end = one.end()
-        is_later = end is None or is_by_pod and end > one.start + total + TOLERANCE
-        return f'{without(line, ENDS)},END-DATE="{instant_text(one.start + total)}"' if is_later else line
+        stated, end = found.start() or one.start, one.end()
+        start = stated + one.start - one.said if abs(stated - one.said) < abs(stated - one.start) else stated  # (here it may have begun by the new clock)
+        is_later = end is None or is_by_pod and end > start + total + TOLERANCE
+        return f'{without(line, ENDS)},END-DATE="{instant_text(start + total)}"' if is_later else line
     if length is None or not (is_by_pod or is_told):
         return line
     if length > total + TOLERANCE:

@@ -232,9 +232,11 @@ class Translator:
 
     def cut(self, line: Timeline, rendition: str) -> None:
         """Takes in where the breaks begin and end in the `rendition`, whose list is that of `line`, once it has come there: at its own nearest
-        segment, if it is cut elsewhere than the rendition that showed the signal. That stays, since it is written then."""
+        segment, if it is cut elsewhere than the rendition that showed the signal. That stays, since it is written then. Of breaks that follow one another
+        the later one begins where the one before it has ended, at the earliest."""
         cuts = self.cuts.get(rendition, {})
         self.cuts[rendition] = {it.id: cuts.get(it.id, [None, None]) for it in self.breaks.known}
+        before: Break | None = None
         for it in self.breaks.known:
             found = self.cuts[rendition][it.id]
             for place, instant in enumerate((it.start if it.said is None else it.said, it.until)):
@@ -243,8 +245,22 @@ class Translator:
                     known = line.end_before(it) if place else line.begin_by_number(it, instant, self.breaks.set_at)
                     own = known if known is not None else line.aligned(instant, bool(place)) if line.has_turned(it) else instant
                     found[place] = own if abs(own - instant) > self.tolerance else instant
+                    found[place] = self.in_order(line, rendition, it, before, place)
             if found[0] is None and it.said is not None and line.has_turned(it) and (first := line.nearest(it.start)) is not None:
                 found[0] = first.begins  # (here the clock changed with the segment with which it begins, or before)
+            before = it
+
+    def in_order(self, line: Timeline, rendition: str, one: Break, before: Break | None, place: int) -> int | None:
+        """Where the break `one` begins (`place` 0) or ends (1) in the `rendition`, whose segments may be longer than those of other renditions: it has a
+        segment at least, and begins no earlier than the break `before` it ended, if it follows that."""
+        start, until = self.cuts[rendition][one.id]
+        if line.is_shortest() or one.clock is not None:
+            return (start, until)[place]
+        if place:
+            return until if start is None or until is None else line.end_after(start, until)
+        ended = None if before is None else before.end()
+        own = None if before is None or before.clock is not None or ended is None or one.start < ended - self.tolerance else self.cuts[rendition][before.id][1]
+        return start if own is None or start is None else max(start, own)
 
     def begin_at(self, rendition: str, lines: list[str] | None, began: int, begins: int) -> list[str] | None:
         """A segment of the `rendition`, which began at the instant `began`, has the instant `begins`: so have the breaks that begin with it. The

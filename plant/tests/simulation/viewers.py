@@ -139,8 +139,15 @@ class Viewers:
         after = self.plan.breaks[self.since[-1].place].end if self.since and self.since[-1].place >= 0 else self.reached
         next_one = next((it.begin for it in self.between(after, after + MOST_AWAY) if self.was_read(it)), after)  # (what lies before that is nobody's)
         near = [(it.name != name, order, abs(it.start - at), place) for order, at in enumerate((after, next_one)) for place, it in enumerate(self.plan.breaks)
-                if abs(it.start - at) <= self.packager.length // 2 + NEAR]
+                if abs(it.start - at) <= self.half_at(it.start) + NEAR]
         return min(near)[-1] if near else -1
+
+    def half_at(self, start: int) -> int:
+        """How far from its `start` a break may begin: half a segment, of the longest ones of all renditions if none of the own ones near it was read, since
+        the others say where it begins."""
+        half = self.packager.length // 2
+        is_read = any(self.was_read(it) for it in self.packager.all if abs(it.begin - start) <= half)
+        return half if is_read else max(it.length for it in self.others.values()) // 2
 
     def was_read(self, it: Cut) -> bool:
         """Whether the feed read a segment of the packager in a list."""
