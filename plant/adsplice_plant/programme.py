@@ -209,6 +209,8 @@ def take_lists(turn: Turn) -> None:
         return
     if not any(it.stands.entry for _, it in turn.renditions()):
         due.sort(key=lambda channel: first_instant(turn.state.renditions[channel].came or b""))
+    else:  # (of those that begin again together each has what the others have that begin before it)
+        due.sort(key=lambda channel: 0 if (it := turn.state.renditions[channel]).stands.repairer.held_since is None else first_instant(it.came or b""))
     found: dict[str, Taken] = {}
     older = {channel: turn.state.renditions[channel].older for channel in due}
     for channel in due:
@@ -343,8 +345,10 @@ def siblings_of(turn: Turn, channel: str, found: dict[str, Taken]) -> Siblings:
         listed, new = it.stands.repairer.past[-MOST_REMEMBERED:] + it.stands.repairer.last, found[name].found().segments if name in found else []
         is_like = is_alike(pace, pace_of(listed or new))
         if name != channel:
-            fresh = [one for one in new if listed and one.number > listed[-1].number]
-            siblings.append(Sibling(it.settings.base, listed or new, it.stands.repairer.held_since is not None, is_like and it.settings.group == mine.settings.group, is_like, fresh))
+            listed += [one for one in new if not listed or one.number > listed[-1].number]
+            held_since = it.stands.repairer.held_since
+            waits = held_since is not None and name not in found and turn.at - held_since < (target_of(turn.state, name) or 0)
+            siblings.append(Sibling(it.settings.base, listed, held_since is not None, waits, is_like and it.settings.group == mine.settings.group, is_like))
     return Siblings(siblings)
 
 

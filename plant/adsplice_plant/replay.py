@@ -159,16 +159,17 @@ def length_of(found: DateRange) -> int | None:
 
 
 def put_past(stands: Standing, found: PackagedList, ended: int | None, tolerance: int) -> tuple[int, int] | None:
-    """Puts the first new segment of the list `found` at the end that adsplice knows of the open break, if it begins before that: the packager's
-    clock went back, and by its segments the break has `ended` there. The instants at which it began and begins; none if it stays."""
+    """Puts the first new segment of the list `found` with which the open break has `ended` at the end that adsplice knows of that, if it begins before that: the
+    packager's clock went back. The instants at which it began and begins; none if it stays."""
     reckoned = stands.viewed.reckoned
     if ended is None or reckoned is None or reckoned.run is None or not stands.repairer.last:
         return None
     breaks = {it.id: it for it in known_after(reckoned, found.date_ranges())}
     known = breaks.pop(reckoned.run.id, None)
     end = None if known is None else ends_at(known, reckoned.run.shape.total())
-    it = next((it for it in found.segments if it.number > stands.repairer.last[-1].number), None)
-    if end is None or it is None or it.begins is None or not ended - tolerance <= it.begins < end - tolerance:
+    new = (it for it in found.segments if it.number > stands.repairer.last[-1].number)
+    it = next((it for it in new if it.begins is None or it.begins >= ended - tolerance), None)
+    if end is None or it is None or it.begins is None or it.begins >= end - tolerance:
         return None
     if any(one.start is not None and abs(one.start - end) <= tolerance for one in breaks.values()):
         end += tolerance + MILLISECOND  # (another break begins there, with a later segment)

@@ -2,7 +2,6 @@
 from __future__ import annotations
 
 from bisect import bisect_left
-from collections.abc import Sequence
 from dataclasses import replace
 from typing import NamedTuple
 
@@ -18,16 +17,16 @@ MOST_MEASURED = 8  # newest segments by which it is seen how long a rendition's 
 
 
 class Sibling(NamedTuple):
-    """A rendition: the `base` of its references, the `segments` that it has listed, the oldest first, whether a list of it that doesn't go
-    on is held back (`is_held`), and whether it `lends` segments, being of the same kind: pictures have no use for sound alone. `is_alike`: its
-    segments are as long, so that its media numbers are those of the one that sees it. `fresh`: the new segments of a list that comes with that one's."""
+    """A rendition: the `base` of its references, the `segments` that it has listed, the oldest first, also those of a list that comes with that of the
+    one that sees it; whether a list of it that doesn't go on is held back (`is_held`), and for now (`waits`); and whether it `lends` segments, being of the same
+    kind: pictures have no use for sound alone. `is_alike`: its segments are as long, so that its media numbers are those of the one that sees it."""
 
     base: str
     segments: list[PackagedSegment]
     is_held: bool = False
+    waits: bool = False
     lends: bool = True
     is_alike: bool = True
-    fresh: Sequence[PackagedSegment] = ()
 
     def newest(self) -> list[PackagedSegment]:
         """The segments since its packager's clock went back last: those before have the same instants."""
@@ -49,12 +48,10 @@ class Sibling(NamedTuple):
         """Whether it has a segment with the media number of the `other` rendition's that begins when that does, or nearly."""
         return any(it.number == other.number and abs((it.begins or 0) - (other.begins or 0)) <= other.duration // 2 for it in self.segments)
 
-
     def since(self, other: PackagedSegment) -> list[PackagedSegment]:
-        """Its segments from the one on that has the media number of the `other` rendition's, also those that are `fresh`; none if it has none, or isn't
-        cut alike."""
+        """Its segments from the one on that has the media number of the `other` rendition's; none if it has none, or isn't cut alike."""
         place = bisect_left(self.segments, other.number, key=lambda it: it.number) if self.is_alike else len(self.segments)
-        return [*self.segments[place:], *self.fresh] if place < len(self.segments) and self.segments[place].number == other.number else []
+        return self.segments[place:] if place < len(self.segments) and self.segments[place].number == other.number else []
 
 
 class Reach(NamedTuple):
@@ -107,6 +104,10 @@ class Siblings:
         is_other, _, _, _, more, it = min(known, key=lambda one: one[:4])
         return (None if is_other else it.number + more, it.discontinuity) if more <= FAR else None
 
+    def begin_again(self) -> bool:
+        """Whether a rendition is to begin again soon: its list doesn't go on, and is held back for now. One that begins again with it has what it has shown."""
+        return any(it.waits for it in self.found)
+
     def is_awaited(self, instant: int | None, duration: int) -> bool:
         """Whether a rendition that goes on hasn't come to the segment that begins at `instant`, of `duration` nanoseconds."""
         ends = [(it.begins or 0) + it.duration + (0 if one.is_alike else max(0, it.duration - duration))
@@ -123,10 +124,10 @@ class Siblings:
         return self.most([now or before for now, before in found])
 
     def after(self, last: PackagedSegment, count: int, first: int) -> list[PackagedSegment]:
-        """The `count` segments of one of them after the one that is the `last` one of a rendition, by their media numbers; none if none has them all, or
-        if they end more than a segment from the instant `first`."""
-        found = [[it for it in one.segments if last.number < it.number <= last.number + count] if one.has(last) else [] for one in self.found]
-        return self.most([those if len(those) == count and is_before(those[-1], first) else [] for those in found])
+        """The `count` segments of one of them after the one that is the `last` one of a rendition, by their media numbers; none if none has them all by
+        its packager's numbers, too, or if they end more than a segment from the instant `first`."""
+        found = [[it for it in one.segments if last.number <= it.number <= last.number + count] if one.has(last) else [] for one in self.found]
+        return self.most([those[1:] if len(those) == count + 1 and those[-1].own - those[0].own == count and is_before(those[-1], first) else [] for those in found])
 
     def after_clock(self, last: PackagedSegment, first: int) -> list[PackagedSegment]:
         """The segments of one of them after the one that is the `last` one of a rendition, up to the instant `first` by a clock that has gone back
