@@ -93,7 +93,7 @@ def as_elsewhere(stands: Standing, others: list[Standing], line: str, segments: 
             least = lasting(run.start, end_of(other), found.start(), segments) if 3 * half > longest else lasts - longest  # (longer segments say less of the end)
             is_other = length is not None and length < least - TOLERANCE
         else:
-            lasts = lasting(run.start, ended_by(other, run, said[0]), found.start(), segments)
+            lasts = lasting_elsewhere(other, run, said[0], found.start(), segments)
             is_other = length is None or abs(length - lasts) > half
         if is_other:
             return f"{without(line, ENDS)},DURATION={seconds_text(lasts)}"
@@ -110,6 +110,17 @@ def turned_end(stands: Standing, other: Standing, run: Run, found: DateRange) ->
         return None
     mine, its = stands.repairer.last[-1], other.repairer.last[-1]
     return end if mine.number < its.number and stated + its.duration // 2 < end else None
+
+
+def lasting_elsewhere(other: Standing, run: Run, line: str, start: int | None, segments: list[PackagedSegment]) -> int:
+    """How long a break lasts that began at the instant `start` here, and has ended in the `other` rendition, where its EXT-X-DATERANGE is the `line`, after
+    this `run`: up to the one of the `segments` that has the media number of the one after the run, if that is the same; else by instants. By its pod it ends
+    within a segment: then it has those that begin before that."""
+    after, end = history_of(other)[run.last or 0], ended_by(other, run, line)
+    same = next((it for it in segments if it.number == after.number and it.begins is not None and abs(it.begins - run.end) < it.duration), None)
+    if same is not None and same.begins is not None and start is not None and start < same.begins:
+        return same.begins - start
+    return lasting(run.start, end, start, segments) if end >= run.end - TOLERANCE else end - run.start
 
 
 def ended_by(stands: Standing, run: Run, line: str) -> int:

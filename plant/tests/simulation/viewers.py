@@ -138,7 +138,7 @@ class Viewers:
             return self.at_first()
         after = self.plan.breaks[self.since[-1].place].end if self.since and self.since[-1].place >= 0 else self.reached
         next_one = next((it.begin for it in self.between(after, after + MOST_AWAY) if self.was_read(it)), after)  # (what lies before that is nobody's)
-        near = [(it.name != name, order, abs(it.start - at), place) for order, at in enumerate((after, next_one)) for place, it in enumerate(self.plan.breaks)
+        near = [(it.name != name, at != next_one, abs(it.start - at), place) for at in (after, next_one) for place, it in enumerate(self.plan.breaks)
                 if abs(it.start - at) <= self.half_at(it.start) + NEAR]
         return min(near)[-1] if near else -1
 
