@@ -67,8 +67,8 @@ class Break:
         return instant >= (end if end is not None else max(self.start, self.latest) + STALE)
 
     def is_on_new_clock(self, number: int) -> bool:
-        """Whether the packager's clock changed within it, after the segment of the media `number` or a later one."""
-        return self.clock is not None and self.said is not None and number <= self.clock
+        """Whether the packager's clock changed within it, after the segment before that of the media `number` or a later one."""
+        return self.clock is not None and self.said is not None and number <= self.clock + 1
 
     def has_turned(self, jump: Jump) -> bool:
         """Whether it is on the new clock after the `jump` already. Another rendition may come to it with the segment before or after."""
@@ -175,6 +175,20 @@ class Timeline:
                 is_within = it.own == before.own + 1 and (not it.discontinuities or by > self.waited * SECOND + AWAY * it.duration)
                 found.append(Jump(last, last + before.duration, by, self.numbering.of(before.number), is_within, n))
         return found
+
+    def jump_after(self, number: int, last: int, own: int | None, fresh: int) -> list[Jump]:
+        """Where the clock went back before the first segment, if that is new (`fresh`: the place of the first one that is). The newest one of the list before
+        has the media `number`, which is `own` by its packager, and began at the instant `last`. How long those last that are lost between, the packager's
+        numbers say, or else the time that passed. Where a clock went on isn't seen: the packager may have been away."""
+        duration = self.segments[0].duration
+        by = self.begins[0] - last - duration
+        if fresh or by >= -max(SECOND, duration):
+            return []
+        if own is not None and self.segments[0].own > own:
+            by -= (self.segments[0].own - own - 1) * duration
+        elif self.waited < float("inf"):
+            by += self.end - self.begins[0] - int(self.waited * SECOND)
+        return [Jump(last, last + duration, by, self.numbering.of(number), False, 0)]
 
     def has_turned(self, one: Break) -> bool:
         """Whether the list has come to the clock by which the break `one` begins and ends now: renditions that are cut at other times come to it with

@@ -33,12 +33,13 @@ class Translated:
 
 class Mark(NamedTuple):
     """The newest segment of a list that was looked at: by its URI and instant it is found again, whatever number it has then. `before`: when the
-    newest one of the list before began; a break that wasn't over then may be open yet."""
+    newest one of the list before began; a break that wasn't over then may be open yet. `own`: its number by its packager, if that is known."""
 
     number: int
     uri: str
     begins: int
     before: int | None = None
+    own: int | None = None
 
     def since(self, first: int) -> int:
         """The instant since which breaks may be open, if the list's segments begin from the instant `first` on."""
@@ -87,7 +88,7 @@ class Translator:
         self.breaks.settle(line)
         newest, last = found.segments[-1], self.done.get(rendition)
         if fresh < len(found.segments):
-            self.done[rendition] = Mark(newest.number, newest.uri, line.begins[-1], None if last is None else last.begins)
+            self.done[rendition] = Mark(newest.number, newest.uri, line.begins[-1], None if last is None else last.begins, newest.own)
         self.firsts[rendition], self.lows[rendition] = self.done[rendition].since(line.first), line.low_number
         self.breaks.is_first = False
         near = [name for name in self.firsts if self.is_near(name, line)]
@@ -114,7 +115,7 @@ class Translator:
         moved = {name: start for name, start in self.stated[rendition].items() if abs(start - before.get(name, start)) > self.tolerance}
         done = self.done.get(rendition)
         began = done.begins if done is not None and fresh and line.segments[fresh - 1].number == done.number else None
-        for jump in line.jumps(fresh, began) if done is not None else []:
+        for jump in [*line.jump_after(done.number, done.begins, done.own, fresh), *line.jumps(fresh, began)] if done is not None else []:
             if jump.by < 0:  # (what began before the list by the old clock may be still to come by the new one)
                 self.seen[rendition] = {name: said for name, said in self.seen.get(rendition, {}).items() if self.breaks.named(name) is not None}
             self.count([it for it in tags if it.order[0] < jump.place], line)
