@@ -268,9 +268,9 @@ class Translator:
         EXT-X-DATERANGE `lines` of its list say so then."""
         for cut in self.cuts[rendition].values():
             if cut[0] is not None and abs(cut[0] - began) <= self.tolerance:
-                cut[0] = begins
-        was, now = (f'START-DATE="{instant_text(it)}"' for it in (began, begins))
-        return None if lines is None else [line.replace(was, now) for line in lines]
+                was, now = (f'START-DATE="{instant_text(it)}"' for it in (cut[0], begins))
+                cut[0], lines = begins, None if lines is None else [line.replace(was, now) for line in lines]
+        return lines
 
     def is_cut_elsewhere(self, one: Break, rendition: str) -> bool:
         """Whether the break `one` begins or ends elsewhere in the `rendition` than where its signal was shown."""
