@@ -49,7 +49,6 @@ class Sibling(NamedTuple):
         """Whether it has a segment with the media number of the `other` rendition's that begins when that does, or nearly."""
         return any(it.number == other.number and abs((it.begins or 0) - (other.begins or 0)) <= other.duration // 2 for it in self.segments)
 
-
     def since(self, other: PackagedSegment) -> list[PackagedSegment]:
         """Its segments from the one on that has the media number of the `other` rendition's, also those that are `fresh`; none if it has none, or isn't
         cut alike."""
@@ -126,6 +125,7 @@ class Siblings:
         """The `count` segments of one of them after the one that is the `last` one of a rendition, by their media numbers; none if none has them all, or
         if they end more than a segment from the instant `first`."""
         found = [[it for it in one.segments if last.number < it.number <= last.number + count] if one.has(last) else [] for one in self.found]
+        found = [[] if those and is_after_gap(those[0], last) else those for those in found]
         return self.most([those if len(those) == count and is_before(those[-1], first) else [] for those in found])
 
     def after_clock(self, last: PackagedSegment, first: int) -> list[PackagedSegment]:
@@ -142,8 +142,9 @@ class Siblings:
 
 
 def pace_of(segments: list[PackagedSegment]) -> int:
-    """How long the newest of the `segments` are in the mean, in nanoseconds; 0 if there are none."""
-    newest = segments[-MOST_MEASURED:]
+    """How long the newest of the `segments` are in the mean, in nanoseconds; 0 if there are none. The very last one may grow yet: it says so if it is
+    the only one."""
+    newest = segments[-1 - MOST_MEASURED:-1] or segments
     return sum(it.duration for it in newest) // len(newest) if newest else 0
 
 
@@ -167,6 +168,12 @@ def numbering_of(mine: list[PackagedSegment], theirs: list[PackagedSegment]) -> 
 def middle_of(it: PackagedSegment) -> int:
     """The instant in the middle of the segment `it`, whose begin is known."""
     return (it.begins or 0) + it.duration // 2
+
+
+def is_after_gap(it: PackagedSegment, last: PackagedSegment) -> bool:
+    """Whether the rendition of the segment `it`, which has the next media number after another one's `last`, has nothing of the time between them: it was
+    away, too."""
+    return bool(it.discontinuities) and (it.begins or 0) - (last.begins or 0) - last.duration > it.duration // 2
 
 
 def is_before(it: PackagedSegment, first: int) -> bool:
