@@ -374,6 +374,8 @@ class Breaks:
             return False
         if is_same:
             before.latest = max(before.latest, start)
+            if message.event and planned is not None and not before.is_past_plan(start - half):
+                before.extend(before.start + planned, half)
         else:
             self.ignore(it, f"is within the break {shown(before.id)}")
         return True
