@@ -33,8 +33,8 @@ class Break:
     `event` and the `upid`, and which of how many breaks it is (`part`, `parts`; 0 if that isn't said). `number`: of its first segment. `latest`: the
     instant of the newest signal that spoke of it. `is_in_step`: its SCTE35-IN came before any segment after it. `others`: further attributes of its tag. `is_told`: its end was
     told. `clock`: the media number of the last segment before the packager's clock changed, if it was put on the new clock.
-    `said`: its start by the old one, if it had begun by that. `slack`: how far from its start it may begin in truth, if only a rendition with longer
-    segments than others has shown that."""
+    `said`: its start by the old one, if it had begun by that; `over`: its end by the old one, if it had ended by that. `slack`: how far from its start it may
+    begin in truth, if only a rendition with longer segments than others has shown that."""
 
     id: str
     start: int
@@ -53,6 +53,7 @@ class Break:
     is_told: bool = False
     clock: int | None = None
     said: int | None = None
+    over: int | None = None
     part: int = 0
     parts: int = 0
     slack: int = 0
@@ -67,7 +68,7 @@ class Break:
         return instant >= (end if end is not None else max(self.start, self.latest) + STALE)
 
     def is_on_new_clock(self, number: int) -> bool:
-        """Whether the packager's clock changed within it, after the segment before that of the media `number` or a later one."""
+        """Whether the packager's clock changed within it, right before the segment of the media `number` or after that."""
         return self.clock is not None and self.said is not None and number <= self.clock + 1
 
     def has_turned(self, jump: Jump) -> bool:
@@ -128,7 +129,7 @@ class Line:
 class Jump(NamedTuple):
     """A change of a list's clock `by` so much at the instant `at`, after the segment of the media `number`, which began at the instant `last`, and before
     the segment at the `place`. `is_within`: the packager leaves no number out, and lists no discontinuity there, or it can't have been away so long meanwhile: so nothing of
-    the programme lies between."""
+    the programme lies between. `is_apart`: the segments on both sides don't follow one another."""
 
     last: int
     at: int
@@ -136,6 +137,7 @@ class Jump(NamedTuple):
     number: int
     is_within: bool
     place: int
+    is_apart: bool = False
 
 
 class Numbering(NamedTuple):
@@ -163,50 +165,44 @@ class Timeline:
         self.end = self.begins[-1] + segments[-1].duration
         self.first = min(self.begins[self.low], *self.begins[:self.low]) if self.low else self.begins[0]
 
-    def jumps(self, fresh: int, began: int | None = None) -> list[Jump]:
-        """Where, from the place `fresh` on, the clock changes by more than a segment. `began`: when the segment before that place began, if it was put
-        elsewhere since."""
+    def jumps(self, fresh: int, newest: PackagedSegment | None = None) -> list[Jump]:
+        """Where, from the place `fresh` on, the clock changes by more than a segment. `newest`: the segment that was listed before that place, with the instant
+        at which it began then: it may have left the list, or been put elsewhere since."""
         found = []
-        for n in range(max(1, fresh), len(self.segments)):
-            before, it = self.segments[n - 1], self.segments[n]
-            last = self.begins[n - 1] if began is None or n > fresh else began
-            by = self.begins[n] - last - before.duration
-            if abs(by) > max(SECOND, before.duration):
-                is_within = it.own == before.own + 1 and (not it.discontinuities or by > self.waited * SECOND + AWAY * it.duration)
-                found.append(Jump(last, last + before.duration, by, self.numbering.of(before.number), is_within, n))
+        for n in range(max(int(newest is None), fresh), len(self.segments)):
+            before, it = newest if newest is not None and n == fresh else self.segments[n - 1], self.segments[n]
+            last = before.begins if before is newest and before.begins is not None else self.begins[n - 1]
+            by, least = self.begins[n] - last - before.duration, max(SECOND, before.duration)
+            missed = self.missed(before, it) if abs(by) > least else 0
+            by -= missed
+            if abs(by) > least:
+                is_within = (missed > 0 or it.own == before.own + 1) and (not it.discontinuities or by > self.waited * SECOND + AWAY * it.duration)
+                is_apart = it.own != before.own + 1 and (missed > 0 or before is newest)
+                found.append(Jump(last, last + before.duration, by, self.numbering.of(before.number), is_within, n, is_apart))
         return found
 
-    def jump_after(self, number: int, last: int, own: int | None, fresh: int) -> list[Jump]:
-        """Where the clock went back before the first segment, if that is new (`fresh`: the place of the first one that is). The newest one of the list before
-        has the media `number`, which is `own` by its packager, and began at the instant `last`. How long those last that are lost between, the packager's
-        numbers say, or else the time that passed. Where a clock went on isn't seen: the packager may have been away."""
-        duration = self.segments[0].duration
-        by = self.begins[0] - last - duration
-        if fresh or by >= -max(SECOND, duration):
-            return []
-        if own is not None and self.segments[0].own > own:
-            by -= (self.segments[0].own - own - 1) * duration
-        elif self.waited < float("inf"):
-            by += self.end - self.begins[0] - int(self.waited * SECOND)
-        return [Jump(last, last + duration, by, self.numbering.of(number), False, 0)]
+    def missed(self, before: PackagedSegment, it: PackagedSegment) -> int:
+        """How many nanoseconds of segments lie between the segments `before` and `it` by the packager's numbers; 0 if these don't go on, or leave out more
+        than there can have been since the list before."""
+        found = (it.own - before.own - 1) * it.duration
+        return found if 0 < found <= self.waited * SECOND + AWAY * it.duration and found < STALE else 0
 
     def has_turned(self, one: Break) -> bool:
         """Whether the list has come to the clock by which the break `one` begins and ends now: renditions that are cut at other times come to it with
         other segments."""
         if one.clock is None or one.said is None:
             return one.clock is None or self.last > one.clock or any(abs(jump.number - one.clock) <= NEAR_JUMPS for jump in self.jumps(1))
-        by, newest = one.start - one.said, self.begins[-1]
-        is_past = self.low_number > one.clock + 1 or self.low_number > one.clock and abs(newest - one.start) <= abs(newest - one.said)
+        by, first = one.start - one.said, self.begins[0] - (self.low_number - one.number) * self.segments[0].duration * self.numbering.few // self.numbering.many
+        is_past = self.low_number > one.clock + 1 or self.low_number > one.clock and abs(first - one.start) <= abs(first - one.said)
         return is_past or any(abs(jump.by - by) <= self.segments[-1].duration // 2 or abs(jump.number - one.clock) <= NEAR_JUMPS for jump in self.jumps(1))
 
     def end_before(self, one: Break) -> int | None:
-        """Where the break `one`, which begins and ends by a clock that changed since, ended by the clock before: at one of the listed segments from before
-        that; none if it ended at none of them."""
-        if one.until is None or one.said is None or one.clock is None:
-            return None
-        end = one.until + one.said - one.start
-        begins = (begin for begin, it in zip(self.begins, self.segments) if self.numbering.of(it.number) <= one.clock)
-        return end if any(abs(it - end) <= TOLERANCE for it in begins) else None
+        """Where the break `one`, which ended by a clock that changed since, ended by that: at one of the listed segments if it is near. None if it didn't."""
+        over = one.over
+        if over is None or not self.aligns:
+            return over
+        near = [(abs(begin - over), begin) for begin, it in zip(self.begins, self.segments) if abs(begin - over) <= it.duration // 2]
+        return min(near)[1] if near else over
 
     def end_after(self, start: int, end: int) -> int:
         """The instant `end` at which a break ends that begins with the segment at `start`: with the next segment at the earliest."""
@@ -401,6 +397,8 @@ class Breaks:
             return False
         if is_same:
             before.latest = max(before.latest, start)
+            if message.event and planned is not None and not before.is_past_plan(start - half):
+                before.extend(before.start + planned, half)
         else:
             self.ignore(it, f"is within the break {shown(before.id)}")
         return True
@@ -440,14 +438,17 @@ class Breaks:
             self.tell(f"breaks/{shown(one.id)}", "Moved", f"to {instant_text(one.start)}: the packager states another START-DATE before it has begun")
         return True
 
-    def turn_clock(self, jump: Jump, names: set[str]) -> None:
-        """The packager's clock changed by a `jump`. What began before began, and ends, by the new clock. If the clock went on, the packager may also
-        have been away: then it holds for the breaks `names` alone, of which it says so. Each rendition of a programme says the same."""
+    def turn_clock(self, jump: Jump, names: set[str], half: int) -> None:
+        """The packager's clock changed by a `jump`, after a segment of twice `half` nanoseconds. What began before began, and ends, by the new clock. If the
+        clock went on, the packager may also have been away: then it holds for the breaks `names` alone, of which it says so. Each rendition of a programme
+        says the same."""
         self.clock = jump.number
         is_set = jump.by < 0 or jump.is_within
-        self.set_at = jump.number if is_set else self.set_at
+        self.set_at = jump.number if is_set and not jump.is_apart else self.set_at
         for one in [it for it in self.known if it.start < jump.at and not it.has_turned(jump) and (is_set or it.id in names)]:
             end = one.end()
+            if one.over is None and end is not None and end <= jump.last + half:
+                one.over = end
             if end is not None and end > jump.last:
                 one.until, one.is_ended = end, jump.by > 0  # (a clock that goes back leaves it open until a segment comes to its end)
             one.said = one.start if one.said is None else one.said

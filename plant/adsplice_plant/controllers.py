@@ -215,7 +215,7 @@ def listed_from(stands: Standing, place: int, ahead: Numbers, until: int | None 
     assert head is not None
     missed, newest = {name for name in stands.pods.missed if stands.pods.at_hand(name) is not None}, stands.repairer.last[-1]
     said = [line for name, (line, number) in stands.viewed.ranges.items() if number >= max(since, segments[0].number) and name not in missed
-            and not (number < newest.number and is_to_come(line, newest))]
+            and not (number < newest.number and (is_to_come(line, newest) or replay.is_past(stands, line, place)))]
     lines = [replay.as_it_ran(stands, line) if until is None or without else replay.as_it_began(line) for line in said if packaged.id_in(line) not in without]
     found = PackagedList(head.version, head.target, kind=head.kind, segments=moved(segments, ahead))
     front = stands.text[:max(0, stands.text.find(EXTINF))]
@@ -424,7 +424,8 @@ def told_at_once(it: Rendition, stands: Standing, translator: Translator) -> Sta
     said, told = translator.take(found, it.settings.rendition()), ranges.ids_in(ranges.ranges_in(text))
     if said.ranges is None:
         return stands
-    lines, viewed = [replay.as_it_runs(stands, line, translator.breaks.named(packaged.id_in(line))) for line in said.ranges if packaged.id_in(line) in told], stands.viewed.copy()
+    lines = [replay.as_it_runs(stands, line, translator.breaks.named(packaged.id_in(line)), found.segments) for line in said.ranges if packaged.id_in(line) in told]
+    viewed = stands.viewed.copy()
     viewed.note(lines, stands.repairer.last[-1].number)
     return replace(stands, viewed=viewed, text=packaged.write(found, lines))
 

@@ -59,10 +59,15 @@ def accepted_of(body: bytes, head: tuple[object, ...], found: PackagedList, coun
     """What the next list may go on from, after the list `body` with this `head`, whose segments had so many discontinuities (`counted`). It
     became `found`, with these `repairs`. None if the next one has to be read as a whole."""
     first, last = found.segments[0], found.segments[-1]
-    is_plain = body.endswith(b"\n") and b"\r" not in body and not (found.is_ended or found.others or found.tail_tags or found.tail_discontinuities)
+    is_plain = ends_with_uri(body) and b"\r" not in body and not (found.is_ended or found.others or found.tail_tags or found.tail_discontinuities)
     is_kept = repairs.keys() <= CARRIED and ("own numbers" in repairs or counted == [it.discontinuities for it in found.segments])
     is_counted = last.own - first.own == len(found.segments) - 1 and last.begins is not None and not any(it.gaps for it in found.segments)
     return Accepted(body, head, repairs, found) if is_plain and is_kept and is_counted else None
+
+
+def ends_with_uri(body: bytes) -> bool:
+    """Whether the last line of the list `body` is a segment's: tags after it are of the next one."""
+    return body.endswith(b"\n") and body[body.rfind(b"\n", 0, -1) + 1:][:1] != b"#"
 
 
 def parts_of(old: bytes, new: bytes) -> Parts | None:
@@ -74,7 +79,7 @@ def parts_of(old: bytes, new: bytes) -> Parts | None:
         uri = new.find(b"\n", uri) + 1
     past = new.find(b"\n", uri) + 1
     at = new.rfind(old[-ALIKE:], past)
-    if not 0 < first < uri < past or at < 0 or len(old) < ALIKE or not new.endswith(b"\n") or b"\r" in new:
+    if not 0 < first < uri < past or at < 0 or len(old) < ALIKE or not ends_with_uri(new) or b"\r" in new:
         return None
     end = at + ALIKE
     begin = len(old) - (end - past)

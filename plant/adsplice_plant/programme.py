@@ -106,30 +106,32 @@ def take_list(turn: Turn, event: ListRead) -> None:
     it = turn.state.renditions[event.channel]
     if it.came == event.body:
         return
-    reach = reach_of(event.body) if len(turn.state.renditions) > 1 else None
-    came_at = it.came_at if reach is not None and reach == it.reach else turn.at
+    reach = reach_of(event.body)
+    came_at = it.came_at if reach == it.reach else turn.at
     waited = max(it.waited if it.is_new or came_at == it.came_at else 0.0, came_at - it.came_at) if it.came is not None else it.waited
     since = max(one.came_at for _, one in turn.renditions())
     turn.put(event.channel, came=event.body, reach=reach, came_at=came_at, waited=waited, is_new=True, older=older_than(it, event.body))
-    if reach is not None and came_at == turn.at:
+    if came_at == turn.at:
         note_behind(turn, event.channel, reach, since)
     turn.set(waits_until=0.0)
 
 
 def older_than(it: Rendition, body: bytes) -> tuple[bytes, ...]:
-    """The lists of the rendition that are to be taken in before the newest one, which has the `body`: those that it doesn't go on from. Of lists that are
-    held back those that have what left the newest one; none if it goes on from the last one that was taken in."""
+    """The lists of the rendition that are to be taken in before the newest one, which has the `body`: those that have what left that. None if it goes on
+    from the last one that was taken in."""
     if not it.stands.repairer.last:
         return ()  # (viewers begin with the newest list)
     if not it.is_new or it.came is None:
         return it.older
-    if it.stands.repairer.held_since is None:
-        is_left = newest_of(it.came) not in body
-    elif it.stands.repairer.last and it.stands.repairer.last[-1].uri.partition("?")[0].encode() in body:
+    if has_path(body, it.stands.repairer.last[-1].uri.partition("?")[0].encode()):
         return ()
-    else:
-        is_left = (newest_of(it.older[-1]) if it.older else oldest_of(it.came)) not in body
+    is_left = not has_path(body, newest_of(it.older[-1]) if it.older else oldest_of(it.came))
     return (*it.older, it.came)[-MOST_OLDER:] if is_left else it.older
+
+
+def has_path(body: bytes, path: bytes) -> bool:
+    """Whether the list `body` has a segment of this `path`, or one alone of its last part: hosts and folders may be spelled otherwise in each list."""
+    return path in body or body.count(b"/" + path.rpartition(b"/")[2]) == 1
 
 
 def newest_of(body: bytes) -> bytes:
@@ -143,8 +145,11 @@ def oldest_of(body: bytes) -> bytes:
 
 
 def begin_again(turn: Turn) -> None:
-    """The feed has begun: whether the controllers are there isn't known. Nobody waits any more for what an earlier feed waited for."""
+    """The feed has begun: whether the controllers are there isn't known. Nobody waits any more for what an earlier feed waited for. That had given what
+    comes before its last list, at the least."""
     for channel, it in turn.renditions():
+        if it.stands.repairer.last and it.controller.took < 0 and it.controller.reached < 0 and not turn.state.life:
+            turn.put_controller(channel, reached=it.stands.repairer.last[0].number - 1)
         turn.put_controller(channel, way=Way.UNKNOWN, sent=None, trials=0, retry_at=0.0, is_unseen=False)
         turn.put(channel, came_at=turn.at, waited=float("inf"))
     begun = decided.begun_of(turn, turn.state.asked)  # (the others are asked for again, unless they were answered)
@@ -390,7 +395,7 @@ def translate(turn: Turn, translator: Translator, found: dict[str, Taken], busy:
         if run is not None and (moved := put_past(rendition.stands, it, translator.ended(run.id, name), translator.tolerance)) is not None:
             found[channel].repaired.came = None
             found[channel].repaired.kinds["clock"] = ""
-            it.signals = translator.begin_at(name, said.ranges, *moved)
+            it.signals = translator.begin_at(name, it.date_ranges(), *moved)
     return told
 
 
@@ -559,7 +564,7 @@ def text_of(turn: Turn, channel: str, it: Taken, translator: Translator) -> byte
         if lines != found.date_ranges():
             found.signals = lines
     if found is not None and found.segments:
-        lines = [as_it_runs(rendition.stands, line, translator.breaks.named(packaged.id_in(line))) for line in found.date_ranges()]
+        lines = [as_it_runs(rendition.stands, line, translator.breaks.named(packaged.id_in(line)), found.segments) for line in found.date_ranges()]
         if lines != found.date_ranges():
             found.signals = lines
     if it.repaired.head is None and found is not None:

@@ -7,7 +7,6 @@ from __future__ import annotations
 
 from bisect import bisect_left
 from dataclasses import dataclass, field, replace
-from itertools import dropwhile
 
 from . import growth, packaged, repairs, spelling, variables
 from .growth import Accepted
@@ -15,7 +14,7 @@ from .packaged import PackagedList, PackagedSegment
 from .playlist import SECOND
 from .siblings import Siblings, middle_of
 from .spelling import Kinds, Unread
-from .succession import Place, is_named, is_same, lags, place_of
+from .succession import LAG, Place, begins_alike, is_named, is_same, lags, place_of
 
 NEWEST_VERSION = 7  # of a playlist that RFC 8216 describes
 TYPES = ("EVENT", "VOD")
@@ -145,6 +144,7 @@ class Repairer:
         growing = self.drop(found, kinds)
         if not found.segments:
             return Repaired(why=repairs.EMPTY)
+        self.drop_other_sections(found, kinds)
         is_timed = any(it.stated is not None for it in found.segments)
         is_untimed = not is_timed and self.choices.adds_times and found.kind != "VOD"
         intern(self.last, found.segments)
@@ -185,6 +185,15 @@ class Repairer:
         kinds["growing"] = ""
         return found.segments.pop()
 
+    def drop_other_sections(self, found: PackagedList, kinds: dict[str, str]) -> None:
+        """Leaves out the segments in front of the list `found` which have an initialisation section where those that are given have none, or the other way
+        round, as a slate has before a programme begins: adsplice takes no list of both (RFC 8216, 4.3.2.5; docs/CONFORMANCE.md)."""
+        is_bare = (self.last or found.segments)[-1].section is None
+        place = next((place for place, it in enumerate(found.segments) if (it.section is None) == is_bare), 0)
+        if place:
+            kinds["other sections"] = ""
+            found.segments = from_place(found.segments, place)
+
     def grow(self, body: bytes) -> Repaired | None:
         """What is to be pushed of the list `body` if its text goes on from the last one's; none if it has to be read as a whole."""
         before, head = self.accepted, self.head
@@ -217,6 +226,8 @@ class Repairer:
         if lags(self.past, self.last, found.segments, has_instants, max(1, patience)):
             return Repaired(why=repairs.LAGS)
         self.held_since = now if self.held_since is None else self.held_since
+        if now - self.held_since < patience + LAG and not self.unseen(found.segments):
+            return Repaired(why=repairs.LAGS)
         if now - self.held_since < patience and not self.is_later(found.segments):
             return Repaired(why=repairs.HELD.format(patience), waits=True)
         self.set_times(found, True)
@@ -226,6 +237,18 @@ class Repairer:
         if self.siblings and now - self.held_since < 2 * patience and (self.siblings.begin_again() or self.siblings.is_awaited(first.begins, first.duration)):
             return Repaired(why=repairs.HELD.format(2 * patience), waits=True)
         return None
+
+    def unseen(self, segments: list[PackagedSegment]) -> list[PackagedSegment]:
+        """The listed `segments`, which don't go on, without those in front that viewers have seen: by the instants that they state they lie before the end of
+        the last list. So it is with two packagers behind one address. A clock that went back farther than the list lasts says nothing of that, unless
+        segments began then."""
+        last = self.last[-1]
+        if self.adds or last.begins is None or any(it.stated is None for it in segments):
+            return segments
+        end, newest = last.begins + last.duration, segments[-1]
+        if (newest.stated or 0) + lasting(segments) < end - newest.duration and not begins_alike([*self.past, *self.last], segments):
+            return segments
+        return from_place(segments, next((n for n, it in enumerate(segments) if (it.stated or 0) + it.duration // 2 >= end), len(segments)))
 
     def is_later(self, segments: list[PackagedSegment]) -> bool:
         """Whether the listed `segments` go on from the last list after some that nobody read: by the packager's numbers, and by the instants that
@@ -270,6 +293,7 @@ class Repairer:
         last, first = self.last[-1], found.segments[0]
         kinds["began again"] = repairs.BEGAN_AGAIN.format(first.own, last.own, last.number + 1)
         taken = self.taken_meanwhile(found, self.siblings) if self.siblings is not None else []
+        found.segments = found.segments if self.siblings is not None else self.unseen(found.segments) or found.segments
         found.segments[0].discontinuities = max(1, found.segments[0].discontinuities)
         if taken:
             kinds["other renditions"] = ""
@@ -330,7 +354,8 @@ class Repairer:
         newest = found.segments[turn - 1]
         if newest.begins is not None and newest.begins + lasting(found.segments) < end - newest.duration:
             return []  # (by a clock that went back farther than the list lasts)
-        found.segments = list(dropwhile(lambda it: it.begins is not None and middle_of(it) < end, found.segments)) or found.segments[-1:]
+        place = next((n for n, it in enumerate(found.segments) if it.begins is None or middle_of(it) >= end), len(found.segments) - 1)
+        found.segments = from_place(found.segments, place)
         first = found.segments[0].begins
         return ahead_of(found.segments, last, siblings.between(last, first) if first is not None else [])
 
@@ -339,7 +364,7 @@ class Repairer:
         `begin_again`."""
         if place.offset < 0:
             kinds["older segments"] = ""
-            found.segments = found.segments[-place.offset:]
+            found.segments = from_place(found.segments, -place.offset)
         if place.way == "segments":
             kinds["numbers"] = ""
         first = self.front + max(0, place.offset)
@@ -501,6 +526,12 @@ def ahead_of(segments: list[PackagedSegment], last: PackagedSegment, taken: list
     missed = segments[0].own - last.own - 1
     is_next = abs((taken[0].begins or 0) - (last.begins or 0) - last.duration) <= taken[0].duration
     return taken[:missed] if is_next or (segments[0].begins or 0) < (last.begins or 0) else taken[max(0, len(taken) - missed):]
+
+
+def from_place(segments: list[PackagedSegment], place: int) -> list[PackagedSegment]:
+    """The listed `segments` from the `place` on. Date ranges that stand before those in front hold for the whole list: they stand before the first one."""
+    ranges, found = [line for it in segments[:place] for line in it.tags if line.startswith(packaged.DATE_RANGE)], segments[place:]
+    return [replace(found[0], tags=[*ranges, *found[0].tags]), *found[1:]] if ranges and found else found
 
 
 def without_ranges(it: PackagedSegment) -> PackagedSegment:

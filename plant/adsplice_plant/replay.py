@@ -10,7 +10,7 @@ from .breaks import TOLERANCE, Break
 from .date_ranges import DateRange, read_range
 from .packaged import PackagedList, PackagedSegment
 from .playlist import instant_text, seconds_text
-from .reckoning import known_after
+from .reckoning import Reckoned, known_after
 from .siblings import is_alike, pace_of
 from .signals import duration_of, pieces_of
 from .state import Standing
@@ -41,7 +41,9 @@ def run_of(stands: Standing, history: list[PackagedSegment], line: str) -> Run |
     start = start_of(stands, line)
     starts = [it for other, _ in stands.viewed.ranges.values() if (it := start_of(stands, other)) is not None]
     places = [place for place, it in enumerate(history) if it.begins is not None and (it.number in stands.viewed.begins or is_near(it.begins, starts))]
-    first = next((n for n in range(len(places) - 1, -1, -1) if start is not None and abs((history[places[n]].begins or 0) - start) <= TOLERANCE), None)
+    newest = stands.viewed.ranges.get(packaged.id_in(line), (line, history[-1].number if history else 0))[1]  # (it didn't begin after the lists that had it)
+    first = next((n for n in range(len(places) - 1, -1, -1) if start is not None and history[places[n]].number <= newest
+                  and abs((history[places[n]].begins or 0) - start) <= TOLERANCE), None)
     if start is None or first is None:
         return None
     if first + 1 == len(places):
@@ -140,10 +142,10 @@ def lasting(began: int, end: int, start: int | None, segments: list[PackagedSegm
     return near.begins - start
 
 
-def as_it_runs(stands: Standing, line: str, one: Break | None) -> str:
+def as_it_runs(stands: Standing, line: str, one: Break | None, segments: list[PackagedSegment]) -> str:
     """The EXT-X-DATERANGE `line` of a break that is open, and had no end when it began. It ends with its pod then, unless it is ended before: what
     says a later end may come after lists that nobody read. Once adsplice was told so, an END-DATE alone says an earlier end. `one`: what is known of it;
-    if the packager's clock changed within it, it ends so by the new clock."""
+    if the packager's clock changed within it, it ends so by the new clock, or with the first of the listed `segments` that comes after its pod."""
     reckoned, found = stands.viewed.reckoned, read_range(line)
     if reckoned is None or reckoned.run is None or reckoned.run.id != found.id:
         return line
@@ -155,7 +157,7 @@ def as_it_runs(stands: Standing, line: str, one: Break | None) -> str:
         stated, end = found.start() or one.start, one.end()
         start = stated + one.start - one.said if abs(stated - one.said) < abs(stated - one.start) else stated  # (here it may have begun by the new clock)
         is_later = end is None or is_by_pod and end > start + total + TOLERANCE
-        return f'{without(line, ENDS)},END-DATE="{instant_text(start + total)}"' if is_later else line
+        return f'{without(line, ENDS)},END-DATE="{instant_text(after_pod(reckoned, total, segments, one, start))}"' if is_later else line
     if length is None or not (is_by_pod or is_told):
         return line
     if length > total + TOLERANCE:
@@ -164,26 +166,40 @@ def as_it_runs(stands: Standing, line: str, one: Break | None) -> str:
     return f'{without(line, ENDS)},END-DATE="{instant_text((found.start() or 0) + length)}"' if is_earlier else line
 
 
+def after_pod(reckoned: Reckoned, total: int, segments: list[PackagedSegment], one: Break, start: int) -> int:
+    """The instant of the first of the listed `segments` that begins once the open run of the break `one` has lasted `total` nanoseconds: by its segments, or
+    by the packager's new clock, since some may not have been read. By that it begins at the instant `start` here. If none does, it is the end by that clock."""
+    lasted, end, said = reckoned.run.lasted if reckoned.run is not None else 0, start + total, one.start if one.said is None else one.said
+    for it in segments:
+        if reckoned.newest is None or it.number <= reckoned.newest or it.begins is None:
+            continue
+        is_on_new_clock = it.begins < said if one.start < said else it.begins >= one.start
+        if lasted + TOLERANCE >= total or is_on_new_clock and it.begins + TOLERANCE >= end:
+            return it.begins
+        lasted += it.duration
+    return end
+
+
 def length_of(found: DateRange) -> int | None:
     """How long the break of the date range lasts, or is to last; none if it doesn't say."""
     return found.length(found.start()) or duration_of(found.said.get("PLANNED-DURATION", ""))
 
 
 def put_past(stands: Standing, found: PackagedList, ended: int | None, tolerance: int) -> tuple[int, int] | None:
-    """Puts the first new segment of the list `found` with which the open break has `ended` at the end that adsplice knows of that, if it begins before that: the
+    """Puts the new segment of the list `found` by which the open break has `ended` at the end that adsplice knows of it, if it begins before that: the
     packager's clock went back. The instants at which it began and begins; none if it stays."""
     reckoned = stands.viewed.reckoned
     if ended is None or reckoned is None or reckoned.run is None or not stands.repairer.last:
         return None
     breaks = {it.id: it for it in known_after(reckoned, found.date_ranges())}
-    known = breaks.pop(reckoned.run.id, None)
+    known = breaks.get(reckoned.run.id)
     end = None if known is None else ends_at(known, reckoned.run.shape.total())
-    new = (it for it in found.segments if it.number > stands.repairer.last[-1].number)
-    it = next((it for it in new if it.begins is None or it.begins >= ended - tolerance), None)
+    instants, newest = found.instants(), stands.repairer.last[-1].number
+    new = [it for it in found.segments[instants.low if instants is not None else 0:] if it.number > newest]
+    it = next((it for it in new if it.begins is not None and it.begins >= ended - tolerance), None)
     if end is None or it is None or it.begins is None or it.begins >= end - tolerance:
         return None
-    if any(one.start is not None and abs(one.start - end) <= tolerance for one in breaks.values()):
-        end += tolerance + MILLISECOND  # (another break begins there, with a later segment)
+    end += tolerance + MILLISECOND  # (another break may begin there, with a later segment)
     began, it.begins, found.pieces, found.timed = it.begins, end, None, None
     return began, end
 
@@ -217,6 +233,12 @@ def turned_at(stands: Standing, place: int) -> int | None:
     runs = [run for line, _ in stands.viewed.ranges.values() if (run := run_of(stands, history, line)) is not None and run.first >= place]
     turns = [at for at in range(place + 1, len(history)) if (history[at].begins or 0) < (history[at - 1].begins or 0)]
     return next((at for at in turns if any(run.first < at <= (len(history) if run.last is None else run.last) for run in runs)), None)
+
+
+def is_past(stands: Standing, line: str, place: int) -> bool:
+    """Whether the break of the EXT-X-DATERANGE `line`, which the newest list hasn't, was over for viewers before the `place` in the history."""
+    run = run_of(stands, history_of(stands), line)
+    return run is not None and run.last is not None and run.last <= place
 
 
 def as_it_began(line: str) -> str:

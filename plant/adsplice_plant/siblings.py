@@ -143,8 +143,9 @@ class Siblings:
 
 
 def pace_of(segments: list[PackagedSegment]) -> int:
-    """How long the newest of the `segments` are in the mean, in nanoseconds; 0 if there are none."""
-    newest = segments[-MOST_MEASURED:]
+    """How long the newest of the `segments` are in the mean, in nanoseconds; 0 if there are none. The very last one may grow yet: it says so if it is
+    the only one."""
+    newest = segments[-1 - MOST_MEASURED:-1] or segments
     return sum(it.duration for it in newest) // len(newest) if newest else 0
 
 
@@ -168,6 +169,12 @@ def numbering_of(mine: list[PackagedSegment], theirs: list[PackagedSegment]) -> 
 def middle_of(it: PackagedSegment) -> int:
     """The instant in the middle of the segment `it`, whose begin is known."""
     return (it.begins or 0) + it.duration // 2
+
+
+def is_after_gap(it: PackagedSegment, last: PackagedSegment) -> bool:
+    """Whether the rendition of the segment `it`, which has the next media number after another one's `last`, has nothing of the time between them: it was
+    away, too."""
+    return bool(it.discontinuities) and (it.begins or 0) - (last.begins or 0) - last.duration > it.duration // 2
 
 
 def is_before(it: PackagedSegment, first: int) -> bool:

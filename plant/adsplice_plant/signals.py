@@ -196,18 +196,30 @@ class Cues:
         """What all of the tags say together. A tag that says itself that a break begins or ends is right, whatever its section is;
         the section then says which event it is."""
         it, found = self.said, list[Signal]()
+        begins = [one for one in it.messages if one.kind == Kind.BEGIN]
+        it.messages = without_cancelled(it.messages)
+        it.is_out = it.is_out and (not begins or any(one.kind == Kind.BEGIN for one in it.messages))
         found += [Signal(one) for one in it.messages if one.kind == Kind.CANCEL or one.kind == Kind.END and not it.is_in]
         if it.is_in:
             found.append(Signal(Message(Kind.END, None, 0), is_cue=True))
         if it.is_out:
-            begins = next((one for one in it.messages if one.kind == Kind.BEGIN), Message(Kind.BEGIN, None, it.event))
-            found.append(Signal(replace(begins, upid=begins.upid or it.upid), it.out, is_cue=True))
+            first = next((one for one in it.messages if one.kind == Kind.BEGIN), Message(Kind.BEGIN, None, it.event))
+            found.append(Signal(replace(first, upid=first.upid or it.upid), it.out, is_cue=True))
         elif it.elapsed is not None and not it.is_in:
             found.append(Signal(it.within or Message(Kind.BEGIN, None, 0), it.out, is_cue=True, elapsed=it.elapsed))
         elif not it.is_in:
             found += [Signal(replace(one, upid=one.upid or it.upid)) for one in it.messages if one.kind == Kind.BEGIN]
         found += [Signal(one) for one in it.messages if one.kind == Kind.OTHER and not (it.is_out or it.is_in)]
         return Read(found, self.unread)
+
+
+def without_cancelled(messages: list[Message]) -> list[Message]:
+    """The `messages` before one segment without those that begin an event which a later one of them cancels."""
+    found, cancelled = list[Message](), set[int]()
+    for it in reversed(messages):
+        cancelled |= {it.event} if it.kind == Kind.CANCEL and it.event else set()
+        found += [it] if it.kind != Kind.BEGIN or it.event not in cancelled else []
+    return found[::-1]
 
 
 def event_of(text: str) -> int:

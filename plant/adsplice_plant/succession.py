@@ -7,6 +7,7 @@ be spelled otherwise in each list.
 """
 from __future__ import annotations
 
+from bisect import bisect_left
 from collections.abc import Callable, Sequence
 from dataclasses import dataclass
 
@@ -16,6 +17,7 @@ from .playlist import SECOND
 MOST_PLACES = 16  # that are tried for a list that doesn't go on by its numbers
 LAG = 15.0  # seconds by which a list without instants may end earlier and still only lag, or LAG_TARGETS target durations
 LAG_TARGETS = 3
+NEAR = SECOND // 10  # by which packagers' clocks may differ that cut a programme alike
 
 Segments = Sequence[PackagedSegment]
 Way = Callable[[PackagedSegment, PackagedSegment], bool]
@@ -67,6 +69,12 @@ def is_numbered(one: PackagedSegment, other: PackagedSegment) -> bool:
     return one.own == other.own and is_named(one, other) and is_as_long(one, other)
 
 
+def is_known(one: PackagedSegment, other: PackagedSegment) -> bool:
+    """Whether they have one name, one range and one duration, and `one` states the instant of the other: another packager behind the same address may
+    count from other numbers."""
+    return one.stated is not None and is_named(one, other) and is_as_long(one, other) and is_in_time(one, other)
+
+
 def is_in_time(one: PackagedSegment, other: PackagedSegment) -> bool:
     """Whether the instant that `one` states is within a second of that of `other`, which was listed before: of the one that it
     stated last, or else began at. So it is if either is none."""
@@ -104,16 +112,23 @@ def place_of(last: Segments, new: Segments, has_instants: bool, is_held: bool) -
         return Place(offset, "numbers")  # (a packager that set its clock)
     if offset is not None and (has_instants or not is_held) and goes_on_by_names(offset, last, new, has_instants):
         return Place(offset, "names")
-    return place_by_paths(last, new, has_instants, offset, is_held) or place_by_newest(last, new, places)
+    return place_by_known(last, new) or place_by_paths(last, new, has_instants, offset, is_held) or place_by_newest(last, new, places)
 
 
 def offset_by_numbers(last: Segments, new: Segments) -> int | None:
     """Where `new` goes on after `last` by the packager's numbers; none if these leave a hole, or have nothing in common."""
     if new[0].own - new[0].gaps <= last[-1].own + 1 <= new[0].own:
-        return len(last)
+        return None if begins_alike(last, new) else len(last)
     if new[0].own >= last[0].own:
         return next((place for place, it in enumerate(last) if it.own == new[0].own), None)
     return next((-place for place, it in enumerate(new) if it.own == last[0].own), None)
+
+
+def begins_alike(last: Segments, new: Segments) -> bool:
+    """Whether segments of `new` begin when those of `last` do: another packager has cut the same programme."""
+    begins, stated = sorted(it.begins for it in last if it.begins is not None), [it.stated for it in new if it.stated is not None]
+    places = [max(0, bisect_left(begins, it) - 1) for it in stated]
+    return sum(any(abs(begin - it) <= NEAR for begin in begins[place:place + 2]) for it, place in zip(stated, places)) >= min(2, len(last), len(new))
 
 
 def goes_on_by_names(offset: int, last: Segments, new: Segments, has_instants: bool) -> bool:
@@ -126,6 +141,12 @@ def goes_on_by_names(offset: int, last: Segments, new: Segments, has_instants: b
     newest = new[len(last) - 1 - offset] if 0 <= len(last) - 1 - offset < len(new) else None
     named = in_time(lambda one, other: is_named(one, other) and (one is newest or is_as_long(one, other)), has_instants)
     return goes_on(offset, last, new, named)
+
+
+def place_by_known(last: Segments, new: Segments) -> Place | None:
+    """Where `new` goes on after `last` by names and instants, whatever its numbers are."""
+    places = [len(last) - 1 - it for it in range(len(new) - 1, -1, -1) if is_known(new[it], last[-1])][:MOST_PLACES]
+    return next((Place(it, "segments") for it in places if goes_on(it, last, new, is_known)), None)
 
 
 def place_by_paths(last: Segments, new: Segments, has_instants: bool, offset: int | None, is_held: bool) -> Place | None:
@@ -162,7 +183,7 @@ def lags(past: Segments, last: Segments, new: Segments, has_instants: bool, targ
     durations (`target`, in seconds), earlier."""
     known = is_alike if any("?" in it.uri for it in new) else is_same
     has_names = has_instants or len(new) >= len(last)  # (a run that begins again with the same names and numbers has few segments at first)
-    same = in_time(lambda one, other: known(one, other) or has_names and is_numbered(one, other), has_instants)
+    same = in_time(lambda one, other: known(one, other) or has_names and is_numbered(one, other) or has_instants and is_known(one, other), has_instants)
     history = [*past, *last]
     places = [it for it in range(len(history) - 2, -1, -1) if same(new[-1], history[it])][:MOST_PLACES]
     for end in places:

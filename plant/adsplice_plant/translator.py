@@ -10,7 +10,7 @@ from typing import Any, NamedTuple
 from . import packaged, signals, splice
 from .breaks import AUTO, STALE, TOLERANCE, Break, Breaks, Line, Numbering, Order, Placed, Timeline
 from .date_ranges import STATED, DateRange, RangeReader, is_leaving, is_same, ranges_of
-from .packaged import DATE_RANGE, PackagedList
+from .packaged import DATE_RANGE, PackagedList, PackagedSegment
 from .playlist import instant_text, seconds_text
 from .signals import SPLICES
 from .splice import Kind
@@ -33,13 +33,18 @@ class Translated:
 
 class Mark(NamedTuple):
     """The newest segment of a list that was looked at: by its URI and instant it is found again, whatever number it has then. `before`: when the
-    newest one of the list before began; a break that wasn't over then may be open yet. `own`: its number by its packager, if that is known."""
+    newest one of the list before began; a break that wasn't over then may be open yet. `own`: its number by the packager; `duration`: its nanoseconds."""
 
     number: int
     uri: str
     begins: int
     before: int | None = None
-    own: int | None = None
+    own: int = 0
+    duration: int = 0
+
+    def segment(self) -> PackagedSegment:
+        """As much of the segment as is known."""
+        return PackagedSegment(self.uri, self.own, self.duration, number=self.number, begins=self.begins)
 
     def since(self, first: int) -> int:
         """The instant since which breaks may be open, if the list's segments begin from the instant `first` on."""
@@ -88,7 +93,7 @@ class Translator:
         self.breaks.settle(line)
         newest, last = found.segments[-1], self.done.get(rendition)
         if fresh < len(found.segments):
-            self.done[rendition] = Mark(newest.number, newest.uri, line.begins[-1], None if last is None else last.begins, newest.own)
+            self.done[rendition] = Mark(newest.number, newest.uri, line.begins[-1], None if last is None else last.begins, newest.own, newest.duration)
         self.firsts[rendition], self.lows[rendition] = self.done[rendition].since(line.first), line.low_number
         self.breaks.is_first = False
         near = [name for name in self.firsts if self.is_near(name, line)]
@@ -114,13 +119,13 @@ class Translator:
         self.stated[rendition] = {it.id: start for it in ranges if it.is_splice() and (start := it.start()) is not None}
         moved = {name: start for name, start in self.stated[rendition].items() if abs(start - before.get(name, start)) > self.tolerance}
         done = self.done.get(rendition)
-        began = done.begins if done is not None and fresh and line.segments[fresh - 1].number == done.number else None
-        for jump in [*line.jump_after(done.number, done.begins, done.own, fresh), *line.jumps(fresh, began)] if done is not None else []:
+        is_next = done is not None and fresh < len(line.segments) and line.segments[fresh].number == done.number + 1 and done.duration > 0
+        for jump in line.jumps(fresh, done.segment() if done is not None and is_next else None) if done is not None else []:
             if jump.by < 0:  # (what began before the list by the old clock may be still to come by the new one)
                 self.seen[rendition] = {name: said for name, said in self.seen.get(rendition, {}).items() if self.breaks.named(name) is not None}
             self.count([it for it in tags if it.order[0] < jump.place], line)
             tags = [it for it in tags if it.order[0] >= jump.place]
-            self.breaks.turn_clock(jump, {name for name, start in moved.items() if abs(start - before[name] - jump.by) <= line.half(jump.at)})
+            self.breaks.turn_clock(jump, {name for name, start in moved.items() if abs(start - before[name] - jump.by) <= line.half(jump.at)}, line.half(jump.last))
         for name, start in moved.items():
             one = self.breaks.named(name)
             if one is None or abs(one.start - start) <= (line.half(start) if one.is_settled else self.tolerance):
@@ -223,7 +228,10 @@ class Translator:
     def is_listed(self, one: Break, line: Timeline, rendition: str) -> bool:
         """Whether the break `one` is written in the list of `line` of the `rendition`: a segment of it is listed, or is to come. One without an end is
         written as long as its first segment is listed; one that may yet be put on a segment isn't written before that is listed, also if
-        another rendition has come to it. One within which the packager's clock changed is written as long as a segment from before that is listed."""
+        another rendition has come to it. One within which the packager's clock changed is written as long as a segment from before that is listed; one that
+        was over by then, as long as a segment is that isn't after it."""
+        if one.over is not None and one.clock is not None:
+            return line.low_number <= one.clock and one.over >= line.begins[0] - TOLERANCE
         if one.is_on_new_clock(line.low_number):
             return True
         end, start, first = one.end(), self.cuts[rendition][one.id][0], self.firsts[rendition]
@@ -263,14 +271,15 @@ class Translator:
         own = None if before is None or before.clock is not None or ended is None or one.start < ended - self.tolerance else self.cuts[rendition][before.id][1]
         return start if own is None or start is None else max(start, own)
 
-    def begin_at(self, rendition: str, lines: list[str] | None, began: int, begins: int) -> list[str] | None:
+    def begin_at(self, rendition: str, lines: list[str], began: int, begins: int) -> list[str]:
         """A segment of the `rendition`, which began at the instant `began`, has the instant `begins`: so have the breaks that begin with it. The
         EXT-X-DATERANGE `lines` of its list say so then."""
         for cut in self.cuts[rendition].values():
             if cut[0] is not None and abs(cut[0] - began) <= self.tolerance:
-                was, now = (f'START-DATE="{instant_text(it)}"' for it in (cut[0], begins))
-                cut[0], lines = begins, None if lines is None else [line.replace(was, now) for line in lines]
-        return lines
+                cut[0] = begins
+        starts = [(line, packaged.attributes_of(line.partition(":")[2]).get("START-DATE", "")) for line in lines]
+        is_there = [(at := packaged.instant_of(start)) is not None and abs(at - began) <= self.tolerance for _, start in starts]
+        return [line.replace(f'"{start}"', f'"{instant_text(begins)}"', 1) if it else line for (line, start), it in zip(starts, is_there)]
 
     def is_cut_elsewhere(self, one: Break, rendition: str) -> bool:
         """Whether the break `one` begins or ends elsewhere in the `rendition` than where its signal was shown."""

@@ -518,6 +518,62 @@ def test_names_do_not_make_another_run_of_a_packager_the_same(room):
     assert repairer.take(re.sub(rb"s\d+\.ts", b"s.ts", spelled(1, 6, 1, "", "{}/")), 1, CLOCK).waits
 
 
+def numbered(first, last, turn, folder="", ahead=0):
+    """The list of segments from `first` to `last`, whose media numbers are `ahead` of theirs, in a `folder`."""
+    return spelled(first, last, turn, "each", before=folder).replace(f"SEQUENCE:{first}\n".encode(), f"SEQUENCE:{first + ahead}\n".encode())
+
+
+def test_two_packagers_behind_one_address_are_one_programme(room):
+    """The other one counts from other numbers, and names its segments as the first does, or otherwise; it is a segment later."""
+    for ahead in (0, 3, -4, 1000):
+        for other in (b"s", b"o"):
+            rules, repairer, given = Rules(), Repairer(Choices()), {}
+            for turn in range(40):
+                last, is_other = 8 + turn // 2, turn % 8 > 4
+                body = numbered(last - 6, last - 1, turn, "b/", ahead).replace(b"b/s", b"b/" + other) if is_other else numbered(last - 5, last, turn)
+                found = repairer.take(body, float(turn), CLOCK)
+                if found.found is None:
+                    continue
+                for it in rules.push(found.body()).segments:
+                    assert given.setdefault(it.number, it.time) == it.time, (ahead, other, turn, it)
+                repairer.accept(found)
+            times = [given[it] for it in sorted(given)]
+            assert times == sorted(set(times)), (ahead, other, "each instant is given once, and in order")
+            assert len(times) >= 24 and (other == b"o" or all(b - a < 2 * 10**9 for a, b in zip(times, times[1:]))), (ahead, other, len(times))
+
+
+def test_date_ranges_hold_for_a_list_whose_first_segments_are_left_out(room):
+    line = f'#EXT-X-DATERANGE:ID="b",START-DATE="{instant(0)}"\n'
+    repairer = Repairer(Choices())
+    repairer.accept(repairer.take(spelled(2, 7, 0, "each"), 0, CLOCK))
+    found = repairer.take(spelled(0, 8, 1, "each").replace(b"#EXT-X-PROG", line.encode() + b"#EXT-X-PROG", 1), 1, CLOCK)  # (older segments came back)
+    assert set(found.kinds) == {"older segments"} and found.found.date_ranges() == [line.strip()], found.found and found.found.date_ranges()
+
+
+def test_tags_after_the_last_segment_are_of_the_next_one(room):
+    key = '#EXT-X-KEY:METHOD=AES-128,URI="k{}",IV=0x1\n'
+    one, two = (spelled(0, last, 0, "each").replace(b"#EXT-X-PROG", key.format(1).encode() + b"#EXT-X-PROG", 1) for last in (4, 5))
+    for tail in (key.format(2), f"#EXT-X-PROGRAM-DATE-TIME:{instant(99)}\n"):
+        repairer, whole = Compared(Choices()), one + tail.encode() + two[len(one):]
+        for turn, body in enumerate((one, one + tail.encode(), whole)):
+            found = repairer.take(body, float(turn), CLOCK)  # (it holds what is read as what is new against the whole list)
+            repairer.accept(found)
+        newest = found.found.segments[-1]
+        assert (newest.keys[0].text.endswith('URI="k2",IV=0x1')) == ("KEY" in tail) and newest.uri == "s5.ts", (tail, newest)
+
+
+def test_segments_without_a_section_before_a_programme_that_has_one_are_left_out(room):
+    rules, repairer = Rules(), Repairer(Choices())
+    for last in range(5, 20):
+        text = spelled(last - 5, last, 0, "each")
+        text = re.sub(rb"(#EXT-X-PROGRAM-DATE-TIME:[^\n]*\n#EXTINF:1.9,\ns4.ts)", rb'#EXT-X-MAP:URI="i.mp4"\n\1', text) if last < 9 else text.replace(b"#EXT-X-PROG", b'#EXT-X-MAP:URI="i.mp4"\n#EXT-X-PROG', 1)
+        found = repairer.take(text, 2.0 * last, CLOCK)
+        written = rules.push(found.body())
+        repairer.accept(found)
+        assert [it.number for it in written.segments] == list(range(max(4, last - 5), last + 1)) and ("other sections" in found.kinds) == (last < 9), (last, found.kinds)
+        assert all(it.init_section is not None for it in written.segments)
+
+
 def test_right_lists_pass_unchanged(room):
     for window in (3, 6):
         for times in ("each", "first"):

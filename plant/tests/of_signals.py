@@ -284,6 +284,35 @@ def test_breaks_are_told_by_the_names_of_the_standard(room):
     assert "signals Ignored: segment 12: splice_insert says that it lasts 3155760000 s, over a day: taken as no duration" in told(named("cue-of-a-century"))
 
 
+def tagged(tags, last):
+    """What the list of segments of 2 s up to `last` says, of which some have `tags` before them by their numbers."""
+    lines = [f"#EXTM3U\n#EXT-X-VERSION:3\n#EXT-X-TARGETDURATION:2\n#EXT-X-MEDIA-SEQUENCE:{last - 5}"]
+    for number in range(last - 5, last + 1):
+        lines += [*tags.get(number, []), f"#EXT-X-PROGRAM-DATE-TIME:{instant(2 * number)}\n#EXTINF:2,\ns{number}.ts"]
+    return listed("\n".join([*lines, ""]))
+
+
+def known_after(tags, last=12):
+    """When the breaks begin and end that are known after lists up to `last`, in seconds."""
+    translator, zero = Translator(), listed(f"#EXTM3U\n#EXT-X-TARGETDURATION:2\n#EXT-X-PROGRAM-DATE-TIME:{instant(0)}\n#EXTINF:2,\na.ts\n").segments[0].begins
+    for newest in range(6, last + 1):
+        translator.take(tagged(tags, newest))
+    return [((it.start - zero) // SECOND, (it.end() - zero) // SECOND) for it in translator.breaks.known]
+
+
+def test_a_begin_that_is_cancelled_before_the_same_segment_begins_nothing(room):
+    begins, cancels = (f"#EXT-OATCLS-SCTE35:{letters(data)}" for data in (insert(seconds=6), insert(is_cancelled=True)))
+    assert known_after({10: [begins]}) == known_after({10: [cancels, begins]}) == [(20, 26)]
+    assert known_after({10: [begins, cancels]}) == known_after({10: [begins, "#EXT-X-CUE-OUT:6", cancels]}) == []
+
+
+def test_a_repeated_begin_of_the_same_event_with_a_longer_duration_extends_the_break(room):
+    begins, longer, shorter = (f"#EXT-OATCLS-SCTE35:{letters(insert(seconds=seconds))}" for seconds in (6, 12, 4))
+    assert known_after({10: [begins], 11: [longer]}) == [(20, 32)]
+    assert known_after({10: [begins], 11: [shorter]}) == known_after({10: [begins], 11: [begins]}) == [(20, 26)]
+    assert known_after({10: [begins], 12: ["#EXT-X-CUE-OUT:12"]}) == [(20, 26)], "a tag without a section says nothing of the event"
+
+
 def test_each_message_is_told_once_in_all_renditions(room):
     for style in STYLES:
         one = told(style)

@@ -12,7 +12,9 @@ from tools import PLANT, apart
 sys.path.insert(0, PLANT)
 import simulated  # noqa: E402
 from adsplice_rules.edge import Edge, Request  # noqa: E402
-from simulation.controller import Controller  # noqa: E402
+from adsplice_rules.values import InitSection, Key  # noqa: E402
+from simulation import families  # noqa: E402
+from simulation.controller import Controller, Written  # noqa: E402
 from simulation.named import ALONE, CALM, LONG, NAMED, UNDECIDED, of  # noqa: E402
 from simulation.packager import BASE, Packager  # noqa: E402
 from simulation.plan import ALL, Fault, draw  # noqa: E402
@@ -74,8 +76,8 @@ def test_a_simulated_controller_answers_as_the_rules(room):
         answers |= both.answers
     assert answers.keys() >= {(201, ""), (204, ""), (200, ""), (409, "J9"), (409, "J11"), (409, "N6"), (409, "N8"), (422, "P10")}, answers
     made = []
-    for seed in (3, 4, 8):
-        world = World(replace(draw(seed), length=120.0), lambda: made.append(Both()) or made[-1])
+    for plan in (draw(3), draw(4), draw(8), families.draw(4_000_001, 20.0), families.draw(5_500_000, 20.0), families.draw(7_000_002, 20.0)):
+        world = World(replace(plan, length=min(plan.length, 120.0)), lambda: made.append(Both()) or made[-1])
         world.run()
     assert sum(it.answers.get((200, ""), 0) for it in made) > 100, [it.answers for it in made]
 
@@ -105,6 +107,15 @@ def test_days_that_once_broke_a_promise_break_none(room):
             broken[seed] = [str(it) for it in found[:2]]
     simulated.WAYS["is_group"] = False
     assert not broken, broken
+
+
+@apart
+def test_days_of_each_family_break_no_promise(room):
+    """A channel by itself, and a ladder."""
+    assert [it.text for it in families.FAMILIES] == [line.split(maxsplit=1)[1] for line in families.told().splitlines()]
+    seeds = [families.FIRST + place * families.SIZE + first + number for place in range(len(families.FAMILIES)) for first, count in ((0, 5), (families.LADDERS, 2)) for number in range(count)]
+    broken = {seed: [str(it) for it in found[:2]] for seed in seeds if (found := simulated.play(families.draw(seed, 20.0)).found)}
+    assert not broken, f"plant/tests/simulated.py --shrink SEED: {broken}"
 
 
 @apart
@@ -210,7 +221,7 @@ def test_faults_are_left_out_one_by_one(room):
 
     def spoil(world, fault, names):
         whole(world, fault, names)
-        world.viewers["v"].see([(20, "http://ads.example/v/x/0/0-0.ts", 0)], world.now)
+        world.viewers["v"].see([Written(20, "http://ads.example/v/x/0/0-0.ts", 0)], world.now)
     World.fault_controller_killed = spoil
     try:
         assert [it.kind for it in simulated.shrunk(plan, "two contents").faults] == ["controller killed"]
@@ -224,13 +235,29 @@ def seen(*lists):
     packager.go_on(60_000)
     viewers = Viewers(CALM, packager, {"v": packager}, ads, {uri: 0.0 for uri in packager.truth})
     for one in lists:
-        viewers.see(one, 1.0)
+        viewers.see([Written(*it) for it in one], 1.0)
     return [it.kind for it in viewers.breaches]
 
 
 def programme(first, last, number=None):
     """Those segments of the programme whose cuts have the numbers `first` to `last`, with media numbers from `number` on."""
     return [((first if number is None else number) + place, f"{BASE}/v/0/{cut}.ts", 0) for place, cut in enumerate(range(first, last + 1))]
+
+
+def test_viewers_see_wrong_keys_and_sections(room):
+    plan = replace(CALM, keys="stated", maps="once")
+    packager, key, section = Packager(plan, "v"), Key("identity", "AES-128", "http://k.example/k0-0?t=3", 9, ""), InitSection(f"{BASE}/v/init0.mp4", None, ())
+    packager.go_on(60_000)
+
+    def seen_with(*items):
+        viewers = Viewers(plan, packager, {"v": packager}, Ads(), dict.fromkeys(packager.truth, 0.0))
+        for keys, init_section in items:
+            viewers.see([Written(3, f"{BASE}/v/0/3.ts", 0, keys, init_section)], 1.0)
+        return [it.kind for it in viewers.breaches]
+    assert seen_with(((key,), section), ((key,), section)) == []
+    assert seen_with(((), section)) == seen_with(((replace(key, iv=3),), section)) == seen_with(((replace(key, uri="http://k.example/k0-1"),), section)) == ["wrong key"]
+    assert seen_with(((key,), None)) == seen_with(((key,), replace(section, uri=f"{BASE}/v/init1.mp4"))) == ["wrong section"]
+    assert seen_with(((key,), section), ((replace(key, uri="http://k.example/k0-0?t=4"),), section)) == ["two keys or sections"]
 
 
 def test_viewers_see_what_is_wrong(room):

@@ -6,6 +6,13 @@
   plant/tests/simulated.py --shrink SEED [--kind WORD] [--loud]      the fewest faults with which a day still breaks a promise
   plant/tests/simulated.py --named [NAME]     the named days
 
+Families of days have ranges of seeds, with those of ladders from 500,000 in it on:
+  1  all kinds of programmes
+  1000000  packagers spell their segments otherwise in each list
+  2000000  sound has segments twice as long
+  3000000  each rendition is of a kind of its own
+{families}
+
 A seed is the same day each time. Prints for each kind of breach how many days had it, and their seeds. The status is 1 if there was any.
 """
 import argparse
@@ -21,6 +28,7 @@ sys.dont_write_bytecode = True
 HERE = os.path.dirname(os.path.abspath(__file__))
 sys.path[:0] = [HERE, os.path.dirname(HERE)]
 
+from simulation import families  # noqa: E402
 from simulation.controller import Controller  # noqa: E402
 from simulation.group import GroupWorld, draw_group  # noqa: E402
 from simulation.named import NAMED  # noqa: E402
@@ -36,7 +44,7 @@ WAYS = {"is_by_rules": False, "has_text": True, "is_group": False}  # how all da
 
 def drawn(seed: int, each: float) -> Plan:
     """The plan of a seed, of one machine or of several."""
-    return draw_group(seed, each) if WAYS["is_group"] else draw(seed, each)
+    return draw_group(seed, each) if WAYS["is_group"] else families.draw(seed, each) if seed >= families.FIRST else draw(seed, each)
 
 
 def play(plan: Plan, is_loud: bool = False) -> World:
@@ -140,7 +148,7 @@ def tell_named(name: str) -> bool:
 
 def main(words: list[str]) -> int:
     """The status of a run with these words."""
-    it = argparse.ArgumentParser(description=__doc__, formatter_class=argparse.RawDescriptionHelpFormatter)
+    it = argparse.ArgumentParser(description=(__doc__ or "").format(families=families.told()), formatter_class=argparse.RawDescriptionHelpFormatter)
     it.add_argument("--seconds", type=float, default=20.0, help="of processor (20)")
     it.add_argument("--count", type=int, help="of days, in place of seconds")
     it.add_argument("--seed", type=int, default=1, help="the first one (1)")

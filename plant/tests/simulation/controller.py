@@ -8,12 +8,14 @@ from collections import deque
 from collections.abc import Iterable, Iterator
 from dataclasses import dataclass, field
 from functools import lru_cache
+from typing import NamedTuple
 
 from adsplice_rules import breaks as rules
 from adsplice_rules import edge
 from adsplice_rules.breaks import Break, Mark, Moment
 from adsplice_rules.decisions import Pod, Store, decided, decisions_of, kept_in_use
 from adsplice_rules.edge import Edge, Reply, Request, refused
+from adsplice_rules.keys import MOST_FORMATS, effective_keys, key_of, keys_after, lacks_iv, map_of
 from adsplice_rules.numbers import Item
 from adsplice_rules.reading import date_range_of, read
 from adsplice_rules.stitched import Piece, ad_segment
@@ -21,12 +23,29 @@ from adsplice_rules.succession import succession_fault
 from adsplice_rules.text import text_of
 from adsplice_rules.times import begins_at, duration_of, instant_of
 from adsplice_rules.uris import Url, resolved
-from adsplice_rules.values import DateRange, Fault, Playlist, Segment
+from adsplice_rules.values import DateRange, Fault, InitSection, Keys, Playlist, Segment
 
 REMEMBERED = 4096
 
 instants, durations = lru_cache(REMEMBERED)(instant_of), lru_cache(REMEMBERED)(duration_of)
 references, ranges, decisions = lru_cache(REMEMBERED)(resolved), lru_cache(REMEMBERED)(date_range_of), lru_cache(REMEMBERED)(decisions_of)
+keys_said, maps_said = lru_cache(REMEMBERED)(key_of), lru_cache(REMEMBERED)(map_of)
+
+
+class Written(NamedTuple):
+    """A written segment, as viewers have it: its media number, its URI, its discontinuity number, its keys and its initialisation section."""
+
+    number: int
+    uri: str
+    discontinuity: int
+    keys: Keys = ()
+    section: InitSection | None = None
+
+
+def written(it: Item) -> Written:
+    """The item `it` of a stitched list as viewers have it."""
+    one = it.piece.segment
+    return Written(it.media, one.uri, it.discontinuity, one.keys, one.init_section)
 
 
 # ---- lists
@@ -36,7 +55,7 @@ class Unusual(Exception):
 
 
 HEAD = ("EXT-X-VERSION", "EXT-X-TARGETDURATION", "EXT-X-MEDIA-SEQUENCE", "EXT-X-DISCONTINUITY-SEQUENCE")
-LEFT = ("#EXT-X-KEY", "#EXT-X-MAP", "#EXT-X-BYTERANGE", "#EXT-X-ENDLIST", "#EXT-X-PLAYLIST-TYPE", "#EXT-X-I-FRAMES-ONLY", "#EXT-X-MEDIA:", "#EXT-X-S", "#EXT-X-I-FRAME-")
+LEFT = ("#EXT-X-BYTERANGE", "#EXT-X-ENDLIST", "#EXT-X-PLAYLIST-TYPE", "#EXT-X-I-FRAMES-ONLY", "#EXT-X-MEDIA:", "#EXT-X-S", "#EXT-X-I-FRAME-")
 
 
 def number_of(text: str) -> int:
@@ -55,6 +74,8 @@ class Reader:
         self.is_independent = False
         self.steps, self.time, self.duration = 0, None, None
         self.title, self.discontinuity = "", 0
+        self.keys: Keys = ()
+        self.section: InitSection | None = None
 
     def uri(self, line: str) -> None:
         """A segment's URI."""
@@ -63,7 +84,8 @@ class Reader:
         if not self.found:
             self.number, self.discontinuity = self.head.get("EXT-X-MEDIA-SEQUENCE", 0), self.head.get("EXT-X-DISCONTINUITY-SEQUENCE", 0)
         self.discontinuity += self.steps
-        self.found.append(Segment(self.number + len(self.found), self.discontinuity, self.steps, references(self.base, line), None, (), None,
+        self.found.append(Segment(self.number + len(self.found), self.discontinuity, self.steps, references(self.base, line), None,
+                                  effective_keys(self.keys, self.number + len(self.found)) if self.keys else (), self.section,
                                   self.duration, self.title, self.time))
         self.steps, self.time, self.duration, self.title = 0, None, None, ""
 
@@ -83,6 +105,14 @@ class Reader:
             self.ranges.append(ranges(rest))
         elif line == "#EXT-X-DISCONTINUITY":
             self.steps += 1
+        elif name == "EXT-X-KEY":
+            self.keys = keys_after([*self.keys, keys_said(self.base, rest)])
+            if len(self.keys) > MOST_FORMATS:
+                raise Unusual
+        elif name == "EXT-X-MAP":
+            if lacks_iv(self.keys):
+                raise Unusual
+            self.section = InitSection(*maps_said(self.base, rest), self.keys)
         elif line == "#EXT-X-INDEPENDENT-SEGMENTS":
             self.is_independent = True
         elif name in HEAD:
@@ -96,6 +126,8 @@ class Reader:
         """All that was read; raises Unusual if it isn't a list."""
         version = self.head.get("EXT-X-VERSION", 1)
         if not self.found or "EXT-X-TARGETDURATION" not in self.head or not 1 <= version <= 7:
+            raise Unusual
+        if len({it.init_section is None for it in self.found}) > 1:
             raise Unusual
         return Playlist(version, self.head["EXT-X-TARGETDURATION"], None, self.is_independent, False, tuple(self.ranges), tuple(self.found))
 
@@ -342,10 +374,10 @@ class Controller:
             return Reply(405, "method not allowed\n")
         return Reply(204)
 
-    def items(self, name: str) -> Iterable[tuple[int, str, int]]:
-        """What viewers have of a channel: media number, URI and discontinuity number of each segment."""
+    def items(self, name: str) -> Iterable[Written]:
+        """What viewers have of a channel."""
         it = self.channels.get(name)
-        return () if it is None or it.last is None else ((one.media, one.piece.segment.uri, one.discontinuity) for one in it.window())
+        return () if it is None or it.last is None else map(written, it.window())
 
     def held(self, name: str, id_: str) -> bool:
         """Whether a channel holds a decision of the break `id_`."""

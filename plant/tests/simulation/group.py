@@ -22,7 +22,7 @@ from adsplice_plant.state import State, begin
 from adsplice_rules.edge import Request as Asked
 from keys import At, Keys
 
-from .controller import Controller
+from .controller import Controller, Written
 from .feed import RETRY, SECOND, Copies, Feed, Log
 from .plan import ALL, Fault, Plan, draw
 from .viewers import Breach, Viewers
@@ -505,7 +505,7 @@ class GroupWorld(World):
             site.viewers[name].see(items, self.now, is_ahead)
         elif items and items[-1][0] >= self.viewers[name].last and not is_ahead:
             site.come(name, copy_of(self.viewers[name]))
-        for number, uri, discontinuity in items:
+        for number, uri, discontinuity, *_ in items:
             had = self.ledger.setdefault((name, number), (uri, discontinuity, site.place))
             if had[:2] != (uri, discontinuity):
                 self.breach("replicas contradict", f"{name} m{site.place}", f"number {number} is {had[:2]} on m{had[2]}, and {(uri, discontinuity)}")
@@ -515,7 +515,7 @@ class GroupWorld(World):
         if it is not None and items and not is_ahead:
             self.compare(site, name, it.text() or "", items)
 
-    def compare(self, site: Site, name: str, text: str, items: list[tuple[int, str, int]]) -> None:
+    def compare(self, site: Site, name: str, text: str, items: list[Written]) -> None:
         """Compares the lists of two machines that begin and end with the same numbers."""
         key = name, items[0][0], items[-1][0]
         had = self.texts.setdefault(key, (site.place, text))

@@ -37,6 +37,16 @@ class Fault(NamedTuple):
         return f"Fault({self.at}, {self.kind!r}, {self.who!r}, {self.size}, {self.number})"
 
 
+class Twin(NamedTuple):
+    """A second packager behind the address of each rendition: it lists segments so many milliseconds later (`late`), counts its media numbers from
+    `base`, and has names of so many digits (`digits`). A look is answered by the packager that answered the last one with the probability `stays`."""
+
+    late: int
+    base: int
+    digits: int
+    stays: float
+
+
 @dataclass(frozen=True)
 class Plan:
     """A day of `length` seconds with the renditions `names`, the first of which is the picture. `target`: milliseconds of a segment; `window`:
@@ -44,7 +54,9 @@ class Plan:
     who signals; `processes`: whether each rendition has a controller of its own; `has_fallback`; `asks`: whether decisions are asked for;
     `marks`: whether the packager has discontinuities where breaks begin and end; `in_step`: whether they number alike; `long`: the renditions whose
     segments are twice as long; `later`: those that the feed reads from a moment on, in seconds; `fill`: in which renditions a break begins that one
-    can't begin; `kinds`: whether each rendition is of a kind of its own, so that none has segments for another one."""
+    can't begin; `kinds`: whether each rendition is of a kind of its own, so that none has segments for another one; `keys`: how EXT-X-KEY states them
+    (not at all, `number` as IV, `stated` IV, `sample`: SAMPLE-AES with its IV), each for so many segments (`rotates`; 0: all); `maps`: where EXT-X-MAP
+    stands (nowhere, `once` after the first key, `first` before it, `each` after each key); `twin`: a second packager, if there is one."""
 
     seed: int
     names: tuple[str, ...] = ("v", "a")
@@ -65,6 +77,10 @@ class Plan:
     kinds: bool = False
     breaks: tuple[Span, ...] = ()
     faults: tuple[Fault, ...] = field(default=())
+    keys: str = ""
+    rotates: int = 0
+    maps: str = ""
+    twin: Twin | None = None
 
     def times(self, name: str) -> int:
         """How many times the target a segment of the rendition `name` lasts."""
@@ -79,12 +95,16 @@ SPELLED = 1_000_000  # from this seed on packagers spell their segments otherwis
 WAYS = 6
 OWN = 3_000_000  # from this seed on each rendition is of a kind of its own, and has nobody's segments; packagers spell as they do before SPELLED
 LONGER = 2_000_000  # from this seed on sound, if there is some, has segments twice as long; packagers spell as they do before SPELLED
+SPELLINGS: dict[int, tuple[str, ...]] = {  # what is spelled otherwise in each list, by the number of the fault
+    0: (), 1: ("query",), 2: ("line ends",), 3: ("folder",), 4: ("host",), 5: ("corrected",), 6: ("part",), 7: ("section",), 8: ("section", "query"), 9: ("section", "host"),
+    10: ("section", "key"), 11: ("key",), 12: ("key", "query"), 13: ("key's folder",), 14: ("key", "folder"), 15: ("folder", "corrected"), 16: ("host", "corrected"), 17: ("grows",),
+    18: ("folder", "grows"), 19: ("host", "grows"), 20: ("query", "grows"), 21: ("query", "corrected"), 22: ("host", "query", "part")}
 STYLES = ("cues", "cues", "endless cues", "ranges", "ranges")
 
 
-def breaks_of(dice: random.Random, length: float, target: int) -> tuple[Span, ...]:
-    """The breaks of a programme of `length` seconds: some end early, some aren't as long as whole segments."""
-    found, at = [], 12 + dice.randint(0, 4)
+def breaks_of(dice: random.Random, length: float, target: int, first: int = 12) -> tuple[Span, ...]:
+    """The breaks of a programme of `length` seconds, after so many segments (`first`) or a few more: some end early, some aren't as long as whole segments."""
+    found, at = [], first + dice.randint(0, 4)
     while at * target < (length - 20) * 1000:
         count = dice.choice((2, 3, 5, 8))
         planned = count * target - dice.choice((0, 0, 0, 0, target // 10))

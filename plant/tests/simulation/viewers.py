@@ -6,6 +6,7 @@ from collections.abc import Iterable, Mapping, Sequence
 from dataclasses import dataclass, field
 from typing import NamedTuple
 
+from .controller import Written
 from .packager import BASE, Cut, Packager, plain
 from .plan import FALLBACK, Plan, Span
 
@@ -38,6 +39,11 @@ def cut_of(uri: str) -> int:
     return int(uri.rpartition("/")[2][:-3])
 
 
+def name_of(uri: str) -> str:
+    """The last part of the path of a `uri`."""
+    return uri.partition("?")[0].rpartition("/")[2]
+
+
 @dataclass
 class Ads:
     """All pods that were ever decided, by rendition, break and version: their URIs, and how long they last in milliseconds."""
@@ -56,7 +62,7 @@ class Viewers:
     others: Mapping[str, Packager]
     ads: Ads
     read: dict[str, float]
-    ledger: dict[int, tuple[str, int]] = field(default_factory=dict)
+    ledger: dict[int, Written] = field(default_factory=dict)
     last: int = -1
     reached: int | None = None  # the millisecond of the programme up to which they have it
     seen: dict[str, int] = field(default_factory=dict)  # the media number of each segment of the programme
@@ -71,19 +77,22 @@ class Viewers:
         """A promise of a `kind` was broken."""
         self.breaches.append(Breach(kind, self.now, self.packager.name, text))
 
-    def see(self, items: Iterable[tuple[int, str, int]], now: float, is_ahead: bool = False) -> None:
+    def see(self, items: Iterable[Written], now: float, is_ahead: bool = False) -> None:
         """They load the written `items` at the moment `now`. A list that comes ahead of another one (`is_ahead`) may be shorter than the last one: the
         next one comes at once."""
         self.now, number = now, -1
-        for number, uri, discontinuity in items:
+        for it in items:
+            number = it.number
             had = self.ledger.get(number)
             if had is None:
-                self.ledger[number] = uri, discontinuity
-                self.take(number, uri)
-            elif had[0] != uri:
-                self.breach("two contents", f"number {number} was {had[0]}, and is {uri}")
-            elif had[1] != discontinuity:
-                self.breach("two discontinuity numbers", f"number {number} ({uri}) had {had[1]}, and has {discontinuity}")
+                self.ledger[number] = it
+                self.take(number, it.uri)
+            elif had.uri != it.uri:
+                self.breach("two contents", f"number {number} was {had.uri}, and is {it.uri}")
+            elif had.discontinuity != it.discontinuity:
+                self.breach("two discontinuity numbers", f"number {number} ({it.uri}) had {had.discontinuity}, and has {it.discontinuity}")
+            elif had != it:
+                self.breach("two keys or sections", f"number {number} ({it.uri}) had {had.keys} {had.section}, and has {it.keys} {it.section}")
         if 0 <= number < self.last and not is_ahead:
             self.breach("goes back", f"from {self.last} to {number}")
         self.last = max(self.last, number)
@@ -103,7 +112,7 @@ class Viewers:
     def numbers(self) -> dict[int, tuple[int, int]]:
         """The media number and the discontinuity number of each cut of the programme, whosever segment that was."""
         times = self.plan.times(self.packager.name)
-        return {times * cut_of(path): (number, self.ledger[number][1]) for path, number in self.seen.items()}
+        return {times * cut_of(path): (number, self.ledger[number].discontinuity) for path, number in self.seen.items()}
 
     # ---- pods
 
@@ -138,7 +147,8 @@ class Viewers:
             return self.at_first()
         after = self.plan.breaks[self.since[-1].place].end if self.since and self.since[-1].place >= 0 else self.reached
         next_one = next((it.begin for it in self.between(after, after + MOST_AWAY) if self.was_read(it)), after)  # (what lies before that is nobody's)
-        near = [(it.name != name, at != next_one, abs(it.start - at), place) for at in (after, next_one) for place, it in enumerate(self.plan.breaks)
+        planned = self.plan.breaks[self.since[-1].place].planned if self.since and self.since[-1].place >= 0 else after
+        near = [(it.name != name, order, abs(it.start - at), place) for order, at in enumerate((next_one, after, planned)) for place, it in enumerate(self.plan.breaks)
                 if abs(it.start - at) <= self.half_at(it.start) + NEAR]
         return min(near)[-1] if near else -1
 
@@ -170,6 +180,7 @@ class Viewers:
         if found is None:
             self.breach("segment of nobody", uri)
             return
+        self.look_for_keys(self.ledger[number], found)
         if path in self.seen:
             self.breach("doubled", uri)
         elif self.reached is not None and (found.begin + found.end) // 2 < self.reached:
@@ -179,6 +190,14 @@ class Viewers:
         self.seen[path] = number
         self.times.setdefault(cut_of(path), self.now)
         self.reached, self.since = max(found.end, self.reached or 0), []
+
+    def look_for_keys(self, it: Written, found: Cut) -> None:
+        """The segment `it` has the key and the initialisation section of the cut that was `found`, however they are spelled."""
+        keys = [(name_of(one.uri), one.iv) for one in it.keys]
+        if keys != ([(found.key, found.iv)] if found.key else []):
+            self.breach("wrong key", f"{it.uri} has {keys} in place of {found.key} {found.iv}")
+        if (name_of(it.section.uri) if it.section is not None else "") != found.section:
+            self.breach("wrong section", f"{it.uri} has {it.section} in place of {found.section}")
 
     def look_for_lost(self, begin: int, end: int, uri: str) -> None:
         """They have the programme up to `begin`, and then from `end` on, with the segment `uri`."""

@@ -16,10 +16,10 @@ from adsplice_plant.web import Answer
 from adsplice_rules.edge import Edge
 from adsplice_rules.edge import Request as Asked
 
-from .controller import Controller
+from .controller import Controller, Written, written
 from .feed import Answered, AskedInVain, Copies, FallbackRead, Feed, FolderRead, Found, ListRead, Log
 from .packager import BASE, EPOCH, Packager, plain
-from .plan import ALL, FALLBACK, Fault, Plan, Span
+from .plan import ALL, FALLBACK, SPELLINGS, Fault, Plan, Span
 from .viewers import ADS, Ads, Breach, Viewers, cut_of
 
 LIMIT = 5.0  # seconds after which a request is given up
@@ -36,10 +36,10 @@ class RulesController:
         self.edge = Edge()
         self.answer = self.edge.answer
 
-    def items(self, name: str) -> list[tuple[int, str, int]]:
+    def items(self, name: str) -> list[Written]:
         """As in Controller."""
         it = self.edge.channels.get(name)
-        return [] if it is None or not it.accepted else [(one.media, one.piece.segment.uri, one.discontinuity) for one in it.window()]
+        return [] if it is None or not it.accepted else [written(one) for one in it.window()]
 
     def held(self, name: str, id_: str) -> bool:
         """As in Controller."""
@@ -84,6 +84,9 @@ class World:
         self.now, self.count = 0.0, 0
         self.queue: list[tuple[float, int, Callable[..., None], tuple[Any, ...]]] = []
         self.packagers = {name: Packager(plan, name) for name in plan.names}
+        self.twins = {name: Packager(plan, name, it) for name, it in self.packagers.items()} if plan.twin is not None else {}
+        self.looks: Counter[str] = Counter()
+        self.answers: dict[str, Packager] = {**self.packagers}  # who of two packagers answered last
         self.renditions = {plan.channel(name): name for name in plan.names}
         one = Process(make())
         self.processes = {name: Process(make()) if plan.processes else one for name in plan.names}
@@ -250,7 +253,7 @@ class World:
         """The list of a rendition is read, if it can be."""
         if not self.feed.is_up or self.now < self.unread_until.get(name, 0.0):
             return
-        it, now = self.packagers[name], round(self.now * 1000)
+        it, now = self.who_answers(name), round(self.now * 1000)
         late = self.late.get(name)
         if late is not None:
             late.reads += 1
@@ -265,6 +268,14 @@ class World:
             return
         self.was_sent[name] = body
         self.feed.give(ListRead(self.plan.channel(name), body))
+
+    def who_answers(self, name: str) -> Packager:
+        """The packager of a rendition that answers now: of two behind one address often another one than before, as long as the day lasts."""
+        if self.plan.twin is not None and self.now <= self.plan.length:
+            self.looks[name] += 1
+            if self.dice("who answers", name, self.looks[name]).random() >= self.plan.twin.stays:
+                self.answers[name] = self.packagers[name] if self.answers[name] is self.twins[name] else self.twins[name]
+        return self.answers[name]
 
     def taken(self, event: ListRead) -> None:
         """The feed takes a list in: remembers which segments it has read."""
@@ -450,7 +461,8 @@ class World:
         """The ads of a pod whose segments have these lengths in milliseconds; in a rendition with longer ones those of two and two together."""
         times = self.plan.times(rendition)
         lengths = [[sum(ad[place:place + times]) for place in range(0, len(ad), times)] for ad in lengths]
-        found = [{"segments": [{"uri": f"{ADS}{rendition}/{name}/{version}/{place}-{number}.ts", "duration": str(one / 1000)} for number, one in enumerate(ad)]}
+        section = {"map": {"uri": f"{ADS}{rendition}/{name}/{version}/init.mp4"}} if self.plan.maps else {}
+        found = [{**section, "segments": [{"uri": f"{ADS}{rendition}/{name}/{version}/{place}-{number}.ts", "duration": str(one / 1000)} for number, one in enumerate(ad)]}
                  for place, ad in enumerate(lengths)]
         key = rendition, name, version
         self.ads.uris[key] = [one["uri"] for ad in found for one in ad["segments"]]
@@ -539,7 +551,7 @@ class World:
     def fault_spelled_otherwise(self, fault: Fault, names: tuple[str, ...]) -> None:
         """Lists are spelled otherwise from now on."""
         for name in names:
-            self.packagers[name].spelled = fault.number
+            self.packagers[name].spelled = SPELLINGS[fault.number]
 
     def fault_signals_late(self, fault: Fault, names: tuple[str, ...]) -> None:
         """The date range of the next break comes late into lists."""
@@ -579,7 +591,7 @@ class World:
 
     def fault_packagers_clock(self, fault: Fault, names: tuple[str, ...]) -> None:
         """The clock of all packagers is set."""
-        for it in self.packagers.values():
+        for it in (*self.packagers.values(), *self.twins.values()):
             it.go_on(round(self.now * 1000))
             it.clock += round(fault.size * 1000)
 
