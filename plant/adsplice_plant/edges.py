@@ -6,6 +6,7 @@ from .packaged import PackagedSegment, duration_of
 from .playlist import SECOND
 from .siblings import NEAR, Reach, is_alike, pace_of, reach_of
 from .state import Rendition, Standing
+from .succession import name_of
 from .turn import Turn, history_of
 
 PATIENCE = 2.0  # target durations without a new segment, after which nobody waits for a rendition
@@ -68,10 +69,12 @@ def awaited(turn: Turn, it: Rendition) -> Reach | None:
 
 
 def by_last(it: Rendition, reach: Reach) -> Reach:
-    """How far a list of the rendition goes that goes as far as `reach`, by the clock of what was given last. The packager may have set its clock since: it
-    went back, or on farther than the time in which no list came."""
+    """How far the newest list of the rendition goes, which goes as far as `reach`, by the clock of what was given last, if it still has that. The packager may
+    have set its clock since: it went back, or on farther than the time in which no list came."""
     last = it.stands.repairer.last[-1] if it.stands.repairer.last else None
     if last is None or last.begins is None or reach.instant is None or not 0 < (count := reach.number - last.own - 1) <= NEAR:
+        return reach
+    if it.came is None or name_of(last).encode() not in it.came:
         return reach
     end = last.begins + last.duration + count * reach.last
     by, most = reach.instant - end, max(SECOND, last.duration, reach.last)
