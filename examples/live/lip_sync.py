@@ -125,7 +125,7 @@ class Stretch(NamedTuple):
 
 def flashes_in(room: str, path: str) -> Stretch:
     """When the pictures of a file flash."""
-    gray = ["-vf", "scale=1:1:flags=area,format=gray", "-vsync", "passthrough"]
+    gray = ["-an", "-vf", "scale=1:1:flags=area,format=gray", "-vsync", "passthrough"]
     run("ffmpeg", "-v", "error", "-y", "-copyts", "-i", path, *gray, "-f", "rawvideo", f"{room}/v.raw", *gray, "-f", "framecrc", f"{room}/v.crc")
     with open(f"{room}/v.raw", "rb") as it:
         lights = [it > LIGHT for it in it.read()]
@@ -135,7 +135,7 @@ def flashes_in(room: str, path: str) -> Stretch:
 
 def beeps_in(room: str, path: str) -> Stretch:
     """When the sound of a file beeps."""
-    heard = ["-ac", "1", "-ar", str(SOUND)]
+    heard = ["-vn", "-ac", "1", "-ar", str(SOUND)]
     run("ffmpeg", "-v", "error", "-y", "-copyts", "-i", path, *heard, "-f", "s16le", f"{room}/a.raw", *heard, "-c:a", "pcm_s16le", "-f", "framecrc", f"{room}/a.crc")
     samples = array.array("h")
     with open(f"{room}/a.raw", "rb") as it:

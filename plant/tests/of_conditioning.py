@@ -267,6 +267,35 @@ def test_hevc_and_ac3(room):
     assert frames_of_sound(f"{room.path}/ad/a", 2, f"{room.path}/ad/a/init.mp4") == 125  # (4 s of 48 kHz in frames of 1,536 samples)
 
 
+def test_sound_apart_is_made_in_all_its_makings(room):
+    """20 s are 937.5 frames of sound: the makings have 938, 937, 939 and 936, and none begins an eleventh piece with what lasts on after the pictures."""
+    renditions = {"v": RENDITIONS["v1"], "en": RENDITIONS["en"], "sub": RENDITIONS["sub"]}
+    for container, section in (("ts", ""), ("fmp4", "init.mp4")):
+        its = {name: {**it, "container": it["container"] if name == "sub" else container} for name, it in renditions.items()}
+        to, ending = Path(f"{room.path}/{container}"), "m4s" if section else "ts"
+        status, out, err = condition(room, media(f"{room.path}/ad.mp4", 20), "--ladder", ladder(room, its), "--to", to)
+        assert (status, err) == (0, "") and "20 s in 10 pieces" in out, (out, err)
+        made = json.loads((to / "ad.json").read_text())["makings"]
+        assert sorted(it.name for it in to.iterdir() if it.is_dir()) == sorted([*renditions, *filter(None, made)]) and list(made) == ["", "less-1", "more-1", "less-2"], made
+        for name, frames in zip(made, (938, 937, 939, 936)):
+            assert frames_of_sound(to / name / "en", 10, to / name / "en" / section if section else None) == frames, (container, name)
+            assert abs(made[name][-1] - (frames * 1024 / 48_000 - 20)) < 1e-6 and all(abs(it) < 0.06 for it in made[name]), (name, made)
+            assert all(os.path.samefile(to / name / one, to / one) for one in (f"v/s9.{ending}", "sub/s0.vtt")) and (to / name / "en" / "index.m3u8").read_text() == (to / "en" / "index.m3u8").read_text()
+        begins = [seen(to / one / f"s0.{ending}", to / one / section if section else None)[0][kind][0][0] for one, kind in (("v", "video"), ("en", "audio"))]
+        assert abs(begins[0] - begins[1]) < 0.001, begins
+
+
+def test_an_ad_s_sound_is_where_its_pictures_are(room):
+    """The coder's own frame stands in place of the first one of the ad: a tone that begins after 1 s is heard after 1 s."""
+    path = f"{room.path}/ad.mp4"
+    ffmpeg("-f", "lavfi", "-i", "testsrc2=s=64x36:r=25", "-f", "lavfi", "-i", "aevalsrc='if(gte(t,1),sin(2*PI*880*t),0)':s=48000", "-t", "4", "-c:v", "libx264", "-preset", "ultrafast", "-c:a", "pcm_s16le", "-f", "mov", path)
+    assert condition(room, path, "--ladder", ladder(room, {"v": RENDITIONS["v1"], "en": RENDITIONS["en"]}), "--to", f"{room.path}/ad")[0] == 0
+    sound = subprocess.run(["ffmpeg", "-nostdin", "-v", "error", "-i", f"{room.path}/ad/en/s0.ts", "-ac", "1", "-f", "s16le", "-"], capture_output=True, check=True).stdout
+    samples = memoryview(sound).cast("h")
+    first = next(n for n, it in enumerate(samples) if abs(it) > 3000)
+    assert abs(first - 48_000) < 240, first  # (5 ms)
+
+
 def test_an_ad_without_sound_is_silent_and_one_without_pictures_is_refused(room):
     assert condition(room, media(f"{room.path}/mute.mp4", 4, sound=0), "--ladder", ladder(room), "--to", f"{room.path}/ad")[0] == 0
     assert frames_of_sound(f"{room.path}/ad/v0", 2) in (187, 188) and frames_of_sound(f"{room.path}/ad/en", 2) in (187, 188)
