@@ -130,28 +130,6 @@ def fill(found: Found, planned: int | None, ready_of: Callable[[Ad], Ready | str
     return it.pod
 
 
-@dataclass
-class Balance:
-    """By how many nanoseconds a channel's sound has become longer than its pictures at all breaks together (`over`). `cut_before`: by how many pods had
-    taken more of the sound, as the last question said that counts; `cut_last`: the same of the last question."""
-
-    over: int = 0
-    cut_before: int | None = None
-    cut_last: int | None = None
-
-    def cut(self, now: int | None, most: int) -> None:
-        """Pods have taken more of the sound than of the pictures by `now`; none if that isn't known. A step of over `most` counts for nothing: a rendition
-        lags behind within a break. If the next question is near it, it begins to count from there: the feed has begun anew."""
-        if now is None:
-            return
-        if self.cut_before is not None and abs(now - self.cut_before) <= most:
-            self.over -= now - self.cut_before
-            self.cut_before = now
-        elif self.cut_before is None or self.cut_last is not None and abs(now - self.cut_last) <= most:
-            self.cut_before = now
-        self.cut_last = now
-
-
 def balanced(pod: Pod, by: int) -> tuple[Pod, int]:
     """The `pod` with that making of each ad by which sound stays nearest to pictures, and by how many nanoseconds it is longer after it. Before it sound
     was longer by `by` in all breaks together: players that join streams end to end would be off by so much."""

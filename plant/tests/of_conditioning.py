@@ -147,7 +147,8 @@ def test_sound_is_never_off_by_more_than_a_frame_and_a_half(room):
 def farthest(cut, count=300, is_lost=False, lengths=(10 * SECOND, 10 * SECOND), rate=48_000):
     """How far sound comes from pictures in so many breaks, of which `cut` says how much more of the sound each takes by how far sound is off. Questions tell of that
     once the next break comes. `is_lost`: each tenth question comes while the sound's run isn't over, and once the feed has begun anew."""
-    from adsplice_plant.filling import Balance, Pod, balanced
+    from adsplice_plant.balance import Balance
+    from adsplice_plant.filling import Pod
     one = aac_apart(rate)
     ads = [ready(it, one) for it in lengths]
     balance, off, most, taken = Balance(), 0, 0, {"v": 500 * SECOND, "a": 480 * SECOND}
@@ -156,7 +157,7 @@ def farthest(cut, count=300, is_lost=False, lengths=(10 * SECOND, 10 * SECOND), 
             taken = {"v": 0, "a": 0}
         late = 20 * SECOND if is_lost and number % 10 == 9 and number != 99 else 0
         balance.cut(one.cut_apart({**taken, "a": taken["a"] - late}), one.piece // 2)
-        pod, balance.over = balanced(Pod(list(ads), [None] * len(ads)), balance.over)
+        pod = balance.give(Pod(list(ads), [None] * len(ads)), 300 * SECOND * number, one.pictures_replaced(taken))
         by = cut(off)
         taken = {"v": taken["v"] + 20 * SECOND, "a": taken["a"] + 20 * SECOND + by}
         off += sum(it.over() for it in pod.ready) - by
@@ -178,6 +179,31 @@ def test_sound_that_is_cut_elsewhere_than_pictures_stays_with_them(room):
             assert max(found) <= 3 * frame // 2 + 1000 < 45_000_000, (lengths, found)
     assert farthest(lambda off: rng.randrange(-frame, frame), is_lost=True, rate=44_100) <= 9 * frame // 2
     assert one.cut_apart({"v": 0}) is one.cut_apart({}) is ladders.Ladder(2 * SECOND, {"v": one.renditions["v"]}).cut_apart({"v": 5}) is None
+
+
+@pure
+def test_a_pod_that_nobody_saw_does_not_count(room):
+    """Each third answer comes too late, so its break stays empty: the pictures' sum of what pods replaced stays as it is. Kept on disk, the balance is the same."""
+    from adsplice_plant import balance
+    from adsplice_plant.filling import Pod
+    one, it, off, most, taken = aac_apart(), balance.Balance(), 0, 0, {"v": 0, "a": 0}
+    for number in range(300):
+        balance.keep(Path(f"{room.path}/balance/film.json"), it)
+        it = balance.read(Path(f"{room.path}/balance/film.json"))
+        it.cut(one.cut_apart(taken), one.piece // 2)
+        pod = it.give(Pod([ready(9_960_000_000, one), ready(10 * SECOND, one)], [None, None]), 300 * SECOND * number, one.pictures_replaced(taken))
+        if number % 3 != 2:
+            taken = {"v": taken["v"] + 20 * SECOND, "a": taken["a"] + 20 * SECOND + 10_666_667}
+            off += sum(ad.over() for ad in pod.ready) - 10_666_667
+        most = max(most, abs(off))
+    assert most <= 32_000_000, most
+    for number, owed in ((10, 1), (100, 0)):  # (a break right after the last one is asked for while that one's run goes on; a minute after it the run is over)
+        it = balance.Balance(5, last=balance.Last(5, 20 * SECOND, 7))
+        it.give(Pod(), 20 * SECOND + number * SECOND, 7)
+        assert it.over == 5 * owed, (number, it)
+    for text in ("", "[]", "{", '{"over": "x"}', '{"over": 1, "cut_before": [], "cut_last": 2, "last": 3}', "[" * 100_000):
+        Path(f"{room.path}/balance/film.json").write_text(text)
+        assert balance.read(Path(f"{room.path}/balance/film.json")) == balance.Balance() == balance.read(Path(f"{room.path}/none")), text
 
 
 @pure
