@@ -99,7 +99,7 @@ def finish_making(aside: Path, ladder: Ladder, cut: Cut, more: int) -> tuple[int
     for name, it in ladder.renditions.items():
         folder = aside / folder_of(more) / name
         if more and not it.is_sound():
-            shutil.copytree(aside / name, folder, copy_function=os.link)
+            shutil.copytree(aside / name, folder, copy_function=name_also)
             continue
         ends = finish(folder, it, cut, conditioning.ending_of(ladder), name, more)
         if it.sound is not None and it.sound is ladder.sound_apart():
@@ -118,6 +118,14 @@ def put(aside: Path, to: Path) -> None:
     os.replace(aside, to)
 
 
+def name_also(source: str | Path, to: str | Path) -> None:
+    """Gives the file `source` the name `to`, too; it becomes a copy on a disk whose files have one name each. Raises OSError."""
+    try:
+        os.link(source, to)
+    except OSError:
+        shutil.copyfile(source, to)
+
+
 def finish(folder: Path, it: Rendition, cut: Cut, ending: str, name: str, more: int) -> tuple[int, ...]:
     """Holds what was made for the rendition `it`, called `name`, in the `folder` against the `cut`, and writes its list. Its pieces' names have this `ending`,
     and its sound so many frames `more` than come nearest. Answers where its pieces end, in nanoseconds. Raises Fault."""
@@ -125,7 +133,7 @@ def finish(folder: Path, it: Rendition, cut: Cut, ending: str, name: str, more: 
     if it.container == TEXT:
         for n in range(len(cut.ends)):
             (folder / f"{PIECE.format(n=n)}.vtt").write_text(EMPTY_TEXT, encoding="ascii")
-            os.link(folder / f"{PIECE.format(n=n)}.vtt", folder / f"{PIECE.format(n=n)}.{ending}")  # (one answer names the pieces of all renditions)
+            name_also(folder / f"{PIECE.format(n=n)}.vtt", folder / f"{PIECE.format(n=n)}.{ending}")  # (one answer names the pieces of all renditions)
     else:
         ends = hold(folder, it, cut, ending, name, more)
     (folder / LIST).write_text(conditioning.list_of(cut, "vtt" if it.container == TEXT else ending, it.container == FMP4), encoding="ascii")
