@@ -13,7 +13,7 @@ import os
 import subprocess
 import threading
 from collections.abc import Callable
-from typing import Any
+from typing import Any, NamedTuple
 
 from tools import fail
 
@@ -22,6 +22,7 @@ RATE, SOUND = 25, 48_000  # of the programme
 LIGHT, LOUD = 128, 3000  # of a flash, and of a beep
 NEAR = 0.4  # seconds within which a beep is one of a flash
 RESTS = ("-bf", "0", "-g", str(2 * RATE), "-keyint_min", str(2 * RATE), "-sc_threshold", "0")
+LATER = 0.4  # where an ad's second has its flash: a coder's first frame of sound is silent
 DARK, TONES = (16, 64), (880, 440)  # the red of the pictures, and the pitch: of the programme, and of an ad
 PAGE = """<!doctype html><title>lip sync</title><video id=video crossorigin=anonymous></video><script>
 const flashes = [], beeps = [], pen = new OffscreenCanvas(1, 1).getContext("2d", { willReadFrequently: true });
@@ -65,9 +66,10 @@ def run(*words: str, **more: Any) -> bytes:
 
 
 def film(path: str, seconds: float, rate: int, sound: int, is_ad: bool = False) -> None:
-    """A film of so many seconds, pictures and samples a second that flashes for two pictures and beeps at each full second."""
-    flash = f"color=c=#{DARK[is_ad]:02x}0000:s=160x90:r={rate},drawbox=color=white:t=fill:enable='lt(mod(n,{rate}),2)'"
-    beep = f"aevalsrc=exprs='0.5*sin(2*PI*{TONES[is_ad]}*t)*lt(t,0.04)':s={sound}:c=mono"
+    """A film of so many seconds, pictures and samples a second that flashes for two pictures and beeps once in a second: at its begin, an ad at LATER."""
+    later = LATER if is_ad else 0.0
+    flash = f"color=c=#{DARK[is_ad]:02x}0000:s=160x90:r={rate},drawbox=color=white:t=fill:enable='lt(mod(n+{rate - round(later * rate)},{rate}),2)'"
+    beep = f"aevalsrc=exprs='0.5*sin(2*PI*{TONES[is_ad]}*t)*between(t,{later},{later + 0.04})':s={sound}:c=mono"
     run("ffmpeg", "-v", "error", "-y", "-f", "lavfi", "-i", beep, "-t", "1", f"{path}.wav")  # (a second of it, again and again: to reckon each sample takes long)
     run("ffmpeg", "-v", "error", "-y", "-f", "lavfi", "-i", flash, "-stream_loop", "-1", "-i", f"{path}.wav", "-t", str(seconds), "-c:v", "libx264", "-preset", "ultrafast", "-pix_fmt", "yuv420p", *RESTS,
         "-c:a", "aac", "-b:a", "64k", path)
@@ -113,39 +115,62 @@ def joined(room: str, name: str, files: list[str]) -> str:
     return f"{room}/{name}"
 
 
-def flashes_in(room: str, path: str) -> tuple[list[float], float]:
-    """When the pictures of a file flash, by its timestamps; and how long they last."""
-    gray = ["-vf", "scale=1:1:flags=area,format=gray", "-vsync", "passthrough"]
+class Stretch(NamedTuple):
+    """A stream between two discontinuities: when it flashes or beeps (`marks`), where it begins, both by its timestamps, and how long it lasts."""
+
+    marks: list[float]
+    begin: float
+    lasts: float
+
+
+def flashes_in(room: str, path: str) -> Stretch:
+    """When the pictures of a file flash."""
+    gray = ["-an", "-vf", "scale=1:1:flags=area,format=gray", "-vsync", "passthrough"]
     run("ffmpeg", "-v", "error", "-y", "-copyts", "-i", path, *gray, "-f", "rawvideo", f"{room}/v.raw", *gray, "-f", "framecrc", f"{room}/v.crc")
     with open(f"{room}/v.raw", "rb") as it:
         lights = [it > LIGHT for it in it.read()]
     times = times_of(room, "v.crc")
-    return [at for n, (at, _) in enumerate(times) if lights[n] and not (n and lights[n - 1])], len(times) / RATE
+    return Stretch([at for n, (at, _) in enumerate(times) if lights[n] and not (n and lights[n - 1])], times[0][0], len(times) / RATE)
 
 
-def beeps_in(room: str, path: str) -> tuple[list[float], float]:
-    """When the sound of a file beeps, by its timestamps; and how long it lasts."""
-    heard = ["-ac", "1", "-ar", str(SOUND)]
+def beeps_in(room: str, path: str) -> Stretch:
+    """When the sound of a file beeps."""
+    heard = ["-vn", "-ac", "1", "-ar", str(SOUND)]
     run("ffmpeg", "-v", "error", "-y", "-copyts", "-i", path, *heard, "-f", "s16le", f"{room}/a.raw", *heard, "-c:a", "pcm_s16le", "-f", "framecrc", f"{room}/a.crc")
     samples = array.array("h")
     with open(f"{room}/a.raw", "rb") as it:
         samples.frombytes(it.read())
     beeps, place, last = list[float](), 0, -1.0
-    for at, size in times_of(room, "a.crc"):
-        for n in range(place, min(place + size // 2, len(samples))):
-            if abs(samples[n]) > LOUD:
-                now = at + (n - place) / SOUND
-                if now - last > NEAR / 2:
-                    beeps.append(now)
-                last = now
+    times = times_of(room, "a.crc")
+    for at, size in times:
+        part = samples[place:place + size // 2]
+        for n in [n for n, it in enumerate(part) if abs(it) > LOUD] if part and (max(part) > LOUD or min(part) < -LOUD) else []:  # (to look at each sample takes long)
+            now = at + n / SOUND
+            if now - last > NEAR / 2:
+                beeps.append(now)
+            last = now
         place += size // 2
-    return beeps, len(samples) / SOUND
+    return Stretch(beeps, times[0][0], len(samples) / SOUND)
 
 
 def apart(flashes: list[float], beeps: list[float]) -> list[tuple[float, float]]:
     """How long after each flash its beep comes, in seconds; nothing for one without a beep."""
     near = [(at, [beep - at for beep in beeps if abs(beep - at) < NEAR]) for at in flashes]
     return [(at, min(its, key=abs)) for at, its in near if its]
+
+
+class EndToEnd:
+    """A player that puts the first stretch of sound and of pictures where their timestamps say, and joins each stream end to end from there on."""
+
+    def __init__(self) -> None:
+        self.by: float | None = None  # how long after the next stretch of the pictures that of the sound begins
+
+    def add(self, pictures: Stretch, sound: Stretch) -> list[tuple[float, float]]:
+        """It plays the next stretch of both: each flash, with how long after it its beep comes."""
+        own = sound.begin - pictures.begin
+        by = own if self.by is None else self.by
+        self.by = by + sound.lasts - pictures.lasts
+        return [(at, found + by - own) for at, found in apart(pictures.marks, sound.marks)]
 
 
 def told(found: list[tuple[float, float]]) -> str:

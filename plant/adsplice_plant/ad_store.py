@@ -14,15 +14,14 @@ import tempfile
 import threading
 import time
 from collections.abc import Callable
-from dataclasses import dataclass, field, replace
+from dataclasses import dataclass, field
 from pathlib import Path
 
 from . import download, making
 from .ad_server import Asking
 from .children import Children
-from .conditioning import SECTION, over_of
 from .download import Download
-from .filling import Ready
+from .filling import Ready, ready_of
 from .ladders import ALONE, Ladder
 from .locks import Lock, Taken
 from .making import Choices, Made
@@ -47,7 +46,7 @@ PRIVATE = 0o750  # of what is kept: URLs of ads may have tokens
 @dataclass(frozen=True)
 class Wanted:
     """An ad that is to be made for `ladder`: its `id`, the URL or the path of its file (`url`), how long it is said to last in nanoseconds, the
-    `loudness` of its sound in LUFS, who fetches a file at a URL (`client`), and whether it `is_other` (conditioning.frames_of)."""
+    `loudness` of its sound in LUFS, and who fetches a file at a URL (`client`)."""
 
     ladder: Ladder
     id: str
@@ -55,12 +54,11 @@ class Wanted:
     length: int | None
     loudness: float | None = None
     client: Asking | None = None
-    is_other: bool = False
 
     def key(self) -> tuple[str, str]:
         """By what it is known: the ladder's key, and the file with all else that the ad depends on. The query of a URL isn't among that: many a server
         signs its URLs anew for each answer."""
-        return self.ladder.key(), f"{self.length or 0} {self.loudness if self.loudness is not None else '-'} {self.id} {self.url.partition('?')[0]}{' other' if self.is_other else ''}"
+        return self.ladder.key(), f"{self.length or 0} {self.loudness if self.loudness is not None else '-'} {self.id} {self.url.partition('?')[0]}"
 
 
 @dataclass
@@ -175,11 +173,7 @@ class Store:
                 os.utime(facts)
         except OSError:
             return "it isn't there any more"
-        at = f"{self.at}/{key[0]}/{known.ad}/{ALONE if is_alone else '{}'}"
-        over = over_of(sum(made.pieces), it.ladder, it.is_other)
-        twin = self.ready(replace(it, is_other=True), is_alone, strays) if over and not it.is_other else ""
-        is_its = isinstance(twin, Ready) and f"/{known.ad}{making.OTHER}/" in twin.uri  # (and not that of the file before)
-        return Ready(it.id, made.pieces, f"{at}/s{{n}}.{made.ending}", f"{at}/{SECTION}" if made.has_map else "", over, twin if isinstance(twin, Ready) and is_its else None)
+        return ready_of(it.id, made, f"{self.at}/{key[0]}/{known.ad}", ALONE if is_alone else "{}", made.has_map)
 
     def at_hand(self, ladder: str, ad: str) -> Made | None:
         """The ad in the folder `ad` of the `ladder`; none if there is none. (The lock is held.)"""
@@ -233,7 +227,7 @@ class Store:
             if not self.waiting and not self.is_over:
                 self.work.wait(60)
             if self.waiting and not self.is_over:
-                key = next((key for key, one in self.waiting.items() if not one.is_other), next(iter(self.waiting)))
+                key = next(iter(self.waiting))
                 self.making.add(key)
                 return self.waiting.pop(key)
         if not self.is_over and time.monotonic() - self.cleaned > CLEANED:
@@ -265,10 +259,10 @@ class Store:
         begun = time.monotonic()
         with tempfile.NamedTemporaryFile(prefix="ad-", dir=self.keep / "files") as file:
             fetched = self.fetch(client, it.url, Path(file.name)) if client is not None else copied(Path(it.url), Path(file.name), self.bounds.largest)
-            name = f"{fetched.sum[:24]}-{(it.length or 0) // 10**6}{'' if it.loudness is None else f'{it.loudness:+g}'}{making.OTHER if it.is_other else ''}"
+            name = f"{fetched.sum[:24]}-{(it.length or 0) // 10**6}{'' if it.loudness is None else f'{it.loudness:+g}'}"
             made = making.read(self.store / key[0] / name)
             if made is None:
-                choices = Choices(it.loudness, self.bounds.patience, self.bounds.threads, it.is_other)
+                choices = Choices(it.loudness, self.bounds.patience, self.bounds.threads)
                 made = making.make(self.children, Path(file.name), it.ladder, self.store / key[0] / name, it.id, choices, it.length)
                 self.made_count += 1
                 self.say("", f"ad {it.id}: MediaFile {shown(it.url)} is {len(made.pieces)} pieces for {len(it.ladder.renditions)} renditions, after {time.monotonic() - begun:.1f} s")
@@ -349,15 +343,16 @@ def known_in(path: Path) -> dict[tuple[str, str], Known]:
 
 
 def size_of(folder: Path) -> int:
-    """How many bytes the files in the `folder` and those in it have."""
-    total = 0
+    """How many bytes the files in the `folder` and those in it have. A file of several names counts once: makings share what is equal in them."""
+    sizes = dict[tuple[int, int], int]()
     for place, _, names in os.walk(folder):
         for name in names:
             try:
-                total += os.lstat(os.path.join(place, name)).st_size
+                it = os.lstat(os.path.join(place, name))
+                sizes[it.st_dev, it.st_ino] = it.st_size
             except OSError:
                 continue
-    return total
+    return sum(sizes.values())
 
 
 def copied(source: Path, to: Path, most: int) -> download.Fetched:

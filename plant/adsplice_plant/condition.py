@@ -27,8 +27,8 @@ HELP = """Makes ads for a channel's ladder out of their files (a mezzanine, as M
 long a segment is. A place is a URL or a file; one master playlist stands for all of its renditions.
 
 An ad becomes a folder with a folder for each rendition, in which its pieces and its playlist (index.m3u8) are. All renditions have the same
-pieces. It is silent in the sound of a ladder if it has none, and has an empty piece of WebVTT for each piece in subtitles. The folder is
-there as a whole or not at all. It begins and ends as its file does, or lasts as long as --seconds says if the file is within 0.5 s of that.
+pieces. It is silent in the sound of a ladder if it has none, and has an empty piece of WebVTT for each piece in subtitles. Sound that is apart
+from pictures is made several times, some frames shorter and longer, in folders such as DIR/less-1. The folder is there as a whole or not at all. It begins and ends as its file does, or lasts as long as --seconds says if the file is within 0.5 s of that.
 
 Exit status: 0 done; 1 a fault, as one line on standard error; 2 wrong words."""
 PLACE = re.compile(r"(?:([A-Za-z0-9_.-]{1,32})=)?(.+)")
@@ -57,7 +57,6 @@ def read_words(arguments: list[str]) -> argparse.Namespace:
     it.add_argument("--id", default="", metavar="ID", help="of the ad (the name of its file)")
     it.add_argument("--seconds", type=words.seconds, metavar="SECONDS", help="how long the ad is said to last")
     it.add_argument("--loudness", type=loudness, metavar="LUFS", help="makes the sound so loud (EBU R 128: -23)")
-    it.add_argument("--other", action="store_true", help="makes the ad's other making, whose sound is shorter than its pictures if that of the first one is longer, for DIR-other")
     it.add_argument("--threads", type=int, default=1, choices=range(1, 65), metavar="COUNT", help="of each coder (1)")
     it.add_argument("--limit", type=words.seconds, default=600.0, metavar="SECONDS", help="for the whole work (600)")
     said = it.parse_args(arguments)
@@ -111,7 +110,7 @@ def condition(children: Children, said: argparse.Namespace) -> int:
         raise Fault(f"{said.file}: there is no such file")
     stated = None if said.seconds is None else int(said.seconds * SECOND)
     try:
-        made = making.make(children, said.file, ladder_in(said.ladder), said.to, said.id or said.file.stem, Choices(said.loudness, said.limit, said.threads, said.other), stated)
+        made = making.make(children, said.file, ladder_in(said.ladder), said.to, said.id or said.file.stem, Choices(said.loudness, said.limit, said.threads), stated)
     except Fault as fault:
         raise Fault(f"{said.file}: {fault}") from None
     words.write_out(words.plain(f"{made.id}: {seconds_text(sum(made.pieces))} s in {len(made.pieces)} pieces, in {said.to}") + "\n")

@@ -13,7 +13,8 @@ NEAR = SECOND // 2  # how far a file's length may be from the stated one, which 
 # What ffmpeg reads an ad's file as. Lists of other files (HLS, concat, DASH) aren't among them: such a file would have it read any file.
 FORMATS = "mov,mp4,m4a,3gp,3g2,mj2,matroska,webm,mpegts,mpeg,avi,mxf,flv,asf"
 READS = ("-protocol_whitelist", "file", "-format_whitelist", FORMATS)
-DELAYED = {"aac": 1}  # frames that an encoder puts before the sound
+DELAYED = {"aac": 1}  # frames that an encoder puts before the sound: so many of an ad's own go, and the rest is where it was
+FRAMES = 2  # by which the sound of a making lasts longer or shorter than the pictures: by less
 LIST, PIECE, SECTION = "index.m3u8", "s{n}", "init.mp4"
 
 
@@ -55,24 +56,31 @@ def cut_of(length: int, piece: int, rate: Fraction) -> Cut:
     return Cut(tuple(ends))
 
 
-def frames_of(length: int, sound: Sound, is_other: bool) -> int:
-    """How many frames of `sound` an ad of `length` nanoseconds gets: as many as come nearest to it; if `is_other`, as many as come nearest on the other
-    side, so that two makings of the ad last longer and shorter than its pictures by turns."""
-    exact = Fraction(length * sound.rate, SECOND * SOUND[sound.codec])
-    nearest = round(exact)
-    return max(2, nearest if not is_other or nearest == exact else nearest - 1 if nearest > exact else nearest + 1)
+def frames_of(length: int, sound: Sound, more: int = 0) -> int:
+    """How many frames of `sound` an ad of `length` nanoseconds gets: as many as come nearest to it, and so many `more`."""
+    return max(2, round(Fraction(length * sound.rate, SECOND * SOUND[sound.codec])) + more)
 
 
-def samples_of(length: int, sound: Sound, is_other: bool = False) -> int:
-    """How many samples of `sound` an ad of `length` nanoseconds gets, so that the encoder makes whole frames of them; `is_other`: as in frames_of."""
-    return (frames_of(length, sound, is_other) - DELAYED.get(sound.codec, 0)) * SOUND[sound.codec]
+def over_of(length: int, sound: Sound, more: int = 0) -> int:
+    """By how many nanoseconds the `sound` of an ad of `length` nanoseconds lasts longer than its pictures, if it has so many frames `more`."""
+    return round(Fraction(frames_of(length, sound, more) * SOUND[sound.codec] * SECOND, sound.rate)) - length
 
 
-def over_of(length: int, ladder: Ladder, is_other: bool) -> int:
-    """By how many nanoseconds the sound of an ad of `length` nanoseconds for `ladder` lasts longer than its pictures; that of the first rendition with
-    sound. `is_other`: as in frames_of."""
-    sound = next((it.sound for it in ladder.renditions.values() if it.sound), None)
-    return 0 if sound is None else round(Fraction(frames_of(length, sound, is_other) * SOUND[sound.codec] * SECOND, sound.rate)) - length
+def makings_of(length: int, ladder: Ladder) -> tuple[int, ...]:
+    """In which makings an ad of `length` nanoseconds has the sound that is apart from pictures in `ladder`: how many frames more each has than come nearest,
+    the nearest to the pictures first. They are all those whose sound lasts less than FRAMES longer or shorter than the pictures. A break takes up to a frame
+    more of the programme's sound than of its pictures, or less. If sound is off by one frame and a half, one of these brings it within half a frame. So it
+    never comes to more, whatever breaks take."""
+    sound = ladder.sound_apart()
+    if sound is None:
+        return (0,)
+    overs = {more: abs(over_of(length, sound, more)) for more in range(-FRAMES, FRAMES + 1)}
+    return tuple(sorted((more for more, over in overs.items() if over < FRAMES * SOUND[sound.codec] * SECOND // sound.rate), key=lambda more: (overs[more], abs(more)))) or (0,)
+
+
+def folder_of(more: int) -> str:
+    """The folder, within that of an ad, of its making with so many frames `more` than come nearest; of the nearest one it is the ad's own."""
+    return f"{'more' if more > 0 else 'less'}-{abs(more)}" if more else ""
 
 
 def ending_of(ladder: Ladder) -> str:
@@ -80,31 +88,29 @@ def ending_of(ladder: Ladder) -> str:
     return "m4s" if ladder.has_map() else "ts"
 
 
-def arguments(source: Path, has_sound: bool, ladder: Ladder, cut: Cut, to: Path, loudness: float | None, threads: int, is_other: bool = False) -> list[str]:
-    """The words for ffmpeg that make the file `source` into the pieces of `cut` for each rendition of `ladder`, in folders of `to`. Silence is its
-    sound unless it `has_sound`; that gets the `loudness` in LUFS, if there is one. Each coder has so many `threads`. `is_other`: as in frames_of."""
+def arguments(source: Path, has_sound: bool, ladder: Ladder, cut: Cut, to: Path, loudness: float | None, threads: int) -> list[str]:
+    """The words for ffmpeg that make the file `source` into the pieces of `cut` for each rendition of `ladder`, in folders of `to`, and sound apart in all
+    makings. Silence is its sound unless it `has_sound`; that gets the `loudness` in LUFS, if there is one. Each coder has so many `threads`."""
     found = ["-nostdin", "-v", "error", "-xerror", "-y", "-filter_threads", str(threads), "-threads", str(threads), *READS, "-i", str(source)]
     if not has_sound and any(it.sound for it in ladder.renditions.values()):
         rate = next(it.sound.rate for it in ladder.renditions.values() if it.sound)
         found += ["-f", "lavfi", "-t", seconds_text(cut.length() + SECOND), "-i", f"anullsrc=r={rate}:cl=stereo"]
     for name, it in ladder.renditions.items():
-        if it.container != TEXT:
-            found += output_of(it, has_sound, cut, to / name, ending_of(ladder), loudness, threads, is_other)
+        for more in makings_of(cut.length(), ladder) if it.is_sound() else (0,):
+            if it.container != TEXT:
+                found += output_of(it, has_sound, cut, to / folder_of(more) / name, ending_of(ladder), loudness, threads, more)
     return found
 
 
-def output_of(it: Rendition, has_sound: bool, cut: Cut, to: Path, ending: str, loudness: float | None, threads: int, is_other: bool) -> list[str]:
+def output_of(it: Rendition, has_sound: bool, cut: Cut, to: Path, ending: str, loudness: float | None, threads: int, more: int) -> list[str]:
     """The words for the rendition `it`, whose pieces by the `cut` go to the folder `to` under names of this `ending`; the rest as in arguments():
-    whether the ad `has_sound`, the `loudness` of that, the `threads` of each coder, and whether it `is_other`."""
+    whether the ad `has_sound`, the `loudness` of that, the `threads` of each coder, and how many frames `more` it has than come nearest."""
     found = []
     if it.picture:
         found += ["-map", "0:v:0", *picture_words(it.picture, cut, threads)]
     if it.sound:
-        found += ["-map", "0:a:0" if has_sound else "1:a:0", *sound_words(it.sound, cut, loudness if has_sound else None, is_other)]
-    rate = it.picture.rate if it.picture else Fraction(it.sound.rate, SOUND[it.sound.codec]) if it.sound else Fraction(1)
-    # (each cut is a key frame; the muxer cuts at the first one after this time, which is before it by less than half a picture in all)
-    longest = max(cut.pieces())
-    time = Fraction(longest, SECOND) - min(1 / (2 * rate), Fraction(longest, 4 * SECOND)) / len(cut.ends)
+        found += ["-map", "0:a:0" if has_sound else "1:a:0", *sound_words(it.sound, cut, loudness if has_sound else None, more)]
+    time = spacing_of(it, cut, more) / SECOND
     found += ["-map_metadata", "-1", "-map_chapters", "-1", "-sn", "-dn", "-f", "hls", "-hls_time", f"{float(time):.6f}", "-hls_list_size", "0",
               "-hls_playlist_type", "vod"]
     if it.container == FMP4:
@@ -112,6 +118,17 @@ def output_of(it: Rendition, has_sound: bool, cut: Cut, to: Path, ending: str, l
     else:
         found += ["-muxdelay", "0", "-muxpreload", "0"]
     return [*found, "-hls_segment_filename", f"{to}/s%d.{ending}", f"{to}/{LIST}"]
+
+
+def spacing_of(it: Rendition, cut: Cut, more: int) -> Fraction:
+    """How many nanoseconds apart the muxer is to cut the rendition `it` by the `cut`: it cuts at the first key frame after each multiple of that, which is
+    before a piece's end by less than half a picture in all. Sound that has `more` frames lasts on after the last piece's end, and no piece begins there."""
+    longest, count = max(cut.pieces()), len(cut.ends)
+    rate = it.picture.rate if it.picture else Fraction(it.sound.rate, SOUND[it.sound.codec]) if it.sound else Fraction(1)
+    found = longest - min(SECOND / (2 * rate), Fraction(longest, 4)) / count
+    if it.sound is None or it.picture is not None:
+        return found
+    return max(found, (frames_of(cut.length(), it.sound, more) - Fraction(1, 2)) * SECOND / rate / count)
 
 
 def picture_words(it: Picture, cut: Cut, threads: int) -> list[str]:
@@ -130,11 +147,13 @@ def picture_words(it: Picture, cut: Cut, threads: int) -> list[str]:
     return [*found, "-sc_threshold", "0", "-forced-idr", "1"]
 
 
-def sound_words(it: Sound, cut: Cut, loudness: float | None, is_other: bool) -> list[str]:
-    """The words for sound like `it` of the length of `cut`, of the `loudness` in LUFS if there is one (EBU R 128). `is_other`: as in frames_of."""
+def sound_words(it: Sound, cut: Cut, loudness: float | None, more: int) -> list[str]:
+    """The words for sound like `it` of the length of `cut`, of the `loudness` in LUFS if there is one (EBU R 128), with so many frames `more` than come
+    nearest."""
     louder = f"loudnorm=I={loudness:g}:TP=-1:LRA=11," if loudness is not None else ""
     layout = {1: "mono", 2: "stereo", 6: "5.1", 8: "7.1"}.get(it.channels, f"{it.channels}c")
-    chain = f"{louder}aresample={it.rate}:async=1:first_pts=0,aformat=channel_layouts={layout},apad,atrim=end_sample={samples_of(cut.length(), it, is_other)}"
+    begin, end = (count * SOUND[it.codec] for count in (DELAYED.get(it.codec, 0), frames_of(cut.length(), it, more)))
+    chain = f"{louder}aresample={it.rate}:async=1:first_pts=0,aformat=channel_layouts={layout},apad,atrim=start_sample={begin}:end_sample={end}"
     return ["-af", chain, "-ar", str(it.rate), "-ac", str(it.channels), "-c:a", it.codec, "-b:a", str(it.bits)]
 
 

@@ -70,7 +70,8 @@ class Decider:
         self.settings, self.say, self.ending = settings, say, threading.Event()
         bounds = Bounds(shop.processes, shop.threads, shop.patience, shop.largest, shop.room, shop.days)
         self.store = Store(shop.store, shop.keep, shop.at, bounds, lambda word, text: self.tell("store", "store", "-", word or "-", text))
-        self.channels = {it.name: Channel(it, self.store, self.teller(it.name), shop.keep / "answers" / it.name, shop.keep / "given" / it.name) for it in settings.sections}
+        self.channels = {it.name: Channel(it, self.store, self.teller(it.name), shop.keep / "answers" / it.name, shop.keep / "given" / it.name, shop.keep / "balance" / f"{it.name}.json")
+                         for it in settings.sections}
         self.watches = [self.watch(it) for it in settings.sections]
         self.figures = Figures(self.channels, self.store)
         self.trackers = [self.tracker(it) for it in settings.sections if it.tracking]

@@ -11,9 +11,10 @@ from concurrent.futures import Future, ThreadPoolExecutor
 from dataclasses import dataclass, field
 from pathlib import Path
 
-from . import ad_server, filling, macros, playlist, tracking
+from . import ad_server, balance, filling, macros, playlist, tracking
 from .ad_server import Asking, Found, Lack
 from .ad_store import UNMADE, UNREAD, Store, Wanted
+from .balance import Balance
 from .decide_settings import Section, schedule_in
 from .filling import Pod, Ready
 from .given_ads import Given, GivenAds
@@ -92,10 +93,10 @@ class Counts:
 
 class Channel:
     """One channel's questions: by its `section`, and the `store` of ads that are made. `tell` prints a line. `answers` is the folder in which
-    answers are kept, and `given` the one of what the ad server gave. The ad server is asked by `client` while a list waits, and by `patient` before; `films`
+    answers are kept, `given` the one of what the ad server gave, and `balance` the file of how its sound stands. The ad server is asked by `client` while a list waits, and by `patient` before; `films`
     fetches the ads' files."""
 
-    def __init__(self, section: Section, store: Store, tell: Tell, answers: Path, given: Path) -> None:
+    def __init__(self, section: Section, store: Store, tell: Tell, answers: Path, given: Path, balance: Path) -> None:
         self.section, self.store, self.tell, self.outside = section, store, tell, section.outside()
         self.client, self.patient, self.films = (self.outside.client(it) for it in (section.timeout, PREFETCH, FILM))
         self.pool = ThreadPoolExecutor(ad_server.AT_ONCE, f"{section.name}-wrapper")
@@ -108,11 +109,12 @@ class Channel:
         self.breaks: list[tuple[int, int | None]] = []  # of the schedule
         self.read: tuple[int, int] | None = None  # the time and the size of the file that has them
         self.cleaned = -1e9  # when old answers were taken away
-        self.balance = filling.Balance()
+        self.kept_balance, self.balance = balance, Balance()  # (by the lock)
 
     def begin(self, now: int) -> None:
         """Takes in what an earlier program kept that isn't over at the instant `now`, in nanoseconds from 1970."""
         self.given.begin(now)
+        self.balance = balance.read(self.kept_balance)
         ahead = self.given.ahead().values()
         self.asked_for = {it.start for it in ahead if it.start is not None}
         self.asked_at = max((it.at for it in ahead if it.start is None), default=0)
@@ -199,7 +201,7 @@ class Channel:
                 pod, _ = filling.balanced(pod, self.balance.over)
             else:
                 self.balance.cut(ladder.cut_apart(question.replaced), ladder.piece // 2)
-                pod, self.balance.over = filling.balanced(pod, self.balance.over)
+                pod = self.balance.give(pod, question.start, ladder.pictures_replaced(question.replaced))
         return Pod(pod.ready, pod.ads, found.lacks + pod.lacks)
 
     def search(self, client: Asking, planned: int | None, until: float) -> Found:
@@ -238,11 +240,12 @@ class Channel:
                 self.counts.sold["ads" if ad is not None else SLATE] += ready.length()
 
     def keep(self, question: Question, pod: Pod) -> None:
-        """Keeps what the `pod` for the `question` is, with what its ads call."""
+        """Keeps what the `pod` for the `question` is, with what its ads call, and how sound stands to pictures."""
         try:
             tracking.keep(self.answers, question.id, question.start, pod)
+            balance.keep(self.kept_balance, self.balance)
         except OSError as fault:
-            self.tell(f"vast/{question.id}", "200", "Unkept", f"what its ads call isn't kept: {fault.strerror}")
+            self.tell(f"vast/{question.id}", "200", "Unkept", f"what its ads call, or how sound stands to pictures, isn't kept: {fault.strerror}")
 
     def remember(self, question: Question, found: Found, body: str) -> None:
         """Keeps what was `found` for the `question`, and the `body` of its answer, if it had a pod: should it come again, the ad server isn't asked again. A

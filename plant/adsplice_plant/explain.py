@@ -20,7 +20,7 @@ HELP = """Says why a channel's breaks are filled or empty, each with its numbers
   adsplice-explain playlist.m3u8 decisions.json               (the decision came after the playlist)
   adsplice-explain decisions.json one.m3u8 two.m3u8           (the decision came first, then two playlists)
   adsplice-explain --kept /var/lib/adsplice/kept/news.events  (what adsplice-feed --keep has kept of a channel: its newest hour)
-  adsplice-explain --kept /var/lib/adsplice/kept/film-*.events --break b17   (in each rendition of a programme)
+  adsplice-explain --kept /var/lib/adsplice/kept/film-*.events --break b17   (a programme: one line for each break)
   adsplice-explain --kept news.events --break b17 --at 2026-11-27T20:15:00Z   (as b17 was listed then, or last before)
 
 Each break is explained by the rules in adsplice_rules, from what the channel was given. What adsplice answered is compared
@@ -127,18 +127,23 @@ def segments_of(explainer: Explainer) -> list[str]:
 
 
 def report_programme(said: argparse.Namespace) -> tuple[list[str], bool]:
-    """The lines to print of what is kept in the files that the words `said` name, and whether all is well; raises Fault. Of several channels each
-    line says of which it is, and what is said of one break stands together."""
+    """The lines to print of what is kept in the files that the words `said` name, and whether all is well; raises Fault. Of several channels there is one line
+    for each break, with what each of them showed: those of which the same is said stand together."""
     found = [report_kept(it, said) for it in said.kept]
+    is_well = all(is_well for _, is_well in found)
     if len(found) == 1:
-        return found[0]
-    lines = [(line.partition(":")[0], place, f"{path.name.removesuffix('.events')}: {line}") for place, (path, (its, _)) in enumerate(zip(said.kept, found)) for line in its]
-    order = {front: place for place, (front, _, _) in reversed(list(enumerate(lines)))}
-    return [text for _, _, text in sorted(lines, key=lambda it: order[it[0]])], all(is_well for _, is_well in found)
+        return [f"{name}: {text}" if name else text for name, text in found[0][0]], is_well
+    groups: dict[tuple[str, str], dict[str, list[str]]] = {}
+    for path, (lines, _) in zip(said.kept, found):
+        for name, text in lines:
+            channels = groups.setdefault((name, "" if name else text), {}).setdefault(text, [])
+            channels.append(path.name.removesuffix(".events"))
+    return [(f"{name}: " if name else "") + "; ".join(f"{', '.join(dict.fromkeys(channels))}: {text}" for text, channels in its.items()) for (name, _), its in groups.items()], is_well
 
 
-def report_kept(path: Path, said: argparse.Namespace) -> tuple[list[str], bool]:
-    """The lines to print of what is kept in the file `path`, by the words `said`, and whether all is well; raises Fault."""
+def report_kept(path: Path, said: argparse.Namespace) -> tuple[list[tuple[str, str]], bool]:
+    """What is to be said of what is kept in the file `path`, by the words `said`, each with the ID of the break that it is about, or an empty one; and whether
+    all is well. Raises Fault."""
     if not journal.files(path):
         raise Fault(f"{path}: there is no such file; adsplice-feed --keep DIR writes DIR/NAME.events")
     book = Book(path)
@@ -147,14 +152,14 @@ def report_kept(path: Path, said: argparse.Namespace) -> tuple[list[str], bool]:
         raise Fault(f"{path}: it has no event")
     since = words.time_text(datetime.fromisoformat(until) - HOUR)
     names = [said.only] if said.only else book.breaks(since, until)
-    lines = [] if said.only else refusals(book.refused(since, until))
+    lines = [] if said.only else [("", it) for it in refusals(book.refused(since, until))]
     is_well = not lines
     for name in names:
         explainer = Explainer(Excerpt(book, name, until).run())
         found, is_filled = report(explainer, name)
-        lines += found + (segments_of(explainer) if said.all else [])
+        lines += [(name, it.removeprefix(f"{name}: ")) if it.startswith(f"{name}: ") else ("", it) for it in found] + [("", it) for it in (segments_of(explainer) if said.all else [])]
         is_well = is_well and is_filled
-    return lines or [f"no playlist that was kept from {since} on has a break"], is_well and bool(names)
+    return lines or [("", f"no playlist that was kept from {since} on has a break")], is_well and bool(names)
 
 
 def main(arguments: list[str]) -> int:

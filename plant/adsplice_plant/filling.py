@@ -2,10 +2,12 @@
 from __future__ import annotations
 
 from collections.abc import Callable
-from dataclasses import dataclass, field
+from dataclasses import dataclass, field, replace
 from typing import Any
 
 from .ad_server import Found, Lack
+from .conditioning import SECTION
+from .making import Made
 from .playlist import SECOND, seconds_text
 from .vast import Ad
 
@@ -15,15 +17,19 @@ MOST_SEGMENTS = 500  # of a pod: adsplice takes no more
 @dataclass(frozen=True)
 class Ready:
     """An ad that is made for the ladder: its `id`, the durations of its pieces in nanoseconds, the `uri` of a piece with {} for the rendition and
-    {n} for its number, and the URI of its initialisation section, if it has one (`map`). Its sound lasts longer than its pictures by `over` nanoseconds.
-    The other making of it (`twin`), if there is one, lasts as long, and its sound is shorter than the pictures, or the other way round."""
+    {n} for its number, and the URI of its initialisation section, if it has one (`map`). `overs` says by how many nanoseconds its sound has become longer
+    than its pictures at the end of each piece; nothing if that isn't known. Its `others` are the other makings of it, which have other overs."""
 
     id: str
     pieces: tuple[int, ...]
     uri: str
     map: str = ""
-    over: int = 0
-    twin: Ready | None = None
+    overs: tuple[int, ...] = ()
+    others: tuple[Ready, ...] = ()
+
+    def over(self) -> int:
+        """By how many nanoseconds its sound lasts longer than its pictures."""
+        return self.overs[-1] if self.overs else 0
 
     def length(self) -> int:
         """How long it lasts, in nanoseconds."""
@@ -35,12 +41,25 @@ class Ready:
         while count < len(self.pieces) and self.pieces[count] <= left:
             left -= self.pieces[count]
             count += 1
-        return self if count == len(self.pieces) else Ready(self.id, self.pieces[:count], self.uri, self.map)
+        return self.begin(count)
+
+    def begin(self, count: int) -> Ready:
+        """Its first pieces, `count` of them."""
+        return self if count == len(self.pieces) else Ready(self.id, self.pieces[:count], self.uri, self.map, self.overs[:count])
 
     def said(self) -> dict[str, Any]:
         """It as a decision file has it."""
         segments = [{"uri": self.uri.replace("{n}", str(n)), "duration": seconds_text(it)} for n, it in enumerate(self.pieces)]
         return {"id": self.id, **({"map": {"uri": self.map}} if self.map else {}), "segments": segments}
+
+
+def ready_of(name: str, made: Made, at: str, rendition: str, has_section: bool) -> Ready:
+    """The ad called `name` that is `made`, and published `at` a URL, for the `rendition`, which `has_section` if it has an initialisation section: its nearest
+    making, with the others."""
+    places = {folder: "/".join(filter(None, (at, folder, rendition))) for folder in made.makings}
+    first, *others = [Ready(name, made.pieces, f"{place}/s{{n}}.{made.ending}", f"{place}/{SECTION}" if has_section else "", made.makings[folder])
+                      for folder, place in places.items()]
+    return replace(first, others=tuple(others))
 
 
 @dataclass
@@ -111,36 +130,14 @@ def fill(found: Found, planned: int | None, ready_of: Callable[[Ad], Ready | str
     return it.pod
 
 
-@dataclass
-class Balance:
-    """By how many nanoseconds a channel's sound has become longer than its pictures at all breaks together (`over`). `cut_before`: by how many pods had
-    taken more of the sound, as the last question said that counts; `cut_last`: the same of the last question."""
-
-    over: int = 0
-    cut_before: int | None = None
-    cut_last: int | None = None
-
-    def cut(self, now: int | None, most: int) -> None:
-        """Pods have taken more of the sound than of the pictures by `now`; none if that isn't known. A step of over `most` counts for nothing: a rendition
-        lags behind within a break. If the next question is near it, it begins to count from there: the feed has begun anew."""
-        if now is None:
-            return
-        if self.cut_before is not None and abs(now - self.cut_before) <= most:
-            self.over -= now - self.cut_before
-            self.cut_before = now
-        elif self.cut_before is None or self.cut_last is not None and abs(now - self.cut_last) <= most:
-            self.cut_before = now
-        self.cut_last = now
-
-
 def balanced(pod: Pod, by: int) -> tuple[Pod, int]:
     """The `pod` with that making of each ad by which sound stays nearest to pictures, and by how many nanoseconds it is longer after it. Before it sound
     was longer by `by` in all breaks together: players that join streams end to end would be off by so much."""
     found = []
     for it in pod.ready:
-        one = it if it.twin is None else min((it, it.twin), key=lambda that: abs(by + that.over))
+        one = min((it, *it.others), key=lambda that: abs(by + that.over()))
         found.append(one)
-        by += one.over
+        by += one.over()
     return Pod(found, pod.ads, pod.lacks), by
 
 
@@ -149,7 +146,7 @@ def fill_up(pod: Pod, left: int, slate: Ready) -> None:
     while pod.count() < MOST_SEGMENTS:
         front = slate.front(left)
         if len(front.pieces) > MOST_SEGMENTS - pod.count():
-            front = Ready(front.id, front.pieces[:MOST_SEGMENTS - pod.count()], front.uri, front.map)
+            front = front.begin(MOST_SEGMENTS - pod.count())
         if not front.pieces:
             return
         pod.ready.append(front)

@@ -56,6 +56,10 @@ class Rendition:
     picture: Picture | None = None
     sound: Sound | None = None
 
+    def is_sound(self) -> bool:
+        """Whether it has sound and no pictures."""
+        return self.sound is not None and self.picture is None
+
 
 @dataclass(frozen=True)
 class Ladder:
@@ -81,12 +85,20 @@ class Ladder:
         """Whether its segments have an initialisation section."""
         return any(it.container == FMP4 for it in self.renditions.values())
 
+    def sound_apart(self) -> Sound | None:
+        """The sound of its first rendition that has no pictures, if others have some: players join it end to end beside them. None if there is none."""
+        has_pictures = any(it.picture for it in self.renditions.values())
+        return next((it.sound for it in self.renditions.values() if it.is_sound()), None) if has_pictures else None
+
+    def pictures_replaced(self, replaced: Mapping[str, int]) -> int | None:
+        """How many nanoseconds of the pictures pods took, if so much was `replaced` of each rendition; none if there are no pictures, or that isn't known."""
+        return next((replaced.get(name) for name, it in self.renditions.items() if it.picture), None)
+
     def cut_apart(self, replaced: Mapping[str, int]) -> int | None:
         """By how many nanoseconds pods took more of the sound than of the pictures, if so much was `replaced` of each rendition. None if there is no
         sound apart from pictures, or one of both isn't known."""
-        sounds = [replaced.get(name) for name, it in self.renditions.items() if it.sound and not it.picture]
-        pictures = [replaced.get(name) for name, it in self.renditions.items() if it.picture]
-        sound, picture = (its[0] if its else None for its in (sounds, pictures))
+        sound = next((replaced.get(name) for name, it in self.renditions.items() if it.is_sound()), None)
+        picture = self.pictures_replaced(replaced)
         return None if sound is None or picture is None else sound - picture
 
     def rate(self) -> Fraction:

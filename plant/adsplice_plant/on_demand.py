@@ -59,16 +59,8 @@ def ready_in(folder: Path, at: str, rendition: str, name: str) -> Ready | str:
         return f"there is no {folder / own / making.FACTS}: adsplice-condition makes it"
     if not (folder / own / rendition).is_dir():
         return f"it isn't made for the rendition {rendition}"
-    twin = making.read(folder / f"{own}{making.OTHER}")
-    is_twin = twin is not None and twin.pieces == made.pieces and (folder / f"{own}{making.OTHER}" / rendition).is_dir()
-    return of_made(name, made, folder, at, rendition, own, of_made(name, twin, folder, at, rendition, f"{own}{making.OTHER}") if twin is not None and is_twin else None)
-
-
-def of_made(name: str, made: making.Made, folder: Path, at: str, rendition: str, own: str, twin: Ready | None = None) -> Ready:
-    """The ad called `name` that is `made` in the folder `own` of `folder`, which is published `at` a URL, for the `rendition`, and its `twin`."""
-    url = f"{at}/{urllib.parse.quote(own, safe='')}/{rendition}"
     has_section = made.has_map and (folder / own / rendition / SECTION).is_file()
-    return Ready(name, made.pieces, f"{url}/s{{n}}.{made.ending}", f"{url}/{SECTION}" if has_section else "", made.over, twin)
+    return filling.ready_of(name, made, f"{at}/{urllib.parse.quote(own, safe='')}", rendition, has_section)
 
 
 def balanced(cuts: dict[int, Place]) -> dict[int, Place]:

@@ -81,66 +81,142 @@ def test_a_files_length_and_the_stated_one(room):
     assert conditioning.length_of(7, None) == 7
 
 
+def aac_apart(rate=48_000):
+    """A ladder of pictures, and of AAC of a rate apart."""
+    return ladders.Ladder(2 * SECOND, {"v": ladders.rendition_of("v", RENDITIONS["v1"]), "a": ladders.Rendition("ts", None, ladders.Sound("aac", rate, 2, 64_000))})
+
+
 @pure
-def test_samples_by_hand(room):
-    for codec, rate, seconds, owed in (("aac", 48_000, 10, 468 * 1024), ("aac", 44_100, 10, 430 * 1024), ("ac3", 48_000, 10, 312 * 1536)):
-        assert conditioning.samples_of(seconds * SECOND, ladders.Sound(codec, rate, 2, 64_000)) == owed, codec  # (469 frames of AAC: 468.75 to the nearest; one is the encoder's)
-    # the other making: 468 frames in place of 469, 704 in place of 703 (of 703.125), and 375 for 8 s, which are whole frames
-    aac = ladders.Sound("aac", 48_000, 2, 64_000)
-    assert [(conditioning.frames_of(it * SECOND, aac, False), conditioning.frames_of(it * SECOND, aac, True)) for it in (10, 15, 8)] == [(469, 468), (703, 704), (375, 375)]
-    one = ladders.Ladder(2 * SECOND, {"v": ladders.Rendition("ts"), "a": ladders.Rendition("ts", None, aac)})
-    assert [conditioning.over_of(10 * SECOND, one, it) for it in (False, True)] == [5_333_333, -16_000_000] and conditioning.over_of(8 * SECOND, one, True) == 0
-    assert conditioning.over_of(10 * SECOND, ladders.Ladder(2 * SECOND, {"v": ladders.Rendition("ts")}), False) == 0
+def test_frames_and_makings_by_hand(room):
+    for codec, rate, seconds, more, owed in (("aac", 48_000, 10, 0, 469), ("aac", 48_000, 10, -2, 467), ("aac", 44_100, 10, 0, 431), ("ac3", 48_000, 9, 0, 281)):  # (468.75, 430.66 and 281.25)
+        sound = ladders.Sound(codec, rate, 2, 64_000)
+        assert conditioning.frames_of(seconds * SECOND, sound, more) == owed, codec
+    one = aac_apart()
+    sound = one.sound_apart()
+    # of 468.75 frames for 10 s, of 703.125 for 15 s, of 375 for 8 s, and of 187.5 for 4 s: those within two frames
+    assert [conditioning.makings_of(it * SECOND, one) for it in (10, 15, 8, 4)] == [(0, -1, 1, -2), (0, 1, -1, 2), (0, -1, 1), (0, -1, 1, -2)]
+    assert [conditioning.over_of(10 * SECOND, sound, it) for it in (0, -1, 1, -2)] == [5_333_333, -16_000_000, 26_666_667, -37_333_333] and conditioning.over_of(8 * SECOND, sound) == 0
+    assert [conditioning.folder_of(it) for it in (0, -2, 1)] == ["", "less-2", "more-1"]
+    # sound among the pictures has their timestamps, and of sound alone nothing is to be beside
+    v, en = (ladders.rendition_of("x", RENDITIONS[it]) for it in ("v0", "en"))
+    assert [conditioning.makings_of(10 * SECOND, ladders.Ladder(2 * SECOND, it)) for it in ({"v": v}, {"main": en})] == [(0,)] * 2
+
+
+def ready(length, one, name="ad"):
+    """An ad of so many nanoseconds, in all its makings for a ladder."""
+    from adsplice_plant.filling import ready_of
+    from adsplice_plant.making import Made
+    makings = {conditioning.folder_of(more): (conditioning.over_of(length, one.sound_apart(), more),) for more in conditioning.makings_of(length, one)}
+    return ready_of(name, Made(name, (length,), makings=makings), "http://ads.example", "{}", False)
+
+
+LENGTHS = (10 * SECOND, 15 * SECOND, 20 * SECOND, 30 * SECOND, 7_520_000_000, 8 * SECOND, 3_920_000_000, 4 * SECOND, 9_960_000_000, 6_006_000_000)
 
 
 @pure
 def test_sound_stays_with_pictures_over_a_thousand_breaks(room):
     import random
-    from dataclasses import replace
-    from adsplice_plant.filling import Pod, Ready, balanced
+    from adsplice_plant.filling import Pod, balanced
     rng, by, frame = random.Random(5), 0, 1024 * SECOND // 48_000
-    aac = ladders.Sound("aac", 48_000, 2, 64_000)
-    one = ladders.Ladder(2 * SECOND, {"a": ladders.Rendition("ts", None, aac)})
-
-    def made(length, is_other):
-        return Ready(f"{length}{is_other}", (length,), "u", "", conditioning.over_of(length, one, is_other))
-    ads = [replace(made(it, False), twin=made(it, True)) for it in (10 * SECOND, 15 * SECOND, 20 * SECOND, 30 * SECOND, 7_520_000_000, 8 * SECOND)]
+    ads = [ready(it, aac_apart()) for it in LENGTHS]
     for number in range(1000):
         its = [rng.choice(ads) for _ in range(rng.randrange(1, 4))] if number >= 500 else [ads[0]]
         before = by
         pod, by = balanced(Pod(list(its), [None] * len(its)), by)
-        assert by - before == sum(it.over for it in pod.ready) and [it.length() for it in pod.ready] == [it.length() for it in its]
+        assert by - before == sum(it.over() for it in pod.ready) and [it.length() for it in pod.ready] == [it.length() for it in its]
         assert abs(by) <= frame // 2 + 2, (number, by)  # (so much of rounding)
-    alone = made(10 * SECOND, False)
+    from adsplice_plant.filling import Ready
+    alone = Ready("alone", (10 * SECOND,), "u", "", (5_333_333,))
     assert balanced(Pod([alone], [None]), 0)[0].ready == [alone]
 
 
 @pure
+def test_sound_is_never_off_by_more_than_a_frame_and_a_half(room):
+    """A break takes up to a frame more of the sound than of the pictures, or less. If sound is off by a frame and a half at most, the break's pod brings it within
+    half a frame, so it is off by a frame and a half at most after the break, too. That is 32 ms of 48 kHz, and 34.8 ms of 44.1 kHz."""
+    from adsplice_plant.filling import Pod, balanced
+    for rate in (48_000, 44_100):
+        frame, one = 1024 * SECOND // rate, aac_apart(rate)
+        assert 3 * frame // 2 < 45_000_000
+        for length in (*LENGTHS, *(n * SECOND // 25 for n in range(25, 1000, 7)), *(n * 1001 * SECOND // 30_000 for n in range(30, 900, 7))):
+            for by in range(-3 * frame // 2, 3 * frame // 2, frame // 16):
+                _, found = balanced(Pod([ready(length, one)], [None]), by)
+                assert abs(found) <= frame // 2 + 2, (rate, length, by, found)
+
+
+def farthest(cut, count=300, is_lost=False, lengths=(10 * SECOND, 10 * SECOND), rate=48_000):
+    """How far sound comes from pictures in so many breaks, of which `cut` says how much more of the sound each takes by how far sound is off. Questions tell of that
+    once the next break comes. `is_lost`: each tenth question comes while the sound's run isn't over, and once the feed has begun anew."""
+    from adsplice_plant.balance import Balance
+    from adsplice_plant.filling import Pod
+    one = aac_apart(rate)
+    ads = [ready(it, one) for it in lengths]
+    balance, off, most, taken = Balance(), 0, 0, {"v": 500 * SECOND, "a": 480 * SECOND}
+    for number in range(count):
+        if is_lost and number == 100:
+            taken = {"v": 0, "a": 0}
+        late = 20 * SECOND if is_lost and number % 10 == 9 and number != 99 else 0
+        balance.cut(one.cut_apart({**taken, "a": taken["a"] - late}), one.piece // 2)
+        pod = balance.give(Pod(list(ads), [None] * len(ads)), 300 * SECOND * number, one.pictures_replaced(taken))
+        by = cut(off)
+        taken = {"v": taken["v"] + 20 * SECOND, "a": taken["a"] + 20 * SECOND + by}
+        off += sum(it.over() for it in pod.ready) - by
+        most = max(most, abs(off))
+    return most
+
+
+@pure
 def test_sound_that_is_cut_elsewhere_than_pictures_stays_with_them(room):
-    """Breaks take a half frame of the sound more than of the pictures, as of sound of 4 s, or a half frame less: then they are at most 45 ms apart. Breaks that
-    take any part of a frame don't add up: to a half frame that stays come those of two breaks of which the question doesn't tell yet, and of one that a new
-    start loses. What a question says comes a break later, and what it says within a break counts for nothing."""
+    """Breaks take any part of a frame of the sound more than of the pictures, always the same or not, or what brings them furthest apart: these stay within 45 ms.
+    A half frame stays beside what the questions don't tell: two breaks, and two that a new start of the feed loses."""
     import random
-    from dataclasses import replace
-    from adsplice_plant.filling import Balance, Pod, Ready, balanced
-    rng, frame = random.Random(6), 1024 * SECOND // 48_000
-    one = ladders.Ladder(2 * SECOND, {"v": ladders.rendition_of("v", RENDITIONS["v0"]), "a": ladders.Rendition("ts", None, ladders.Sound("aac", 48_000, 2, 64_000))})
-    ad = Ready("ad", (10 * SECOND,), "u", "", conditioning.over_of(10 * SECOND, one, False))
-    ad = replace(ad, twin=replace(ad, over=conditioning.over_of(10 * SECOND, one, True)))
-    for cut, most in ((lambda: frame // 2, 45_000_000), (lambda: -frame // 2, 45_000_000), (lambda: rng.randrange(-frame, frame), 7 * frame // 2)):
-        balance, off, farthest, taken = Balance(), 0, 0, {"v": 500 * SECOND, "a": 480 * SECOND}
-        for number in range(200):
-            if number == 100:  # (the feed begins anew, and knows nothing of those before)
-                taken = {"v": 0, "a": 0}
-            late = 20 * SECOND if number % 10 == 9 and number != 99 else 0  # (the sound's run isn't over yet)
-            balance.cut(one.cut_apart({**taken, "a": taken["a"] - late}), one.piece // 2)
-            pod, balance.over = balanced(Pod([ad, ad], [None, None]), balance.over)
-            by = cut()
-            taken = {"v": taken["v"] + 20 * SECOND, "a": taken["a"] + 20 * SECOND + by}
-            off += sum(it.over for it in pod.ready) - by
-            farthest = max(farthest, abs(off))
-        assert farthest <= most, farthest
+    rng, one = random.Random(6), aac_apart()
+    for rate in (48_000, 44_100):
+        frame = 1024 * SECOND // rate
+        for lengths in ((10 * SECOND, 10 * SECOND), (9_960_000_000, 10 * SECOND), (4 * SECOND,), (8 * SECOND,), (15 * SECOND,)):
+            cuts = [*(lambda off, n=n: n * frame // 8 for n in range(-8, 9)), *(lambda off, most=most: rng.randrange(-most, most) for most in (frame // 2, frame)), lambda off: -frame if off > 0 else frame]
+            found = [farthest(it, lengths=lengths, rate=rate) for it in cuts]
+            assert max(found) <= 3 * frame // 2 + 1000 < 45_000_000, (lengths, found)
+    assert farthest(lambda off: rng.randrange(-frame, frame), is_lost=True, rate=44_100) <= 9 * frame // 2
     assert one.cut_apart({"v": 0}) is one.cut_apart({}) is ladders.Ladder(2 * SECOND, {"v": one.renditions["v"]}).cut_apart({"v": 5}) is None
+
+
+@pure
+def test_a_pod_that_nobody_saw_does_not_count(room):
+    """Each third answer comes too late, so its break stays empty: the pictures' sum of what pods replaced stays as it is. Kept on disk, the balance is the same."""
+    from adsplice_plant import balance
+    from adsplice_plant.filling import Pod
+    one, it, off, most, taken = aac_apart(), balance.Balance(), 0, 0, {"v": 0, "a": 0}
+    for number in range(300):
+        balance.keep(Path(f"{room.path}/balance/film.json"), it)
+        it = balance.read(Path(f"{room.path}/balance/film.json"))
+        it.cut(one.cut_apart(taken), one.piece // 2)
+        pod = it.give(Pod([ready(9_960_000_000, one), ready(10 * SECOND, one)], [None, None]), 300 * SECOND * number, one.pictures_replaced(taken))
+        if number % 3 != 2:
+            taken = {"v": taken["v"] + 20 * SECOND, "a": taken["a"] + 20 * SECOND + 10_666_667}
+            off += sum(ad.over() for ad in pod.ready) - 10_666_667
+        most = max(most, abs(off))
+    assert most <= 32_000_000, most
+    for number, owed in ((10, 1), (100, 0)):  # (a break right after the last one is asked for while that one's run goes on; a minute after it the run is over)
+        it = balance.Balance(5, last=balance.Last(5, 20 * SECOND, 7))
+        it.give(Pod(), 20 * SECOND + number * SECOND, 7)
+        assert it.over == 5 * owed, (number, it)
+    for text in ("", "[]", "{", '{"over": "x"}', '{"over": 1, "cut_before": [], "cut_last": 2, "last": 3}', "[" * 100_000):
+        Path(f"{room.path}/balance/film.json").write_text(text)
+        assert balance.read(Path(f"{room.path}/balance/film.json")) == balance.Balance() == balance.read(Path(f"{room.path}/none")), text
+
+
+@pure
+def test_a_slate_that_is_cut_off_counts_as_its_pieces_are(room):
+    """Two pieces of 2 s of a slate have 188 frames of sound, a half frame more than pictures: the next ad makes that good."""
+    from adsplice_plant.filling import Pod, Ready, balanced
+    half, one = 512 * SECOND // 48_000, aac_apart()
+    slate = Ready("slate", (2 * SECOND,) * 5, "u", "", (5_333_333, half, 16_000_000, 0, 5_333_333), (Ready("slate", (2 * SECOND,) * 5, "w", "", (0, 0, 0, 0, -16_000_000)),))
+    front = slate.front(5 * SECOND)
+    assert (front.pieces, front.over(), front.others) == ((2 * SECOND,) * 2, half, ()) and slate.front(11 * SECOND) is slate and slate.front(SECOND).over() == 0
+    _, by = balanced(Pod([front, ready(8 * SECOND, one), front], [None] * 3), 0)
+    _, later = balanced(Pod([ready(4 * SECOND, one)], [None]), by)
+    assert (by, abs(later) <= half) == (2 * half, True), (by, later)
 
 
 @pure
@@ -215,6 +291,35 @@ def test_hevc_and_ac3(room):
     pieces_of(f"{room.path}/ad/v", 2, [50, 50], "25/1", f"{room.path}/ad/v/init.mp4")
     assert seen(f"{room.path}/ad/v/s0.m4s", f"{room.path}/ad/v/init.mp4")[1]["video"]["codec_tag_string"] == "hvc1"
     assert frames_of_sound(f"{room.path}/ad/a", 2, f"{room.path}/ad/a/init.mp4") == 125  # (4 s of 48 kHz in frames of 1,536 samples)
+
+
+def test_sound_apart_is_made_in_all_its_makings(room):
+    """20 s are 937.5 frames of sound: the makings have 938, 937, 939 and 936, and none begins an eleventh piece with what lasts on after the pictures."""
+    renditions = {"v": RENDITIONS["v1"], "en": RENDITIONS["en"], "sub": RENDITIONS["sub"]}
+    for container, section in (("ts", ""), ("fmp4", "init.mp4")):
+        its = {name: {**it, "container": it["container"] if name == "sub" else container} for name, it in renditions.items()}
+        to, ending = Path(f"{room.path}/{container}"), "m4s" if section else "ts"
+        status, out, err = condition(room, media(f"{room.path}/ad.mp4", 20), "--ladder", ladder(room, its), "--to", to)
+        assert (status, err) == (0, "") and "20 s in 10 pieces" in out, (out, err)
+        made = json.loads((to / "ad.json").read_text())["makings"]
+        assert sorted(it.name for it in to.iterdir() if it.is_dir()) == sorted([*renditions, *filter(None, made)]) and list(made) == ["", "less-1", "more-1", "less-2"], made
+        for name, frames in zip(made, (938, 937, 939, 936)):
+            assert frames_of_sound(to / name / "en", 10, to / name / "en" / section if section else None) == frames, (container, name)
+            assert abs(made[name][-1] - (frames * 1024 / 48_000 - 20)) < 1e-6 and all(abs(it) < 0.06 for it in made[name]), (name, made)
+            assert all(os.path.samefile(to / name / one, to / one) for one in (f"v/s9.{ending}", "sub/s0.vtt")) and (to / name / "en" / "index.m3u8").read_text() == (to / "en" / "index.m3u8").read_text()
+        begins = [seen(to / one / f"s0.{ending}", to / one / section if section else None)[0][kind][0][0] for one, kind in (("v", "video"), ("en", "audio"))]
+        assert abs(begins[0] - begins[1]) < 0.001, begins
+
+
+def test_an_ad_s_sound_is_where_its_pictures_are(room):
+    """The coder's own frame stands in place of the first one of the ad: a tone that begins after 1 s is heard after 1 s."""
+    path = f"{room.path}/ad.mp4"
+    ffmpeg("-f", "lavfi", "-i", "testsrc2=s=64x36:r=25", "-f", "lavfi", "-i", "aevalsrc='if(gte(t,1),sin(2*PI*880*t),0)':s=48000", "-t", "4", "-c:v", "libx264", "-preset", "ultrafast", "-c:a", "pcm_s16le", "-f", "mov", path)
+    assert condition(room, path, "--ladder", ladder(room, {"v": RENDITIONS["v1"], "en": RENDITIONS["en"]}), "--to", f"{room.path}/ad")[0] == 0
+    sound = subprocess.run(["ffmpeg", "-nostdin", "-v", "error", "-i", f"{room.path}/ad/en/s0.ts", "-ac", "1", "-f", "s16le", "-"], capture_output=True, check=True).stdout
+    samples = memoryview(sound).cast("h")
+    first = next(n for n, it in enumerate(samples) if abs(it) > 3000)
+    assert abs(first - 48_000) < 240, first  # (5 ms)
 
 
 def test_an_ad_without_sound_is_silent_and_one_without_pictures_is_refused(room):

@@ -10,7 +10,7 @@ import threading
 import time
 from pathlib import Path
 
-from of_conditioning import Files, media
+from of_conditioning import Files, frames_of_sound, media
 from of_vast import AdServer
 from tools import PLANT, PYTHON, Feed, free_port, get, instant, until
 from vast_documents import inline, vast, wrapper
@@ -111,7 +111,7 @@ def test_a_break_is_answered_by_what_is_ready_and_the_rest_is_made(room):
     decide.sees("sport vast/b3 200 DoesNotFit: ad soap: it lasts 6 s, and 5 s of the break are left")
     assert decide.figure('adsplice_decide_answers_total{channel="sport",status="200"}') == 2 and decide.figure('adsplice_decide_answers_total{channel="sport",status="204"}') == 1
     assert decide.figure('adsplice_decide_sold_seconds_total{channel="sport",what="ads"}') == 14 and decide.figure('adsplice_decide_sold_seconds_total{channel="sport",what="slate"}') == 6
-    assert 3 <= decide.figure('adsplice_decide_ads{state="ready"}') <= decide.figure("adsplice_decide_made_total") <= 6 and decide.figure('adsplice_decide_lacks_total{channel="sport",why="NotReady"}') == 2
+    assert 3 == decide.figure('adsplice_decide_ads{state="ready"}') == decide.figure("adsplice_decide_made_total") and decide.figure('adsplice_decide_lacks_total{channel="sport",why="NotReady"}') == 2
     kept = json.loads(Path(f"{room.path}/keep/answers/sport/b2.json").read_text())
     assert [it["id"] for it in kept["ads"]] == ["car", "soap", "slate"] and kept["ads"][1]["impressions"] == ["http://track.example/impression?wrapper=w", "http://track.example/impression?ad=soap"]
     assert kept["ads"][0]["errors"] and len(kept["ads"][0]["events"]) == 5 and "impressions" not in kept["ads"][2]
@@ -158,7 +158,7 @@ def test_a_file_that_no_ad_can_be_made_of_is_told_and_not_tried_at_once(room):
     count = files.count("GET", "/gone.mp4")
     assert decide.pod("b2") == [("car", 1)] and files.count("GET", "/gone.mp4") == count
     decide.sees("vast/b2 200 NotReady: ad gone: .*it can't be made: the server answers 404")
-    until(lambda: os.listdir(f"{room.path}/keep/files") == [] and not [it for it in Path(f"{room.path}/ads").glob("*/.making*")], 60, "the other making")
+    until(lambda: os.listdir(f"{room.path}/keep/files") == [] and not [it for it in Path(f"{room.path}/ads").glob("*/.making*")], 60, "the making")
 
 
 def test_a_url_that_is_signed_anew_for_each_answer_is_of_the_same_file(room):
@@ -252,7 +252,7 @@ def test_what_was_made_is_there_after_a_new_start_and_no_half_of_it_after_a_kill
     server.pages["/vast"] = vast(ad(files, "car", 2, 1))
     decide = Decide(room, text)
     assert os.stat(f"{room.path}/keep").st_mode & 0o777 == 0o750
-    assert not list(Path(f"{room.path}/ads").glob("*/.making*")) and decide.pod("b2") == [("car", 1)] and files.count("GET", "/car.mp4") <= made + 1  # (for its other making)
+    assert not list(Path(f"{room.path}/ads").glob("*/.making*")) and decide.pod("b2") == [("car", 1)] and files.count("GET", "/car.mp4") == made
     status, _, err = room.run("adsplice-decide", "--config", f"{room.path}/decide.ini", "--listen", f"127.0.0.1:{free_port()}")
     assert status == 1 and "another adsplice-decide keeps its things there" in err and err.count("\n") == 1, err
     for number in (signal.SIGTERM, signal.SIGINT, signal.SIGHUP):
@@ -273,7 +273,6 @@ def test_a_file_that_changes_becomes_another_ad(room):
     try:
         wanted = store.Wanted(ladders.ladder_of(ALONE), "car", f"{files.url}/car.mp4", None, None, web.Client(5))
         first = until(lambda: (found := it.ready(wanted, True)) and not isinstance(found, str) and found, 60, "the ad")
-        first = until(lambda: (found := it.ready(wanted, True)).twin and found, 60, "its other making")
         made, store.AGAIN = it.made_count, 0.0
         try:
             it.ready(wanted, True)
@@ -281,10 +280,9 @@ def test_a_file_that_changes_becomes_another_ad(room):
             assert it.made_count == made and it.ready(wanted, True) == first
             media(f"{room.path}/films/car.mp4", 4)
             second = until(lambda: (found := it.ready(wanted, True)).uri != first.uri and found, 60, "the other ad")
-            assert second.twin is None or second.twin.pieces == second.pieces
         finally:
             store.AGAIN = 3600.0
-        assert len(second.pieces) == 2 and len({it.parent.name.removesuffix("-other") for it in Path(f"{room.path}/ads").glob("*/*/ad.json")}) == 2
+        assert len(second.pieces) == 2 and len(list(Path(f"{room.path}/ads").glob("*/*/ad.json"))) == 2
     finally:
         it.end()
 
@@ -609,26 +607,29 @@ def test_secrets_of_urls_are_not_printed(room):
     assert "secret" not in str(said), [it for it in said if "secret" in str(it)]
 
 
-def test_both_makings_of_an_ad_are_given_by_turns(room):
-    """An ad of 4 s has 187.5 frames of sound (48 kHz, AAC): 188 in the one making and 187 in the other, so that sound never leaves the pictures by a frame."""
+def test_the_makings_of_an_ad_are_given_by_what_breaks_take(room):
+    """An ad of 4 s has 187.5 frames of sound (48 kHz, AAC): its makings have 188 and 187, 189 and 186. If breaks take a half frame more of the sound, each break
+    gets the making that has a half frame more; if a whole frame more, that one and the next one by turns."""
     files = films(room, car=4)
     server = room.server(AdServer({"/vast": vast(ad(files, "car", 4))}))
     decide = Decide(room, settings(room, server))
     until(lambda: decide.pod(planned=4.0) == [("car", 2)], 90, "the ad")
 
-    def folder(number=0, **more):
-        return decide.ask(f"t{number}", planned=4.0, **more)[1]["breaks"][0]["ads"][0]["segments"][0]["uri"].split("/")[-3]
-    until(lambda: decide.figure("adsplice_decide_made_total") == 2, 90, "its other making")
+    def folder(number, more=None):
+        rows = {} if more is None else {"ladder": [{"name": "v", "replaced": 4.0 * number}, {"name": "en", "replaced": 4.0 * number + more}, {"name": 3, "replaced": "x"}, 4]}
+        uri = decide.ask(f"t{number}", planned=4.0, **rows)[1]["breaks"][0]["ads"][0]["segments"][0]["uri"]
+        return uri.partition("-4000/")[2].removesuffix("{}/s0.ts")
     seen = [folder(n) for n in range(12)]
     for n in range(9):
         decide.ask(f"hand{n}", planned=4.0, start=None)
     assert folder(12) != seen[-1], seen  # (what is asked by hand isn't shown, and doesn't count)
-    assert len(set(seen)) == 2 and all(seen[n] != seen[n + 1] for n in range(2, 11)), seen
-    cut = [folder(20 + n, ladder=[{"name": "v", "replaced": 4.0 * n}, {"name": "en", "replaced": 4.010666667 * n}, {"name": 3, "replaced": "x"}, 4]) for n in range(8)]
-    assert set(cut[2:]) == {min(seen, key=len)}, (cut, seen)  # (breaks take half a frame more of the sound: each gets the making that has half a frame more)
-    frames = []
-    for name in sorted(set(seen), key=len):
-        path = next(Path(f"{room.path}/ads").glob(f"*/{name}"))
-        frames.append(sum(sum(it["codec_type"] == "audio" for it in json.loads(subprocess.run(["ffprobe", "-v", "error", "-of", "json", "-show_packets", str(path / "en" / f"s{n}.ts")], capture_output=True, check=True).stdout)["packets"])
-                          for n in range(2)))
-    assert frames == [188, 187], (frames, seen)
+    assert set(seen) == {"", "less-1/"} and all(seen[n] != seen[n + 1] for n in range(2, 11)), seen
+    half = 512 / 48_000
+    found = [folder(20 + n, half * n) for n in range(12)] + [folder(32 + n, half * (11 + 2 * n)) for n in range(1, 10)]
+    assert set(found[3:12]) == {""} and set(found[14:]) == {"", "more-1/"}, found
+    one = next(Path(f"{room.path}/ads").glob("*/*-4000"))
+    assert sorted(it.name for it in one.iterdir()) == ["ad.json", "en", "less-1", "less-2", "more-1", "v"]
+    for name, owed in (("", 188), ("less-1", 187), ("more-1", 189), ("less-2", 186)):
+        assert frames_of_sound(one / name / "en", 2) == owed, name
+        assert os.path.samefile(one / name / "v" / "s1.ts", one / "v" / "s1.ts") and decide.figure("adsplice_decide_made_total") == 1  # (pictures are made once)
+    assert decide.figure("adsplice_decide_store_bytes") < 1.5 * sum(it.stat().st_size for it in one.glob("[ev]*/*")) + sum(it.stat().st_size for it in one.glob("*/en/*")), "what makings share counts once"

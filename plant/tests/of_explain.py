@@ -106,9 +106,10 @@ def test_what_a_feed_kept_of_a_programme(room):
     breaks = [("b1", 12, 2), ("b2", 16, 2)]
     files = kept("film-1", breaks, ("b1", 1), ("b2", 1)), kept("film-2", breaks, ("b1", 1))
     status, out, err = explain(room, "--kept", *files)
-    assert (status, err) == (3, "") and [it[:22] for it in out.splitlines()] == ["film-1: b1: it is fill", "film-2: b1: it is fill", "film-1: b2: it is fill", "film-2: b2: no decisio"], out
+    assert (status, err) == (3, "") and len(out.splitlines()) == 2, out
+    assert out.startswith("b1: film-1, film-2: it is filled by its own pod (1 segment, 2 s)\nb2: film-1: it is filled by its own pod (1 segment, 2 s); film-2: no decision"), out
     status, out, _ = explain(room, "--kept", *files, "--break", "b1")
-    assert status == 0 and out.count("\n") == 2 and out.startswith("film-1: b1: "), out
+    assert (status, out) == (0, "b1: film-1, film-2: it is filled by its own pod (1 segment, 2 s)\n"), out
 
 
 test_what_a_feed_kept_of_a_programme.needs = ()

@@ -1,11 +1,12 @@
 """Tests of a master playlist as the origin: what is read of it, what viewers get, and a feed of its renditions."""
 import json
 import os
+import signal
 import sys
 import threading
 import time
 
-from tools import PLANT, FakeController, apart, listed, until
+from tools import PLANT, FakeController, RulesController, apart, listed, until
 
 sys.path.insert(0, PLANT)
 from adsplice_plant.words import Fault  # noqa: E402
@@ -331,6 +332,39 @@ def test_renditions_come_and_go_without_a_new_start(room):
     assert set(made) == {f"/channels/film-{it}" for it in (1, 2, 3)} and b"low0.ts" in first["film-3"] and b"hd0.ts" in first["film-1"], (made, first)
     room.write("hd/index.m3u8", listed(1, 6, name="hd"))
     until(lambda: any(b"hd6.ts" in it for it in controller.puts("origin")), 5, "a list of film-1")
+
+
+def test_a_new_start_swaps_no_renditions_and_their_break_is_in_all(room):
+    """The packager lists its variants in another order while the feed is down: each rendition goes on under its own URL, and the next break is in both."""
+    controller = room.server(RulesController())
+    breaks = [("b1", 12, 4), ("b2", 20, 4)]
+
+    def push(newest):
+        for name in ("hd", "sd"):
+            room.write(f"{name}/index.m3u8", listed(max(0, newest - 7), newest, breaks, name=name))
+    pod = [{"segments": [{"uri": f"http://ads.example/{{}}/{n}.ts", "duration": "2"} for n in range(2)]}]
+    for number in (1, 2):
+        os.makedirs(f"{room.path}/{number}")
+        room.write(f"{number}/b.json", json.dumps({"breaks": [{"id": it[0], "ads": pod} for it in breaks]}).replace("{}", str(number)))
+    words = ("--channel", "film", "--origin", f"{room.path}/master.m3u8", "--base", BASE, "--at", controller.url, "--master", f"{room.path}/viewers.m3u8", "--keep", f"{room.path}/kept",
+             "--decisions", f"{room.path}/{{}}", "--longest-pause", "1")
+    room.write("master.m3u8", master_of("hd", "sd"))
+    push(5)
+    feed = room.feed(*words)
+
+    def shows(newest):
+        push(newest)
+        until(lambda: all(controller.shown(f"film-{it}").rstrip("\n").endswith(owed) for it, owed in ((1, f"hd{newest}.ts"), (2, f"sd{newest}.ts"))), 20, f"segment {newest} in both")
+    shows(8)
+    feed.end(signal.SIGTERM)
+    room.write("master.m3u8", master_of("sd", "hd"))
+    room.feed(*words).sees("film-2 adsplice 409 -: the channel is there already; goes on with it", 20)
+    shows(13)
+    texts = [controller.shown(f"film-{it}") for it in (1, 2)]
+    assert "http://origin.example/film/hd/" in texts[0] and "/sd/" not in texts[0] and "/hd/" not in texts[1], texts
+    assert [[line.rpartition("/")[2] for line in text.splitlines() if "ads.example" in line] for text in texts] == [["0.ts", "1.ts", "0.ts", "1.ts"]] * 2, texts
+    with open(f"{room.path}/viewers.m3u8", encoding="utf-8") as it:
+        assert [line for line in it.read().splitlines() if line.startswith("/")] == [f"/channels/film-{it}/live.m3u8" for it in (2, 1)]
 
 
 test_renditions_come_and_go_without_a_new_start.needs = ("httpx",)

@@ -108,6 +108,23 @@ def test_renditions_without_a_slate_are_not_filled_up(room):
     assert [len(one) for one in it.pods("break-1")] == [2, 2]
 
 
+def test_renditions_of_other_segments_are_filled_up_for_as_long(room):
+    """Pictures in 2 s, sound in 4 s, each with a slate of its own: 16 s of a break of 20 s are left."""
+    from adsplice_plant.events import FolderRead, ListRead
+    it = Steps("v", "a")
+    it.begin(a=SLATE.replace(b'"2"', b'"4"'))
+
+    def lists(last, breaks=()):
+        it.take(ListRead("news-v", listed(max(0, 2 * last - 7), 2 * last + 1, breaks).replace("TARGETDURATION:2", "TARGETDURATION:4").encode()))
+        it.take(ListRead("news-a", listed(max(0, last - 3), last, breaks, target=4).encode()))
+    lists(3)
+    for channel, body in (("news-v", decided(("b1", 2))), ("news-a", decided(("b1", 1), seconds="4"))):
+        it.take(FolderRead(channel, {"b.json": ((1, 1, 1), body.encode())}))
+    lists(4, [("b1", 24, 20)])
+    pods = it.pods("b1")
+    assert [len(one) for one in pods] == [10, 5] and pods[0][2:4] == ["slate-0.ts", "slate-1.ts"] and pods[1][1:3] == ["slate-0.ts", "slate-1.ts"], (pods, it.lines)
+
+
 def test_a_slate_file_is_read_as_a_fallback_is(room):
     from adsplice_plant.folders import Slate
     lines = []

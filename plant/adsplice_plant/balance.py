@@ -1,0 +1,72 @@
+"""By how much a channel's sound has become longer than its pictures at all its breaks: players that join each stream end to end are off by so much."""
+from __future__ import annotations
+
+import json
+from dataclasses import asdict, dataclass
+from pathlib import Path
+from typing import NamedTuple
+
+from .filling import Pod, balanced
+from .playlist import SECOND
+from .whole_files import write_aside
+
+LONG = 60 * SECOND  # after its end a break's run is over in all playlists, also if the next break is asked for before it begins
+
+
+class Last(NamedTuple):
+    """The pod that was given last: by how many nanoseconds its sound was longer (`over`), the instant at which its break ends, in nanoseconds from 1970,
+    and how many nanoseconds of the pictures pods had `replaced` before."""
+
+    over: int
+    end: int
+    replaced: int
+
+
+@dataclass
+class Balance:
+    """By how many nanoseconds a channel's sound has become longer than its pictures at all breaks together (`over`). `cut_before`: by how many pods had
+    taken more of the sound, as the last question said that counts; `cut_last`: the same of the last question. `last`: the pod that was given last."""
+
+    over: int = 0
+    cut_before: int | None = None
+    cut_last: int | None = None
+    last: Last | None = None
+
+    def cut(self, now: int | None, most: int) -> None:
+        """Pods have taken more of the sound than of the pictures by `now`; none if that isn't known. A step of over `most` counts for nothing: a rendition
+        lags behind within a break. If the next question is near it, it begins to count from there: the feed has begun anew."""
+        if now is None:
+            return
+        if self.cut_before is not None and abs(now - self.cut_before) <= most:
+            self.over -= now - self.cut_before
+            self.cut_before = now
+        elif self.cut_before is None or self.cut_last is not None and abs(now - self.cut_last) <= most:
+            self.cut_before = now
+        self.cut_last = now
+
+    def give(self, pod: Pod, start: int, replaced: int | None) -> Pod:
+        """The `pod` for a break that begins at `start` with those makings by which sound stays nearest to pictures; pods have `replaced` so much of the pictures,
+        if that is known. If that is no more than when the last pod was given, whose break is long over, nobody has seen that one: it doesn't count."""
+        if self.last is not None and self.last.replaced == replaced and start - self.last.end >= LONG:
+            self.over -= self.last.over
+        found, over = balanced(pod, self.over)
+        self.last = Last(over - self.over, start + pod.length(), replaced) if replaced is not None else None
+        self.over = over
+        return found
+
+
+def read(path: Path) -> Balance:
+    """The balance that was kept in the file `path`; an even one if there is none that reads."""
+    try:
+        said = json.loads(path.read_bytes())
+        before, newest = (None if said[name] is None else int(said[name]) for name in ("cut_before", "cut_last"))
+        over, end, replaced = said["last"] or (0, 0, 0)
+        return Balance(int(said["over"]), before, newest, Last(int(over), int(end), int(replaced)) if said["last"] else None)
+    except (OSError, ValueError, TypeError, KeyError, RecursionError):
+        return Balance()
+
+
+def keep(path: Path, it: Balance) -> None:
+    """Keeps the balance `it` in the file `path`. Raises OSError."""
+    path.parent.mkdir(parents=True, exist_ok=True)
+    write_aside(path, json.dumps(asdict(it)).encode() + b"\n")
