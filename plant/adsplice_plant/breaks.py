@@ -243,6 +243,12 @@ class Timeline:
         found = self.nearest(instant, is_end) if self.aligns else None
         return instant if found is None or found.begins is None else found.begins
 
+    def begin_from(self, own: int, instant: int, fresh: int) -> int:
+        """Where a break begins whose nearest segment to the `instant` begins at `own`: with the segment after that if it is as near, and the first new one, which
+        is at the place `fresh`. Viewers have the one before it without a pod."""
+        is_later = 0 < fresh < len(self.begins) and self.begins[fresh - 1] == own and self.begins[fresh] - instant <= instant - own + TOLERANCE
+        return self.begins[fresh] if is_later else own
+
     def is_reached(self, instant: int, is_end: bool = False) -> bool:
         """Whether a segment is listed that begins at the `instant` or after it, or within half a segment before it. `is_end` as in `nearest`."""
         return self.begins[-1] >= instant or self.nearest(instant, is_end) is self.segments[-1]

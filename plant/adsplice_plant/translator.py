@@ -99,7 +99,7 @@ class Translator:
         near = [name for name in self.firsts if self.is_near(name, line)]
         self.breaks.forget(min((self.firsts[name] for name in near), default=line.first), min(self.lows.get(name, line.low_number) for name in (*near, rendition)),
                            {it.id for it in self.breaks.known if any(self.is_moved(it, name) for name in self.stated)})
-        self.cut(line, rendition)
+        self.cut(line, rendition, fresh)
         listed = [it for it in self.breaks.known if self.is_listed(it, line, rendition)]
         is_known = self.passes(ranges, listed, line, rendition)
         others = [it.line for it in ranges if not it.is_translated() and self.breaks.named(it.id) is None]
@@ -239,10 +239,10 @@ class Translator:
             return False
         return end > first if end is not None else (one.start if start is None else start) >= first - TOLERANCE
 
-    def cut(self, line: Timeline, rendition: str) -> None:
+    def cut(self, line: Timeline, rendition: str, fresh: int) -> None:
         """Takes in where the breaks begin and end in the `rendition`, whose list is that of `line`, once it has come there: at its own nearest
         segment, if it is cut elsewhere than the rendition that showed the signal. That stays, since it is written then. Of breaks that follow one another
-        the later one begins where the one before it has ended, at the earliest."""
+        the later one begins where the one before it has ended, at the earliest. `fresh`: the place of the list's first new segment."""
         cuts = self.cuts.get(rendition, {})
         self.cuts[rendition] = {it.id: cuts.get(it.id, [None, None]) for it in self.breaks.known}
         before: Break | None = None
@@ -253,6 +253,7 @@ class Translator:
                 if instant is not None and found[place] is None and line.is_reached(instant, bool(place)) and (is_by_old_clock or line.has_turned(it)):
                     known = line.end_before(it) if place else line.begin_by_number(it, instant, self.breaks.set_at)
                     own = known if known is not None else line.aligned(instant, bool(place)) if line.has_turned(it) else instant
+                    own = own if place else line.begin_from(own, instant, fresh)
                     found[place] = own if abs(own - instant) > self.tolerance else instant
                     found[place] = self.in_order(line, rendition, it, before, place)
             if found[0] is None and it.said is not None and line.has_turned(it) and (first := line.nearest(it.start)) is not None:
