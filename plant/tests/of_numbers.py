@@ -328,11 +328,11 @@ def test_a_long_list_that_begins_again_is_taken_in_time(room):
     for it in them:
         it.own = [(n, f"{it.name}0-{n}.ts") for n in range(3000)]
         it.look(6000.0)
-    them[0].own = [(n, f"a1-{n}.ts") for n in range(3000)]  # (the same instants)
+    them[0].own = [(n, f"a1-{n}.ts") for n in range(1, 3001)]  # (the same instants, and a newer one)
     begun = time.process_time()
     for look in (1, 4):
         them[0].look(6000.0 + look)
-    assert them[0].repairer.last[-1].uri == "a1-2999.ts" and time.process_time() - begun < 3, time.process_time() - begun
+    assert them[0].repairer.last[-1].uri == "a1-3000.ts" and time.process_time() - begun < 3, time.process_time() - begun
 
 
 def test_two_packagers_by_turns_are_told_once(room):

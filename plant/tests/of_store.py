@@ -292,10 +292,10 @@ def crowded():
     translator = copy.copy(one.translator)
     translator.lows = {"a": 21, "b": 22}
     translator.done, translator.firsts, translator.seen, translator.stated, translator.cuts, translator.styles = (
-        {"a": Mark(8, "8.ts", 48)}, {"a": 6}, {"a": {"b1": {"SCTE35-OUT"}}}, {"a": {"b1": 6}}, {"a": {"b1": [6, None]}}, {"EXT-X-AD"})
+        {"a": Mark(8, "8.ts", 48, 46, 9, 2)}, {"a": 6}, {"a": {"b1": {"SCTE35-OUT"}}}, {"a": {"b1": 6}}, {"a": {"b1": [6, None]}}, {"EXT-X-AD"})
     translator.breaks = copy.copy(one.translator.breaks)
     breaks = translator.breaks
-    breaks.known, breaks.cancelled, breaks.is_first, breaks.clock = [Break("b1", 6, 7, "a splice", 52, 9, "upid", 3, 9, False, True, True, 8, ",X=1", True, 6, 4, 1, 2)], {"b3"}, False, 106
+    breaks.known, breaks.cancelled, breaks.is_first, breaks.clock = [Break("b1", 6, 7, "a splice", 52, 9, "upid", 3, 9, False, True, True, 8, ",X=1", True, 6, 4, 5, 1, 2, 3)], {"b3"}, False, 106
     breaks.set_at = 105
     return dataclasses.replace(one, renditions=renditions, translator=translator, entry=9, life="one")
 
