@@ -25,35 +25,48 @@ RESTS = ("-bf", "0", "-g", str(2 * RATE), "-keyint_min", str(2 * RATE), "-sc_thr
 LATER = 0.4  # where an ad's second has its flash: a coder's first frame of sound is silent
 DARK, TONES = (16, 64), (880, 440)  # the red of the pictures, and the pitch: of the programme, and of an ad
 PAGE = """<!doctype html><title>lip sync</title><video id=video crossorigin=anonymous></video><script>
-const flashes = [], beeps = [], pen = new OffscreenCanvas(1, 1).getContext("2d", { willReadFrequently: true });
-let light = false, quiet = 0, since = 0, before = 0, fault = "";
+const flashes = [], beeps = [], clocks = [], pen = new OffscreenCanvas(1, 1).getContext("2d", { willReadFrequently: true });
+let light = false, fault = "";
 function seen(now, frame) {
   pen.drawImage(video, 0, 0, 1, 1);
   const red = pen.getImageData(0, 0, 1, 1).data[0], is = red > 128;
-  if (is && !light) flashes.push([frame.expectedDisplayTime / 1000, 0]);
+  clocks.push(frame.expectedDisplayTime / 1000 - frame.mediaTime); // (a screen shows frames at its own pace: the middle of many is less rough)
+  if (clocks.length > 50) clocks.shift();
+  if (is && !light) flashes.push([frame.mediaTime + clocks.reduce((sum, it) => sum + it) / clocks.length, 0]);
   if (!is && light && flashes.length) flashes.at(-1)[1] = red;
   light = is;
   video.requestVideoFrameCallback(seen);
 }
 video.requestVideoFrameCallback(seen);
 video.addEventListener("error", () => { fault = video.error.message || "error " + video.error.code; });
-const audio = new AudioContext(), ear = audio.createScriptProcessor(512, 1, 1);
-audio.createMediaElementSource(video).connect(ear);
-ear.connect(audio.destination);
-ear.onaudioprocess = (it) => {
-  const heard = it.inputBuffer.getChannelData(0), clock = audio.getOutputTimestamp();
-  for (let n = 0; n < heard.length; n++) {
-    const sign = Math.sign(heard[n]);
-    if (since < 0.03 * audio.sampleRate && beeps.length && sign && before && sign !== before) beeps.at(-1)[1]++;
-    [since, before] = [since + 1, sign || before];
-    if (Math.abs(heard[n]) < 0.1) { quiet++; continue; }
-    if (quiet > 9600) { beeps.push([clock.performanceTime / 1000 + it.playbackTime - clock.contextTime + n / audio.sampleRate, 0]); since = 0; }
-    quiet = 0;
+const audio = new AudioContext(), ear = `registerProcessor("ear", class extends AudioWorkletProcessor {
+  constructor() { super(); Object.assign(this, { quiet: 0, since: 0, before: 0, beep: null }); }
+  process([[heard = []]]) {
+    for (let n = 0; n < heard.length; n++) {
+      const sign = Math.sign(heard[n]);
+      if (this.beep && sign && this.before && sign !== this.before) this.beep[1]++;
+      [this.since, this.before] = [this.since + 1, sign || this.before];
+      if (this.beep && this.since >= 0.03 * sampleRate) { this.port.postMessage(this.beep); this.beep = null; }
+      if (Math.abs(heard[n]) < 0.1) { this.quiet++; continue; }
+      if (this.quiet > 9600) [this.beep, this.since] = [[(currentFrame + n) / sampleRate, 0], 0];
+      this.quiet = 0;
+    }
+    return true;
   }
-};
-function taken() { const now = [light ? flashes.splice(0, Math.max(0, flashes.length - 1)) : flashes.splice(0), since > 4800 ? beeps.splice(0) : beeps.splice(0, Math.max(0, beeps.length - 1))]; return now; }
-video.src = new URLSearchParams(location.search).get("list");
-video.play();
+});`;
+async function listen() {
+  await audio.audioWorklet.addModule(URL.createObjectURL(new Blob([ear], { type: "text/javascript" })));
+  const node = new AudioWorkletNode(audio, "ear");
+  audio.createMediaElementSource(video).connect(node).connect(audio.destination);
+  node.port.onmessage = (it) => {
+    const clock = audio.getOutputTimestamp();
+    beeps.push([clock.performanceTime / 1000 + it.data[0] - clock.contextTime, it.data[1]]);
+  };
+  video.src = new URLSearchParams(location.search).get("list");
+  await video.play();
+}
+listen().catch((it) => { fault = String(it); });
+function taken() { return [light ? flashes.splice(0, Math.max(0, flashes.length - 1)) : flashes.splice(0), beeps.splice(0)]; }
 </script>"""
 
 

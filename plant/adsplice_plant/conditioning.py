@@ -14,7 +14,7 @@ NEAR = SECOND // 2  # how far a file's length may be from the stated one, which 
 FORMATS = "mov,mp4,m4a,3gp,3g2,mj2,matroska,webm,mpegts,mpeg,avi,mxf,flv,asf"
 READS = ("-protocol_whitelist", "file", "-format_whitelist", FORMATS)
 DELAYED = {"aac": 1}  # frames that an encoder puts before the sound: so many of an ad's own go, and the rest is where it was
-FRAMES = 2  # by which the sound of a making lasts longer or shorter than the pictures: by less
+FRAMES = 2  # that a making's sound has more or less than come nearest to the pictures
 LIST, PIECE, SECTION = "index.m3u8", "s{n}", "init.mp4"
 
 
@@ -68,14 +68,13 @@ def over_of(length: int, sound: Sound, more: int = 0) -> int:
 
 def makings_of(length: int, ladder: Ladder) -> tuple[int, ...]:
     """In which makings an ad of `length` nanoseconds has the sound that is apart from pictures in `ladder`: how many frames more each has than come nearest,
-    the nearest to the pictures first. They are all those whose sound lasts less than FRAMES longer or shorter than the pictures. A break takes up to a frame
-    more of the programme's sound than of its pictures, or less. If sound is off by one frame and a half, one of these brings it within half a frame. So it
-    never comes to more, whatever breaks take."""
+    none first, and then by their distance from the pictures. With up to FRAMES more and less, one of them brings sound within half a frame that is off by two
+    frames, which is the most that is ever to be made good (balance)."""
     sound = ladder.sound_apart()
     if sound is None:
         return (0,)
     overs = {more: abs(over_of(length, sound, more)) for more in range(-FRAMES, FRAMES + 1)}
-    return tuple(sorted((more for more, over in overs.items() if over < FRAMES * SOUND[sound.codec] * SECOND // sound.rate), key=lambda more: (overs[more], abs(more)))) or (0,)
+    return tuple(sorted(overs, key=lambda more: (more != 0, overs[more], abs(more))))
 
 
 def folder_of(more: int) -> str:

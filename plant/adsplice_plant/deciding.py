@@ -201,7 +201,7 @@ class Channel:
                 pod, _ = filling.balanced(pod, self.balance.over)
             else:
                 self.balance.cut(ladder.cut_apart(question.replaced), ladder.piece // 2)
-                pod = self.balance.give(pod, question.start, ladder.pictures_replaced(question.replaced))
+                pod = self.balance.give(pod, question.start, ladder.pictures_replaced(question.replaced), ladder.frame())
         return Pod(pod.ready, pod.ads, found.lacks + pod.lacks)
 
     def search(self, client: Asking, planned: int | None, until: float) -> Found:

@@ -90,6 +90,11 @@ class Ladder:
         has_pictures = any(it.picture for it in self.renditions.values())
         return next((it.sound for it in self.renditions.values() if it.is_sound()), None) if has_pictures else None
 
+    def frame(self) -> int:
+        """How many nanoseconds a frame of the sound that is apart lasts; 0 if there is none."""
+        sound = self.sound_apart()
+        return 0 if sound is None else SOUND[sound.codec] * SECOND // sound.rate
+
     def pictures_replaced(self, replaced: Mapping[str, int]) -> int | None:
         """How many nanoseconds of the pictures pods took, if so much was `replaced` of each rendition; none if there are no pictures, or that isn't known."""
         return next((replaced.get(name) for name, it in self.renditions.items() if it.picture), None)

@@ -93,8 +93,8 @@ def test_frames_and_makings_by_hand(room):
         assert conditioning.frames_of(seconds * SECOND, sound, more) == owed, codec
     one = aac_apart()
     sound = one.sound_apart()
-    # of 468.75 frames for 10 s, of 703.125 for 15 s, of 375 for 8 s, and of 187.5 for 4 s: those within two frames
-    assert [conditioning.makings_of(it * SECOND, one) for it in (10, 15, 8, 4)] == [(0, -1, 1, -2), (0, 1, -1, 2), (0, -1, 1), (0, -1, 1, -2)]
+    # of 468.75 frames for 10 s, of 703.125 for 15 s, of 375 for 8 s, and of 187.5 for 4 s
+    assert [conditioning.makings_of(it * SECOND, one) for it in (10, 15, 8, 4)] == [(0, -1, 1, -2, 2), (0, 1, -1, 2, -2), (0, -1, 1, -2, 2), (0, -1, 1, -2, 2)]
     assert [conditioning.over_of(10 * SECOND, sound, it) for it in (0, -1, 1, -2)] == [5_333_333, -16_000_000, 26_666_667, -37_333_333] and conditioning.over_of(8 * SECOND, sound) == 0
     assert [conditioning.folder_of(it) for it in (0, -2, 1)] == ["", "less-2", "more-1"]
     # sound among the pictures has their timestamps, and of sound alone nothing is to be beside
@@ -131,15 +131,16 @@ def test_sound_stays_with_pictures_over_a_thousand_breaks(room):
 
 
 @pure
-def test_sound_is_never_off_by_more_than_a_frame_and_a_half(room):
-    """A break takes up to a frame more of the sound than of the pictures, or less. If sound is off by a frame and a half at most, the break's pod brings it within
-    half a frame, so it is off by a frame and a half at most after the break, too. That is 32 ms of 48 kHz, and 34.8 ms of 44.1 kHz."""
+def test_sound_is_never_off_by_more_than_two_frames(room):
+    """A break takes up to a frame more of the sound than of the pictures, or less, and up to a quarter of one is expected. If sound is off by 7/4 of a frame at most,
+    the pod brings it within half a frame of what is expected. So it is off by 1/2 + 1/4 + 1 of a frame at most after the break, which is as much: 37.3 ms of 48 kHz,
+    and 40.6 ms of 44.1 kHz."""
     from adsplice_plant.filling import Pod, balanced
     for rate in (48_000, 44_100):
         frame, one = 1024 * SECOND // rate, aac_apart(rate)
-        assert 3 * frame // 2 < 45_000_000
+        assert 7 * frame // 4 < 45_000_000
         for length in (*LENGTHS, *(n * SECOND // 25 for n in range(25, 1000, 7)), *(n * 1001 * SECOND // 30_000 for n in range(30, 900, 7))):
-            for by in range(-3 * frame // 2, 3 * frame // 2, frame // 16):
+            for by in range(-2 * frame, 2 * frame, frame // 16):  # (7/4 and the quarter)
                 _, found = balanced(Pod([ready(length, one)], [None]), by)
                 assert abs(found) <= frame // 2 + 2, (rate, length, by, found)
 
@@ -157,7 +158,7 @@ def farthest(cut, count=300, is_lost=False, lengths=(10 * SECOND, 10 * SECOND), 
             taken = {"v": 0, "a": 0}
         late = 20 * SECOND if is_lost and number % 10 == 9 and number != 99 else 0
         balance.cut(one.cut_apart({**taken, "a": taken["a"] - late}), one.piece // 2)
-        pod = balance.give(Pod(list(ads), [None] * len(ads)), 300 * SECOND * number, one.pictures_replaced(taken))
+        pod = balance.give(Pod(list(ads), [None] * len(ads)), 300 * SECOND * number, one.pictures_replaced(taken), one.frame())
         by = cut(off)
         taken = {"v": taken["v"] + 20 * SECOND, "a": taken["a"] + 20 * SECOND + by}
         off += sum(it.over() for it in pod.ready) - by
@@ -168,7 +169,7 @@ def farthest(cut, count=300, is_lost=False, lengths=(10 * SECOND, 10 * SECOND), 
 @pure
 def test_sound_that_is_cut_elsewhere_than_pictures_stays_with_them(room):
     """Breaks take any part of a frame of the sound more than of the pictures, always the same or not, or what brings them furthest apart: these stay within 45 ms.
-    A half frame stays beside what the questions don't tell: two breaks, and two that a new start of the feed loses."""
+    What the questions don't tell stays beside that: two breaks, and two that a new start of the feed loses."""
     import random
     rng, one = random.Random(6), aac_apart()
     for rate in (48_000, 44_100):
@@ -176,8 +177,9 @@ def test_sound_that_is_cut_elsewhere_than_pictures_stays_with_them(room):
         for lengths in ((10 * SECOND, 10 * SECOND), (9_960_000_000, 10 * SECOND), (4 * SECOND,), (8 * SECOND,), (15 * SECOND,)):
             cuts = [*(lambda off, n=n: n * frame // 8 for n in range(-8, 9)), *(lambda off, most=most: rng.randrange(-most, most) for most in (frame // 2, frame)), lambda off: -frame if off > 0 else frame]
             found = [farthest(it, lengths=lengths, rate=rate) for it in cuts]
-            assert max(found) <= 3 * frame // 2 + 1000 < 45_000_000, (lengths, found)
-    assert farthest(lambda off: rng.randrange(-frame, frame), is_lost=True, rate=44_100) <= 9 * frame // 2
+            assert max(found) <= 7 * frame // 4 + 1000 < 45_000_000, (lengths, found)
+            assert max(found[4:13]) <= frame + 1000, (lengths, found)  # (each takes the same, up to a half frame)
+    assert farthest(lambda off: rng.randrange(-frame, frame), is_lost=True, rate=44_100) <= 5 * frame
     assert one.cut_apart({"v": 0}) is one.cut_apart({}) is ladders.Ladder(2 * SECOND, {"v": one.renditions["v"]}).cut_apart({"v": 5}) is None
 
 
@@ -191,7 +193,7 @@ def test_a_pod_that_nobody_saw_does_not_count(room):
         balance.keep(Path(f"{room.path}/balance/film.json"), it)
         it = balance.read(Path(f"{room.path}/balance/film.json"))
         it.cut(one.cut_apart(taken), one.piece // 2)
-        pod = it.give(Pod([ready(9_960_000_000, one), ready(10 * SECOND, one)], [None, None]), 300 * SECOND * number, one.pictures_replaced(taken))
+        pod = it.give(Pod([ready(9_960_000_000, one), ready(10 * SECOND, one)], [None, None]), 300 * SECOND * number, one.pictures_replaced(taken), one.frame())
         if number % 3 != 2:
             taken = {"v": taken["v"] + 20 * SECOND, "a": taken["a"] + 20 * SECOND + 10_666_667}
             off += sum(ad.over() for ad in pod.ready) - 10_666_667
@@ -199,9 +201,9 @@ def test_a_pod_that_nobody_saw_does_not_count(room):
     assert most <= 32_000_000, most
     for number, owed in ((10, 1), (100, 0)):  # (a break right after the last one is asked for while that one's run goes on; a minute after it the run is over)
         it = balance.Balance(5, last=balance.Last(5, 20 * SECOND, 7))
-        it.give(Pod(), 20 * SECOND + number * SECOND, 7)
+        it.give(Pod(), 20 * SECOND + number * SECOND, 7, 3)
         assert it.over == 5 * owed, (number, it)
-    for text in ("", "[]", "{", '{"over": "x"}', '{"over": 1, "cut_before": [], "cut_last": 2, "last": 3}', "[" * 100_000):
+    for text in ("", "[]", "{", '{"over": "x"}', '{"over": 1, "cut_before": [], "cut_last": 2, "last": 3}', '{"over": 1, "cut_before": 1, "cut_last": 2, "last": null, "cuts": 7}', "[" * 100_000):
         Path(f"{room.path}/balance/film.json").write_text(text)
         assert balance.read(Path(f"{room.path}/balance/film.json")) == balance.Balance() == balance.read(Path(f"{room.path}/none")), text
 
@@ -294,7 +296,7 @@ def test_hevc_and_ac3(room):
 
 
 def test_sound_apart_is_made_in_all_its_makings(room):
-    """20 s are 937.5 frames of sound: the makings have 938, 937, 939 and 936, and none begins an eleventh piece with what lasts on after the pictures."""
+    """20 s are 937.5 frames of sound: the makings have 938, 937, 939, 936 and 940, and none begins an eleventh piece with what lasts on after the pictures."""
     renditions = {"v": RENDITIONS["v1"], "en": RENDITIONS["en"], "sub": RENDITIONS["sub"]}
     for container, section in (("ts", ""), ("fmp4", "init.mp4")):
         its = {name: {**it, "container": it["container"] if name == "sub" else container} for name, it in renditions.items()}
@@ -302,10 +304,10 @@ def test_sound_apart_is_made_in_all_its_makings(room):
         status, out, err = condition(room, media(f"{room.path}/ad.mp4", 20), "--ladder", ladder(room, its), "--to", to)
         assert (status, err) == (0, "") and "20 s in 10 pieces" in out, (out, err)
         made = json.loads((to / "ad.json").read_text())["makings"]
-        assert sorted(it.name for it in to.iterdir() if it.is_dir()) == sorted([*renditions, *filter(None, made)]) and list(made) == ["", "less-1", "more-1", "less-2"], made
-        for name, frames in zip(made, (938, 937, 939, 936)):
+        assert sorted(it.name for it in to.iterdir() if it.is_dir()) == sorted([*renditions, *filter(None, made)]) and next(iter(made)) == "", made
+        for name, frames in (("", 938), ("less-1", 937), ("more-1", 939), ("less-2", 936), ("more-2", 940)):
             assert frames_of_sound(to / name / "en", 10, to / name / "en" / section if section else None) == frames, (container, name)
-            assert abs(made[name][-1] - (frames * 1024 / 48_000 - 20)) < 1e-6 and all(abs(it) < 0.06 for it in made[name]), (name, made)
+            assert abs(made[name][-1] - (frames * 1024 / 48_000 - 20)) < 1e-6 and all(abs(it) < 0.08 for it in made[name]), (name, made)
             assert all(os.path.samefile(to / name / one, to / one) for one in (f"v/s9.{ending}", "sub/s0.vtt")) and (to / name / "en" / "index.m3u8").read_text() == (to / "en" / "index.m3u8").read_text()
         begins = [seen(to / one / f"s0.{ending}", to / one / section if section else None)[0][kind][0][0] for one, kind in (("v", "video"), ("en", "audio"))]
         assert abs(begins[0] - begins[1]) < 0.001, begins

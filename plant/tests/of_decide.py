@@ -608,7 +608,7 @@ def test_secrets_of_urls_are_not_printed(room):
 
 
 def test_the_makings_of_an_ad_are_given_by_what_breaks_take(room):
-    """An ad of 4 s has 187.5 frames of sound (48 kHz, AAC): its makings have 188 and 187, 189 and 186. If breaks take a half frame more of the sound, each break
+    """An ad of 4 s has 187.5 frames of sound (48 kHz, AAC): its makings have 188 and 187, 189 and 186, and 190. If breaks take a half frame more of the sound, each break
     gets the making that has a half frame more; if a whole frame more, that one and the next one by turns."""
     files = films(room, car=4)
     server = room.server(AdServer({"/vast": vast(ad(files, "car", 4))}))
@@ -628,8 +628,8 @@ def test_the_makings_of_an_ad_are_given_by_what_breaks_take(room):
     found = [folder(20 + n, half * n) for n in range(12)] + [folder(32 + n, half * (11 + 2 * n)) for n in range(1, 10)]
     assert set(found[3:12]) == {""} and set(found[14:]) == {"", "more-1/"}, found
     one = next(Path(f"{room.path}/ads").glob("*/*-4000"))
-    assert sorted(it.name for it in one.iterdir()) == ["ad.json", "en", "less-1", "less-2", "more-1", "v"]
-    for name, owed in (("", 188), ("less-1", 187), ("more-1", 189), ("less-2", 186)):
+    assert sorted(it.name for it in one.iterdir()) == ["ad.json", "en", "less-1", "less-2", "more-1", "more-2", "v"]
+    for name, owed in (("", 188), ("less-1", 187), ("more-1", 189), ("less-2", 186), ("more-2", 190)):
         assert frames_of_sound(one / name / "en", 2) == owed, name
         assert os.path.samefile(one / name / "v" / "s1.ts", one / "v" / "s1.ts") and decide.figure("adsplice_decide_made_total") == 1  # (pictures are made once)
     assert decide.figure("adsplice_decide_store_bytes") < 1.5 * sum(it.stat().st_size for it in one.glob("[ev]*/*")) + sum(it.stat().st_size for it in one.glob("*/en/*")), "what makings share counts once"
