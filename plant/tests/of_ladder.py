@@ -253,7 +253,7 @@ def test_ladder_an_ad_whose_sound_has_a_rest_is_given_to_none(room):
         it.list(listed(max(0, newest - 8), newest, [("b1", 14, 10)]))
     told = {line for line in it.lines if "Unequal" in line}
     assert len(told) == 2 and any("fallback Unequal: the renditions' fallback files don't have ads and segments of the same lengths: news-a's aren't those of news-v" in line for line in told), told
-    assert any("decisions/one.json Unequal" in line for line in told) and not any("ads.example" in uri for name in ads for _, uri, _ in it.controller.items(f"news-{name}"))
+    assert any("decisions/one.json Unequal" in line for line in told) and not any("ads.example" in one.uri for name in ads for one in it.controller.items(f"news-{name}"))
 
 
 def test_ladder_fallback_that_one_refuses_is_none_in_all(room):
