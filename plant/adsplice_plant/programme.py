@@ -20,7 +20,7 @@ from .playlist import SECOND
 from .reckoning import Numbers, Store
 from .repair import Repaired, Repairer, count_on
 from .replay import as_elsewhere, as_it_runs, put_past
-from .siblings import Sibling, Siblings, is_alike, numbering_of, pace_of, reach_of
+from .siblings import Reach, Sibling, Siblings, is_alike, number_after, numbering_of, pace_of, reach_of
 from .state import FileState, Rendition, Standing, State, Way
 from .traits import usual_length
 from .translator import Translator
@@ -106,7 +106,7 @@ def take_list(turn: Turn, event: ListRead) -> None:
     it = turn.state.renditions[event.channel]
     if it.came == event.body:
         return
-    reach = reach_of(event.body)
+    reach = reach_of(event.body) if len(turn.state.renditions) > 1 else Reach(None, number_after(event.body), 0)
     came_at = it.came_at if reach == it.reach else turn.at
     waited = max(it.waited if it.is_new or came_at == it.came_at else 0.0, came_at - it.came_at) if it.came is not None else it.waited
     since = max(one.came_at for _, one in turn.renditions())

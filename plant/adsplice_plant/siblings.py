@@ -74,11 +74,16 @@ class Reach(NamedTuple):
 
 
 def reach_of(body: bytes) -> Reach:
-    """How far the list `body` goes. It is read from the last instant on that it states."""
+    """How far the list `body` goes. It is read from the last instant on that it states, or else from its last segment on."""
+    instant = body.rfind(b"#EXT-X-PROGRAM-DATE-TIME:")
+    tail = playlist.read(body[max(0, instant if instant >= 0 else body.rfind(b"#EXTINF:")):])
+    return Reach(tail.end(), number_after(body), tail.segments[-1].duration if tail.segments else 0)
+
+
+def number_after(body: bytes) -> int:
+    """The media number after the last segment of the list `body`, by its packager."""
     first = body.partition(b"#EXT-X-MEDIA-SEQUENCE:")[2].partition(b"\n")[0].strip()
-    tail = playlist.read(body[max(0, body.rfind(b"#EXT-X-PROGRAM-DATE-TIME:")):])
-    number = (int(first) if first.isdigit() and len(first) <= 20 else 0) + body.count(b"#EXTINF:")
-    return Reach(tail.end(), number, tail.segments[-1].duration if tail.segments else 0)
+    return (int(first) if first.isdigit() and len(first) <= 20 else 0) + body.count(b"#EXTINF:")
 
 
 class Siblings:
