@@ -176,12 +176,6 @@ def middle_of(it: PackagedSegment) -> int:
     return (it.begins or 0) + it.duration // 2
 
 
-def is_after_gap(it: PackagedSegment, last: PackagedSegment) -> bool:
-    """Whether the rendition of the segment `it`, which has the next media number after another one's `last`, has nothing of the time between them: it was
-    away, too."""
-    return bool(it.discontinuities) and (it.begins or 0) - (last.begins or 0) - last.duration > it.duration // 2
-
-
 def is_before(it: PackagedSegment, first: int) -> bool:
     """Whether the segment `it` ends within one like it of the instant `first`, by where it is put or by what its packager states."""
     return any(abs(at + it.duration - first) <= it.duration for at in (it.begins, it.stated) if at is not None)
