@@ -188,11 +188,12 @@ def least_of(stands: Standing, reached: int) -> int:
 
 
 def is_bare_since(turn: Turn, stands: Standing, reached: int) -> bool:
-    """Whether viewers have the programme's own segments alone between that of the media number `reached` and the newest list, and no break begins there."""
+    """Whether viewers have the programme's own segments alone between that of the media number `reached` and the newest list, and no break begins there, nor
+    in what a new channel would begin with."""
     history, last = history_of(stands), stands.repairer.last
     if reached < 0 or not last:
         return False
-    since = max(reached, last[0].number - len(last))
+    since = min(max(reached, last[0].number - len(last)), least_of(stands, reached))
     between = [it for it in history if since <= it.number < last[0].number]
     starts = [found[1] for line, _ in stands.viewed.ranges.values() if (found := ranges.start_in(line)) is not None]
     return numbers.is_plain(stands.viewed, [*between, last[0]]) and not any(abs((it.begins or 0) - start) <= turn.state.translator.tolerance for it in between for start in starts)
