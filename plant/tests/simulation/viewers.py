@@ -149,7 +149,7 @@ class Viewers:
         next_one = next((it.begin for it in self.between(after, after + MOST_AWAY) if self.was_read(it)), after)  # (what lies before that is nobody's)
         planned = self.plan.breaks[self.since[-1].place].planned if self.since and self.since[-1].place >= 0 else after
         near = [(it.name != name, order, abs(it.start - at), place) for order, at in enumerate((next_one, after, planned)) for place, it in enumerate(self.plan.breaks)
-                if abs(it.start - at) <= self.half_at(it.start) + NEAR]
+                if abs(it.start - at) <= self.half_at(it.start) + NEAR and not (self.since and place == self.since[-1].place)]
         return min(near)[-1] if near else -1
 
     def half_at(self, start: int) -> int:
