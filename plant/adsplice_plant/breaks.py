@@ -197,12 +197,14 @@ class Timeline:
         return is_past or any(abs(jump.by - by) <= self.segments[-1].duration // 2 or abs(jump.number - one.clock) <= NEAR_JUMPS for jump in self.jumps(1))
 
     def end_before(self, one: Break) -> int | None:
-        """Where the break `one`, which ended by a clock that changed since, ended by that: at one of the listed segments if it is near. None if it didn't."""
+        """Where the break `one`, which ended by a clock that changed since, ended by that: at one of the listed segments if it is near. If the first segment after
+        it is on the new clock here, it ends with that one. None if it didn't end."""
         over = one.over
         if over is None or not self.aligns:
             return over
         near = [(abs(begin - over), begin) for begin, it in zip(self.begins, self.segments) if abs(begin - over) <= it.duration // 2]
-        return min(near)[1] if near else over
+        after = next((it.place for it in self.jumps(1) if it.last < over <= it.at + self.segments[it.place].duration // 2), None)
+        return min(near)[1] if near else over if after is None else self.begins[after]
 
     def end_after(self, start: int, end: int) -> int:
         """The instant `end` at which a break ends that begins with the segment at `start`: with the next segment at the earliest."""
