@@ -50,7 +50,7 @@ def set_since(one: PackagedSegment, history: list[PackagedSegment]) -> int:
     for place in range(len(history) - 1, max(-1, len(history) - 1 - NEAR), -1):
         it = history[place]
         if it.begins is not None and abs(it.begins - (one.begins or 0)) <= max(it.duration, one.duration) // 2:
-            return (history[-1].begins or 0) - it.begins - sum(one.duration for one in history[place:-1])
+            return (history[-1].begins or 0) - it.begins - sum(later.duration for later in history[place:-1])
     return 0
 
 

@@ -234,7 +234,7 @@ class Repairer:
         if clock is not None:
             self.add_times(found.segments, clock)
         first = found.segments[0]
-        if self.siblings and now - self.held_since < 2 * patience and (self.siblings.begin_again() or self.siblings.is_awaited(first.begins, first.duration)):
+        if self.siblings and now - self.held_since < 2 * patience and (self.siblings.one_waits() or self.siblings.is_awaited(first.begins, first.duration)):
             return Repaired(why=repairs.HELD.format(2 * patience), waits=True)
         return None
 

@@ -109,8 +109,8 @@ class Siblings:
         is_other, _, _, _, more, it = min(known, key=lambda one: one[:4])
         return (None if is_other else it.number + more, it.discontinuity) if more <= FAR else None
 
-    def begin_again(self) -> bool:
-        """Whether a rendition is to begin again soon: its list doesn't go on, and is held back for now. One that begins again with it has what it has shown."""
+    def one_waits(self) -> bool:
+        """Whether the list of a rendition doesn't go on, and is held back for now. One that begins again together with it has what it has shown."""
         return any(it.waits for it in self.found)
 
     def is_awaited(self, instant: int | None, duration: int) -> bool:
