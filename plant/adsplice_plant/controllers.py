@@ -383,7 +383,7 @@ def newest_in(written: bytes, history: list[PackagedSegment]) -> int:
     """The media number of the newest segment of the `history` that the playlist `written` has, by its instant. That of the newest of all if it has none:
     then nothing tells what its controller lacks."""
     instants = {it.instant for it in numbers.items_of(written) if it.instant is not None}
-    return max((it.number for it in history if it.begins in instants), default=history[-1].number if history else 0)
+    return max((it.number for it in history if it.written() in instants), default=history[-1].number if history else 0)
 
 
 def begin_anew(turn: Turn, channel: str, anew: int) -> None:
@@ -505,7 +505,9 @@ def list_refused(turn: Turn, event: Answered) -> None:
         drop(turn, channel, f"adsplice refuses two playlists in a row ({line})")
         return
     if controller.unfit >= UNFIT and not turn.state.life and it.settings.repair and it.came is not None and faults.code_of(line) not in ("N4", "N9"):
-        afresh = Repairer(it.stands.repairer.choices).take(it.came, turn.at, turn.clock).found
+        repairer = Repairer(it.stands.repairer.choices)
+        repairer.clock, repairer.shift = it.stands.repairer.clock, turn.state.shift
+        afresh = repairer.take(it.came, turn.at, turn.clock).found
         if afresh is not None:
             turn.put_controller(channel, sent=Request(What.FIND), unfit=0)
             turn.actions.append(Find(channel, afresh))
@@ -531,6 +533,7 @@ def found(turn: Turn, event: Found) -> None:
         return
     entry = turn.next_entry()
     repairer = Repairer(it.stands.repairer.choices)
+    repairer.clock = it.stands.repairer.clock
     repairer.accept(Repaired(list_, Head(list_.version, list_.target or 1, list_.kind)))
     viewed = Viewed()
     viewed.note(list_.date_ranges(), list_.segments[-1].number)

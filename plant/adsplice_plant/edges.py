@@ -1,13 +1,12 @@
 """One edge for all renditions of a programme: what is given ends where all of them have come (RFC 8216, 6.2.4)."""
 from __future__ import annotations
 
-from .breaks import AWAY
-from .packaged import PackagedSegment, duration_of
+from .packaged import duration_of
 from .playlist import SECOND
-from .siblings import NEAR, Reach, is_alike, pace_of, reach_of
-from .state import Rendition, Standing
+from .siblings import AWAY, NEAR, Reach, is_alike, pace_of, reach_of
+from .state import Rendition
 from .succession import name_of
-from .turn import Turn, history_of
+from .turn import Turn
 
 PATIENCE = 2.0  # target durations without a new segment, after which nobody waits for a rendition
 MOST_APART = 4  # segments by which media numbers of lists may differ and still be of one count, if their instants don't tell
@@ -23,7 +22,6 @@ def edge_of(turn: Turn, channel: str) -> Reach | None:
     for name, it in turn.renditions():
         if name == channel or (reach := awaited(turn, it)) is None:
             continue
-        reach = reach if reach.instant is None else reach._replace(instant=reach.instant - set_between(its.stands, it.stands))
         if is_alike(mine, pace := measured(it)):
             reaches.append(reach)
         elif reach.instant is not None:
@@ -32,26 +30,6 @@ def edge_of(turn: Turn, channel: str) -> Reach | None:
     if timed and all(it.is_near(timed[0]) for it in timed):
         return min(timed, key=lambda it: it.instant or 0)
     return min(reaches, key=lambda it: it.number) if reaches else None
-
-
-def set_between(mine: Standing, other: Standing) -> int:
-    """By how many nanoseconds the packager has set its clock between the newest segments that were given of a rendition (`mine`) and of the `other` one, of
-    which one has come farther; 0 if it hasn't, or if that isn't known."""
-    if not mine.repairer.last or not other.repairer.last:
-        return 0
-    one, last = mine.repairer.last[-1], other.repairer.last[-1]
-    if one.begins is None or last.begins is None or abs(one.begins - last.begins) <= 2 * max(one.duration, last.duration):
-        return 0
-    return set_since(one, history_of(other)) or -set_since(last, history_of(mine))
-
-
-def set_since(one: PackagedSegment, history: list[PackagedSegment]) -> int:
-    """By how many nanoseconds a clock was set in the `history` of another rendition since the segment `one` began; 0 if that has no segment then."""
-    for place in range(len(history) - 1, max(-1, len(history) - 1 - NEAR), -1):
-        it = history[place]
-        if it.begins is not None and abs(it.begins - (one.begins or 0)) <= max(it.duration, one.duration) // 2:
-            return (history[-1].begins or 0) - it.begins - sum(later.duration for later in history[place:-1])
-    return 0
 
 
 def measured(it: Rendition) -> int:
@@ -69,8 +47,9 @@ def awaited(turn: Turn, it: Rendition) -> Reach | None:
 
 
 def by_last(it: Rendition, reach: Reach) -> Reach:
-    """How far the newest list of the rendition goes, which goes as far as `reach`, by the clock of what was given last, if it still has that. The packager may
-    have set its clock since: it went back, or on farther than the time in which no list came."""
+    """How far the newest list of the rendition goes, which goes as far as `reach` by its packager's clock, by the programme's. The packager may have set its
+    clock since what was given last, if the list still has that: it went back, or on farther than the time in which no list came."""
+    reach = reach if reach.instant is None else reach._replace(instant=reach.instant - it.stands.repairer.clock)
     last = it.stands.repairer.last[-1] if it.stands.repairer.last else None
     if last is None or last.begins is None or reach.instant is None or not 0 < (count := reach.number - last.own - 1) <= NEAR:
         return reach
@@ -91,9 +70,9 @@ def patience_ends(it: Rendition, target: float) -> float:
 def note_behind(turn: Turn, channel: str, reach: Reach, since: float) -> None:
     """A list of the `channel` has come as far as `reach`: the others that haven't are behind from now on, unless they are already. If no rendition has had
     a new segment `since` longer than a target duration ago, none of them was behind until now."""
-    is_quiet = turn.at - since > turn.target()
+    is_quiet, mine = turn.at - since > turn.target(), by_last(turn.state.renditions[channel], reach)
     for name, it in turn.renditions():
-        if name != channel and it.reach is not None and (is_quiet or it.behind_since <= it.came_at) and not it.reach.covers(reach):
+        if name != channel and it.reach is not None and (is_quiet or it.behind_since <= it.came_at) and not by_last(it, it.reach).covers(mine):
             turn.put(name, behind_since=turn.at)
 
 

@@ -10,6 +10,7 @@ from dataclasses import dataclass, replace
 from typing import Any
 
 from .packing import Said, bytes_of, changed, changes, of_standing, standing_after, text_of
+from .packaged import Shift
 from .repair import Choices, Repairer
 from .state import Controller, Decided, File, FileState, Removed, Rendition, Standing, State, Way
 from .translator import Translator
@@ -65,6 +66,8 @@ def difference(old: Known, now: Known) -> Said:
         said["removed"] = {name: [one.ids, one.begun, texts_of(one.bodies), one.where, one.is_given] for name, one in it.removed.items()}
     if it.equal_after != was.equal_after:
         said["equal_after"] = it.equal_after
+    if it.shift != was.shift:
+        said["shift"] = it.shift
     if it.is_apart != was.is_apart:
         said["apart"] = sorted(it.is_apart)
     if it.life != was.life:
@@ -152,8 +155,9 @@ def after(old: Known, said: Said) -> Known:
     removed = {str(name): removed_of(*one) for name, one in said["removed"].items()} if "removed" in said else was.removed
     fallback = {str(name): bytes_of(text) for name, text in said["fallback"].items()} if "fallback" in said else was.fallback
     apart = frozenset(str(name) for name in said["apart"]) if "apart" in said else was.is_apart
+    since, by = said.get("shift", was.shift)
     now = replace(was, renditions=renditions, entry=int(said["n"]), decisions=decisions, files=files, asked=asked, over=over, removed=removed, fallback=fallback,
-                  equal_after=int(said.get("equal_after", was.equal_after)), is_apart=apart, life=str(said.get("life", was.life)))
+                  equal_after=int(said.get("equal_after", was.equal_after)), is_apart=apart, life=str(said.get("life", was.life)), shift=Shift(int(since), int(by)))
     return Known(now, {**old.signals, **said.get("signals", {})})
 
 

@@ -16,7 +16,7 @@ from .playlist import SECOND
 from .spelling import Unread
 
 EXTINF = b"\n#EXTINF:"
-CARRIED = {"times", "version", "target", "type", "own numbers", "keys", "discontinuity sequence"}  # repairs that are of a whole list
+CARRIED = {"clock", "times", "version", "target", "type", "own numbers", "keys", "discontinuity sequence"}  # repairs that are of a whole list
 OF_HEAD = {"version", "target", "type", "times"}  # those of them that stay while the head does
 
 

@@ -77,7 +77,7 @@ class Viewed:
                 places.setdefault(item.instant, []).append(place)
         later, was_replaced = 0, bool(begins)  # (a run that begins with the very first list begins at its first segment)
         for it in segments:
-            found = later if it.begins is None else next((one for one in places.get(it.begins, []) if one >= later), len(items))
+            found = later if it.begins is None else next((one for one in places.get(it.begins + it.shift, []) if one >= later), len(items))
             if found < len(items):
                 begins[it.number] = items[found].number, items[found].discontinuity
                 later, was_replaced = found + 1, False

@@ -5,7 +5,7 @@ The writer states keys and initialisation sections where they change, and every 
 """
 from __future__ import annotations
 
-from collections.abc import Callable, Iterable
+from collections.abc import Callable, Iterable, Mapping
 from dataclasses import dataclass, field
 from functools import lru_cache
 from typing import NamedTuple
@@ -20,6 +20,8 @@ EARLIEST, LATEST = -2_208_988_800 * playlist.SECOND, 7_258_118_400 * playlist.SE
 MOST_NUMBER = 2**64 - 1  # of a decimal-integer (RFC 8216, 4.2)
 IDENTITY = "identity"  # the KEYFORMAT of a key that names none (4.3.2.4)
 DATE_RANGE, EXTINF = "#EXT-X-DATERANGE:", "#EXTINF:"
+NEAR = playlist.SECOND // 10  # by which two statements of one instant may differ
+INSTANTS = ("START-DATE", "END-DATE")  # attributes of a date range (4.3.2.7)
 
 
 class Key(NamedTuple):
@@ -44,6 +46,13 @@ class InitSection(NamedTuple):
     keys: Keys
 
 
+class Shift(NamedTuple):
+    """How much later viewers have instants than the programme's clock has them: `by` nanoseconds from the instant `since` on."""
+
+    since: int = 0
+    by: int = 0
+
+
 @dataclass(slots=True)
 class PackagedSegment:
     """A listed segment.
@@ -56,7 +65,7 @@ class PackagedSegment:
     nanoseconds (`gap`).
 
     As the feed has it: its Media Sequence Number `number`, its Discontinuity Sequence Number `discontinuity`, and the instant
-    `begins` at which it begins, if that is known."""
+    `begins` at which it begins by the programme's clock, if that is known. Viewers have it `shift` nanoseconds later."""
 
     uri: str
     own: int
@@ -74,6 +83,19 @@ class PackagedSegment:
     discontinuity: int = 0
     begins: int | None = None
     said: int = 0
+    shift: int = 0
+
+    def written(self) -> int | None:
+        """The instant at which it begins as viewers have it; none if it isn't known."""
+        return None if self.begins is None else self.begins + self.shift
+
+    def ahead(self) -> int:
+        """How far its packager's clock was ahead of the programme's; 0 if it states no instant."""
+        return 0 if self.stated is None or self.begins is None else self.stated - self.begins
+
+    def is_set(self) -> bool:
+        """Whether viewers have another instant of it than the packager states."""
+        return self.stated is not None and self.begins is not None and abs(self.stated - self.begins - self.shift) > NEAR
 
     def effective_keys(self) -> Keys:
         """Its keys. If the feed's number is another than the packager's, the packager's is the IV of a key that has the number as
@@ -110,7 +132,8 @@ class PackagedList:
     lines after the last one: `tail_tags` and `tail_discontinuities`. `others` are the names of tags
     that change what the list means, and of instants that don't read. `signals`: the EXT-X-DATERANGE lines in place of its own; none if
     it keeps those. `marked`: the places of the segments before which its own stand, once these were looked for; `pieces`: the text
-    of each segment, once it was written; `timed`: when the segments begin, and `own`: its own EXT-X-DATERANGE lines, once that was asked for."""
+    of each segment, once it was written; `timed`: when the segments begin, and `own`: its own EXT-X-DATERANGE lines, once that was asked for, or as they
+    are by the programme's clock. `has_clock`: whether its packager has another one."""
 
     version: int | None = None
     target: int | None = None
@@ -128,6 +151,7 @@ class PackagedList:
     pieces: list[bytes] | None = None
     timed: Instants | None = None
     own: list[tuple[int, int, str]] | None = None
+    has_clock: bool = False
 
     def own_ranges(self) -> list[tuple[int, int, str]]:
         """The packager's EXT-X-DATERANGE lines: the place of the segment before which each stands (past the last one after it), its
@@ -355,11 +379,39 @@ def write(found: PackagedList, ranges: list[str] | None = None) -> bytes:
     lines += [f"#EXT-X-TARGETDURATION:{found.target}", f"#EXT-X-MEDIA-SEQUENCE:{first.number}",
               f"#EXT-X-DISCONTINUITY-SEQUENCE:{first.discontinuity - first.discontinuities}"]
     lines += [f"#EXT-X-PLAYLIST-TYPE:{found.kind}"] if found.kind else []
-    lines += (["#EXT-X-INDEPENDENT-SEGMENTS"] if found.is_independent else []) + (found.date_ranges() if ranges is None else ranges)
+    lines += ["#EXT-X-INDEPENDENT-SEGMENTS"] if found.is_independent else []
+    lines += written_ranges(found.date_ranges() if ranges is None else ranges, found.segments)
     head = "".join(f"{line}\n" for line in lines).encode()
     if found.pieces is None:
         found.pieces = [piece_of(before, it) for before, it in zip((None, *found.segments), found.segments)]
     return b"".join([head, piece_of(None, first), *found.pieces[1:], b"#EXT-X-ENDLIST\n" if found.is_ended else b""])
+
+
+def written_ranges(lines: list[str], segments: list[PackagedSegment]) -> list[str]:
+    """The EXT-X-DATERANGE `lines` by the clock that viewers have, in a list of `segments`."""
+    return [moved_range(line, shift_at(instant_of(attributes_of(line.partition(":")[2]).get("START-DATE", "")), segments)) for line in lines] if any(it.shift for it in segments) else lines
+
+
+def shift_at(instant: int | None, segments: list[PackagedSegment]) -> int:
+    """How much later viewers have the `instant`: as the newest of the `segments` that begins by then, or nearly; the first one if none does."""
+    if instant is None:
+        return segments[-1].shift
+    return next((it.shift for it in reversed(segments) if it.begins is not None and it.begins <= instant + NEAR), segments[0].shift)
+
+
+def moved_range(line: str, by: int) -> str:
+    """The EXT-X-DATERANGE `line` with all instants `by` nanoseconds later."""
+    said = attributes_of(line.partition(":")[2]) if by else {}
+    return range_with(line, {name: instant + by for name in INSTANTS if (instant := instant_of(said.get(name, ""))) is not None})
+
+
+def range_with(line: str, instants: Mapping[str, int | None]) -> str:
+    """The EXT-X-DATERANGE `line` with these `instants` in place of those that it states, by the names of their attributes."""
+    said = attributes_of(line.partition(":")[2])
+    for name, instant in instants.items():
+        if instant is not None and name in said and instant_of(said[name]) != instant:
+            line = line.replace(f'{name}="{said[name]}"', f'{name}="{playlist.instant_text(instant)}"', 1)
+    return line
 
 
 def piece_of(before: PackagedSegment | None, it: PackagedSegment) -> bytes:
@@ -388,6 +440,6 @@ def media_lines(it: PackagedSegment) -> list[str]:
     if it.byte_range is not None:
         length, offset = it.byte_range
         lines.append(f"#EXT-X-BYTERANGE:{length}" + ("" if offset is None else f"@{offset}"))
-    if it.begins is not None:
-        lines.append(f"#EXT-X-PROGRAM-DATE-TIME:{playlist.instant_text(it.begins)}")
+    if (begins := it.written()) is not None:
+        lines.append(f"#EXT-X-PROGRAM-DATE-TIME:{playlist.instant_text(begins)}")
     return [*lines, it.uri]

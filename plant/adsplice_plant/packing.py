@@ -11,6 +11,7 @@ from itertools import compress
 from operator import attrgetter, is_not
 from typing import Any
 
+from .clocks import stated_of
 from .edits import common_end
 from .growing import Growing
 from .numbers import Viewed
@@ -21,8 +22,8 @@ from .repair import Head, Lead, Repairer
 from .state import Standing
 
 Said = dict[str, Any]
-PLAIN = ("adds", "grows", "owed", "front")  # members of a Repairer that JSON takes as they are
-RARE = ("discontinuities", "gap", "gaps", "is_gap")  # members of a segment that are 0 as a rule
+PLAIN = ("adds", "grows", "owed", "front", "clock")  # members of a Repairer that JSON takes as they are
+RARE = ("discontinuities", "gap", "gaps", "is_gap", "shift")  # members of a segment that are 0 as a rule
 MEMBERS = attrgetter(*(it.name for it in fields(PackagedSegment) if it.name != "tags"))  # all the others of a segment
 PODS = ("held", "entered")  # members of Pods: ads by the IDs of breaks
 
@@ -94,7 +95,7 @@ def row_of(it: PackagedSegment, before: PackagedSegment | None) -> list[Any]:
     """The segment `it` as JSON takes it: its URI, own number, duration, begin and tags, and then what isn't as it is as a rule. Its numbers, keys
     and section are said if they don't follow from those of the segment `before`; none if it is the first one."""
     rest: Said = {}
-    if it.discontinuities or it.gaps or it.gap or it.is_gap:
+    if it.discontinuities or it.gaps or it.gap or it.is_gap or it.shift:
         rest |= {name: value for name in RARE if (value := getattr(it, name))}
     if before is None or it.number != before.number + 1 or it.discontinuity != before.discontinuity + it.discontinuities:
         rest["numbers"] = [it.number, it.discontinuity]
@@ -336,6 +337,8 @@ def of_repairer(old: Repairer, now: Repairer) -> Said:
         said["lead"] = now.lead and [now.lead.first, now.lead.count, now.lead.least]
     if now.growing is not old.growing and now.growing != old.growing:
         said["growing"] = now.growing and row_of(now.growing, None)
+    if now.stated != old.stated:
+        said["stated"] = now.stated
     if segments := of_segments(old, now):
         said["segments"] = segments
     return said
@@ -354,6 +357,7 @@ def standing_after(old: Standing, said: Said) -> Standing:
     one.head = was.head if "head" not in said else head and Head(head[0], int(head[1]), head[2])
     one.lead = was.lead if "lead" not in said else lead and Lead(int(lead[0]), int(lead[1]), int(lead[2]))
     one.growing = was.growing if "growing" not in said else said["growing"] and segment_of(said["growing"], None)
+    one.stated = stated_of(said["stated"]) if "stated" in said else was.stated
     one.past, one.last = segments_after(was.past, was.last, said.get("segments", {}))
     text, ahead = (edited(before, said[name]) if name in said else before for name, before in (("text", old.text), ("ahead", old.ahead)))
     repairs = {str(kind): int(count) for kind, count in said["repairs"].items()} if "repairs" in said else old.repairs

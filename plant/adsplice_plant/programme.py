@@ -12,6 +12,7 @@ from dataclasses import dataclass, replace
 from . import apart, controllers, decided, joining, packaged, presence, ranges, repairs, slates, spelling
 from .edges import by_last, edge_of, note_behind, patience_ends, up_to
 from .breaks import Break, Line, Numbering, shown
+from .clocks import shift_after
 from .events import Action, Answered, Ask, AskedInVain, Began, Event, FallbackRead, FolderRead, Found, ListRead, Looked, OriginChanged, SlateRead, Tell
 from .events import Repaired as RepairTold
 from .growing import Growing
@@ -212,6 +213,7 @@ def take_lists(turn: Turn) -> None:
     due = [channel for channel, it in turn.renditions() if it.is_new and not controllers.is_busy(it)]
     if not due or not may_begin(turn):
         return
+    follow_clock(turn)
     if not any(it.stands.entry for _, it in turn.renditions()):
         due.sort(key=lambda channel: first_instant(turn.state.renditions[channel].came or b""))
     else:  # (of those that begin again together each has what the others have that begin before it)
@@ -241,6 +243,15 @@ def take_lists(turn: Turn) -> None:
     enter(turn, translator, found)
     if turn.state.translator is translator:  # (else the same lists say it again)
         turn.actions[place:place] = [Tell("", line.who, 0, line.word, line.text, is_again=True) for line in told]
+
+
+def follow_clock(turn: Turn) -> None:
+    """Viewers' clock follows the packager's, if that was set and nothing speaks against it. Renditions that nobody waits for follow once they go on."""
+    target = turn.target()
+    those = [it.stands for _, it in turn.renditions() if it.stands.repairer.last and it.stands.repairer.last[-1].begins is not None and turn.at < patience_ends(it, target)]
+    if those and not any(it.viewed.reckoned is not None and it.viewed.reckoned.run is not None for it in those):
+        repairers = [it.repairer for it in those]
+        turn.set(shift=shift_after(turn.state.shift, [it.last for it in repairers], [it.clock for it in repairers], turn.state.translator))
 
 
 def may_begin(turn: Turn) -> bool:
@@ -321,6 +332,7 @@ def righted(turn: Turn, channel: str, found: dict[str, Taken]) -> Taken:
     text = up_to(body, by_last(it, it.reach or reach_of(body)), edge) if edge is not None else body
     repairer = changed(it.stands.repairer)
     repairer.siblings = siblings_of(turn, channel, found) if len(turn.state.renditions) > 1 else None
+    repairer.shift, repairer.waited = turn.state.shift, it.waited
     if it.is_other:
         repairer.held_since = float("-inf")
     repaired = repairer.take(text, turn.at, turn.clock)
@@ -600,30 +612,17 @@ def standing(before: Standing, it: Taken, text: bytes, entry: int, translator: T
     viewed.forget((repairer.past or listed)[0].number)
     new = listed[max(0, len(listed) - (listed[-1].number - last[-1].number)):] if last and listed[-1].number >= last[-1].number else listed
     listed_before = [line for line, number in before.viewed.ranges.values() if last and number >= last[-1].number]
-    ahead = ranges.without_moved(before.text, listed_before, lines, tolerance) or b""
+    moved = ranges.moved_in(listed_before, lines, tolerance)
+    ahead = ranges.without(before.text, moved) if moved else b""
     stands = Standing(repairer, viewed, entry, text, ahead, before.pods, before.repairs, before.entry)
     pods = before.pods.of(window_of(stands) | ranges.ids_in(lines) | {one.id for one in translator.breaks.known}).copy()
     begins = [one.begins for one in listed if one.begins is not None]
     pods.enter(ranges.starts_in(lines), before.viewed.ranges.keys(), [one.begins for one in new if one.begins is not None], min(begins, default=0), tolerance)
     target = repairer.head.target if repairer.head is not None else 0
-    until = turned_in(before, new, [*ranges.starts_in(lines).values()], tolerance) if last and not ahead else 0
-    if until:
-        stands = replace(stands, ahead=controllers.listed_from(stands, len(repairer.past), (0, 0), len(history_of(stands)) - len(new) + until))
-    if stands.ahead and last:  # (adsplice forgets what that list doesn't have)
-        front = listed[:len(listed) - len(new) + until] if until else last
-        viewed.reckon(front, ranges.ranges_in(stands.ahead), Store(pods.held, pods.fallback), tolerance, target)
+    if ahead and last:  # (adsplice forgets what that list doesn't have)
+        viewed.reckon(last, [line for line in listed_before if packaged.id_in(line) not in moved], Store(pods.held, pods.fallback), tolerance, target)
     viewed.reckon(listed, lines, Store(pods.held, pods.fallback), tolerance, target)
     return replace(stands, pods=pods)
-
-
-def turned_in(before: Standing, new: list[PackagedSegment], starts: list[int], tolerance: int) -> int:
-    """The place among the `new` segments of a list of the first one after the packager's clock went back, if a break was open `before`, or one of the
-    `starts` is at one of those before it; 0 if there is none. The list up to there comes first: what says by the new clock where the break ends would
-    end it before."""
-    turn = next((n for n in range(1, len(new)) if (new[n].begins or 0) < (new[n - 1].begins or 0)), 0)
-    reckoned = before.viewed.reckoned
-    begins = any(abs((it.begins or 0) - start) <= tolerance for it in new[:turn] for start in starts)
-    return turn if reckoned is not None and (reckoned.run is not None or begins) else 0
 
 
 # ---- lists

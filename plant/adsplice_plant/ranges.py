@@ -40,9 +40,14 @@ def starts_in(lines: Collection[str]) -> dict[str, int]:
     return dict(found for line in lines if (found := start_in(line)) is not None)
 
 
-def without_moved(before: bytes, lines: Collection[str], new: Collection[str], tolerance: int) -> bytes | None:
-    """The list `before`, which has the EXT-X-DATERANGE `lines`, without the breaks of which the `new` lines of the next list state a START-DATE that
-    is another by more than `tolerance`; none if there are none. adsplice keeps the first one for as long as a list has the ID (RFC 8216, 4.3.2.7)."""
+def moved_in(lines: Collection[str], new: Collection[str], tolerance: int) -> set[str]:
+    """The IDs of the breaks of the EXT-X-DATERANGE `lines` of which the `new` lines of the next list state a START-DATE that is another by more than
+    `tolerance`. adsplice keeps the first one for as long as a list has the ID (RFC 8216, 4.3.2.7)."""
     now = starts_in(new)
-    moved = {line.encode() for line in lines if (it := start_in(line)) is not None and it[0] in now and abs(now[it[0]] - it[1]) > tolerance}
-    return b"\n".join(line for line in before.split(b"\n") if line.rstrip(b"\r") not in moved) if moved else None
+    return {it[0] for line in lines if (it := start_in(line)) is not None and it[0] in now and abs(now[it[0]] - it[1]) > tolerance}
+
+
+def without(text: bytes, names: Collection[str]) -> bytes:
+    """The list `text` without the date ranges of these `names`."""
+    front = DATE_RANGE.encode()
+    return b"\n".join(line for line in text.split(b"\n") if not line.startswith(front) or packaged.id_in(line.decode("utf-8", "replace").rstrip("\r")) not in names)

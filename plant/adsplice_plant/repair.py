@@ -8,13 +8,13 @@ from __future__ import annotations
 from bisect import bisect_left
 from dataclasses import dataclass, field, replace
 
-from . import growth, packaged, repairs, spelling, variables
+from . import clocks, growth, packaged, repairs, spelling, variables
 from .growth import Accepted
-from .packaged import PackagedList, PackagedSegment
+from .packaged import PackagedList, PackagedSegment, Shift
 from .playlist import SECOND
-from .siblings import Siblings, middle_of
+from .siblings import AWAY, STALE, Siblings, middle_of
 from .spelling import Kinds, Unread
-from .succession import LAG, Place, begins_alike, is_named, is_same, lags, place_of
+from .succession import LAG, Place, begins_alike, is_named, is_same, lags, place_of, said_of
 
 NEWEST_VERSION = 7  # of a playlist that RFC 8216 describes
 TYPES = ("EVENT", "VOD")
@@ -115,6 +115,10 @@ class Repairer:
         self.lead: Lead | None = None  # what stays in front of the packager's list, since it began again
         self.front = 0  # segments of the last list that the packager's own hadn't
         self.accepted: Accepted | None = None  # the last list, if the next one may go on from its text
+        self.stated: dict[str, clocks.Stated] = {}  # what the date ranges of the last list state
+        self.clock = 0  # how far the packager's clock is ahead of the programme's at the newest segment
+        self.shift = Shift()  # the programme's, as it is now
+        self.waited = float("inf")  # seconds after which this list came after the last one
 
     # ---- a list
 
@@ -163,10 +167,8 @@ class Repairer:
         else:
             lead, front = self.begin_again(found, kinds)
         steps = self.add_steps(found, kinds)
-        self.set_times(found, False)
-        if is_timed:
-            self.follow_clock(found.segments, kinds)
-            self.keep_clock(found.segments, kinds, found.segments[front].number if "began again" in kinds else None)
+        self.set_times(found.segments)
+        self.set_clock(found, kinds)
         if is_untimed:
             kinds["times"] = ""
             self.agree(found.segments)
@@ -205,24 +207,22 @@ class Repairer:
         kinds: dict[str, str] = {}
         if fresh.new:
             count_on(self.last[-1], fresh.new)
-            self.set_times(PackagedList(segments=fresh.new), False)
+            front = growth.kept_by(before, fresh) if any(it.stated is None for it in fresh.new) else self.last[-1:]
+            self.set_times(front + fresh.new)
             if "times" in before.repairs:
                 self.agree(fresh.new)
-            elif any(it.stated is None for it in fresh.new):
-                self.follow_clock(growth.kept_by(before, fresh) + fresh.new, kinds)
-            if "times" not in before.repairs:
-                self.keep_clock(fresh.new, kinds)
         if any(it.begins is None for it in fresh.new):
             return None
         found = growth.grown(before, fresh)
+        self.set_clock(found, kinds, fresh.new)
         kinds |= growth.repairs_after(before, fresh, found)
-        accepted = None if "clock" in kinds else Accepted(body, before.head, kinds, found)
-        return Repaired(found, head, None if kinds else body, kinds, accepted=accepted)
+        return Repaired(found, head, None if kinds else body, kinds, accepted=Accepted(body, before.head, kinds, found))
 
     def hold(self, found: PackagedList, has_instants: bool, now: float, clock: int | None) -> Repaired | None:
         """Why the list `found`, which doesn't go on, isn't taken now; none if it is to be taken as one that began again, and its
         instants are known then. `clock`: the time of day, if instants are added; the rest as in `take`."""
         patience = self.head.target if self.head else 0
+        self.clock = self.clock_of(found.segments) if has_instants else self.clock
         if lags(self.past, self.last, found.segments, has_instants, max(1, patience)):
             return Repaired(why=repairs.LAGS)
         self.held_since = now if self.held_since is None else self.held_since
@@ -230,7 +230,7 @@ class Repairer:
             return Repaired(why=repairs.LAGS)
         if now - self.held_since < patience and not self.is_later(found.segments):
             return Repaired(why=repairs.HELD.format(patience), waits=True)
-        self.set_times(found, True)
+        self.set_times(found.segments, True)
         if clock is not None:
             self.add_times(found.segments, clock)
         first = found.segments[0]
@@ -239,15 +239,12 @@ class Repairer:
         return None
 
     def unseen(self, segments: list[PackagedSegment]) -> list[PackagedSegment]:
-        """The listed `segments`, which don't go on, without those in front that viewers have seen: by the instants that they state they lie before the end of
-        the last list. So it is with two packagers behind one address. A clock that went back farther than the list lasts says nothing of that, unless
-        segments began then."""
+        """The listed `segments`, which don't go on, without those in front that viewers have seen: by the programme's clock they lie before the end of
+        the last list. So it is with two packagers behind one address."""
         last = self.last[-1]
         if self.adds or last.begins is None or any(it.stated is None for it in segments):
             return segments
-        end, newest = last.begins + last.duration, segments[-1]
-        if (newest.stated or 0) + lasting(segments) < end - newest.duration and not begins_alike([*self.past, *self.last], segments):
-            return segments
+        end = last.begins + last.duration + self.clock
         return from_place(segments, next((n for n, it in enumerate(segments) if (it.stated or 0) + it.duration // 2 >= end), len(segments)))
 
     def is_later(self, segments: list[PackagedSegment]) -> bool:
@@ -256,7 +253,7 @@ class Repairer:
         first, last = segments[0], self.last[-1]
         if first.own <= last.own or first.stated is None or last.begins is None or self.adds:
             return False
-        return abs(first.stated - last.begins - last.duration - missed_by(last, segments)) <= max(it.duration for it in segments) // 2
+        return abs(first.stated - self.clock - last.begins - last.duration - missed_by(last, segments)) <= max(it.duration for it in segments) // 2
 
     def accept(self, repaired: Repaired) -> None:
         """The list `repaired` was pushed and taken: the next one follows it."""
@@ -278,7 +275,8 @@ class Repairer:
         for place, it in enumerate(found.segments):
             discontinuity += it.discontinuities
             it.number, it.discontinuity = found.segments[0].own + place, discontinuity
-        self.set_times(found, True)
+        self.clock = self.clock_of(found.segments)
+        self.set_times(found.segments, True)
         first = found.segments[0]
         theirs = self.siblings.place_at(first.begins) if self.siblings is not None else None
         if theirs is not None:
@@ -310,27 +308,6 @@ class Repairer:
         is_over = lead.is_over(found.segments)
         found.segments = stays + found.segments
         return None if is_over else lead, len(stays)
-
-    def keep_clock(self, segments: list[PackagedSegment], kinds: dict[str, str], begun: int | None = None) -> None:
-        """Puts those of the new `segments` which another rendition has by another clock on that one: where a packager's clock changes, and which
-        breaks are open there, is the programme's. The packager's numbers say which ones they are: so these have to go on. `begun`: the media number from
-        which on it began again, if it did."""
-        if self.siblings is None or not self.last:
-            return
-        new = [self.last[-1], *(it for it in segments if it.number > self.last[-1].number)]
-        for one in self.siblings.found if len(new) > 1 else []:
-            theirs = one.since(new[0])
-            if not theirs or abs(by := (new[0].begins or 0) - (theirs[0].begins or 0)) > new[0].duration:
-                continue
-            known, mine, their = {it.number: it.begins for it in theirs}, set_by(new), set_by(theirs)
-            for it in new:
-                there = known.get(it.number)
-                if there is None or it.begins is None or it.number - new[0].number != it.own - new[0].own or abs(it.begins - there - by) <= max(SECOND, it.duration):
-                    continue
-                if begun is not None and it.number >= begun or abs(it.begins - mine[it.number] - there + their[it.number] - by) <= it.duration // 2:
-                    kinds["clock"] = ""
-                    it.begins = there + by
-            return
 
     def cut_short(self, new: list[PackagedSegment]) -> list[PackagedSegment]:
         """The newest segment that was listed before the packager began again, if it grew and none of the `new` ones is it: it stays as long as it was."""
@@ -407,36 +384,86 @@ class Repairer:
 
     # ---- instants (4.3.2.6)
 
-    def set_times(self, found: PackagedList, begins_again: bool) -> None:
-        """Gives each new segment of `found` its instant: the stated one, else where the segment before it ends, unless the list
-        `begins_again`; else counted back from the first one that is known."""
-        segments = found.segments
-        ended = None if begins_again else self.end_of(segments[0])
+    def set_times(self, segments: list[PackagedSegment], begins_again: bool = False) -> None:
+        """Gives each new one of the listed `segments` its instant by the programme's clock: the stated one, else where the segment before it ends, unless
+        the list `begins_again`; else counted back from the first one that is known."""
+        before = None if begins_again else self.before(segments[0])
+        said: int | None = None  # where the segment before ends by what the list states
         for it in segments:
+            states = it.stated if it.stated is not None else None if said is None else said + it.gap
             if it.begins is None:
-                it.begins = it.stated if it.stated is not None else (ended + it.gap if ended is not None else None)
-            ended = it.begins + it.said if it.begins is not None and packaged.is_instant(it.begins) else None  # (as it was corrected)
-            it.begins = it.begins if ended is not None else None
-        for before, it in zip(segments[-2::-1], segments[:0:-1]):
-            if before.begins is None and it.begins is not None:
-                before.begins = it.begins - it.gap - before.duration
+                it.begins = self.begin_of(it, before, states)
+                it.shift = self.shift_of(it, before or (self.last[-1] if self.last else None))
+                if self.clock and it.begins is not None and it.stated is None:
+                    it.stated = it.begins + self.clock
+            said = None if states is None else states + it.said
+            before = it if it.begins is not None and packaged.is_instant(it.begins) else None
+            it.begins = it.begins if before is not None else None
+        for earlier, it in zip(segments[-2::-1], segments[:0:-1]):
+            if earlier.begins is None and it.begins is not None:
+                earlier.begins, earlier.shift = it.begins - it.gap - earlier.duration, it.shift
 
-    def follow_clock(self, segments: list[PackagedSegment], kinds: dict[str, str]) -> None:
-        """A packager that states the first instant of its list alone, and whose clock has changed: the new ones of `segments` have the
-        instants that follow from what the list states now, if these differ by more than a segment."""
-        ended: int | None = None  # where the segment before ends by what the list states now
-        for it in segments if self.last else []:
-            said = it.stated if it.stated is not None else None if ended is None else ended + it.gap
-            if it.number > self.last[-1].number and said is not None and it.begins is not None and abs(said - it.begins) > max(SECOND, it.duration):
-                kinds["clock"] = ""
-                it.stated = it.begins = said
-            ended = None if said is None else said + it.said
+    def shift_of(self, it: PackagedSegment, before: PackagedSegment | None) -> int:
+        """How much later viewers have the instant of the new segment `it`, which comes after the one `before`."""
+        is_past = it.begins is None or it.begins + it.duration // 2 < self.shift.since
+        return before.shift if is_past and before is not None else self.shift.by
 
-    def end_of(self, first: PackagedSegment) -> int | None:
-        """The instant at which the segment before `first` ended, if that is the last one of the last list and its instant is known."""
-        if not self.last or self.last[-1].begins is None or first.number != self.last[-1].number + 1:
-            return None
-        return self.last[-1].begins + self.last[-1].duration
+    def set_clock(self, found: PackagedList, kinds: dict[str, str], new: list[PackagedSegment] | None = None) -> None:
+        """Puts the date ranges of the list `found` on the programme's clock. It is another list then if viewers don't have the packager's instants. `new`: those
+        of its segments that the list hasn't from one whose clock was the programme's."""
+        segments = found.segments if new is None or self.accepted is None or self.accepted.found.has_clock else new
+        found.has_clock = any(abs(it.ahead()) > packaged.NEAR for it in segments)
+        self.stated = clocks.put_right(found, self.stated)
+        if any(it.is_set() for it in segments):
+            kinds["clock"] = ""
+
+    def begin_of(self, it: PackagedSegment, before: PackagedSegment | None, states: int | None) -> int | None:
+        """When the new segment `it` begins after the one `before`, if the list `states` an instant of it: then. If that is more than a segment away from where the
+        segment before ends, the packager may have set its clock."""
+        if before is None or before.begins is None:
+            return None if states is None else states - self.clock
+        end = before.begins + before.said + it.gap
+        if states is None:
+            return end
+        if abs(states - self.clock - end) > max(SECOND, before.duration):
+            self.clock = self.clock_at(states, before, it)
+        elif it.stated is None:
+            return end  # (how long segments are isn't always said to the millisecond)
+        return max(states - self.clock, before.begins + 1)
+
+    def clock_at(self, states: int, before: PackagedSegment, it: PackagedSegment) -> int:
+        """How far the packager's clock is ahead of the programme's at the segment `it`, which follows the one `before` and of which the list `states` an instant
+        far from where that ends. As another rendition has it that has come there; else as it was, if the packager can have been away so long; else it was
+        set: then the segments between are as many as its numbers leave out."""
+        end, longest = (before.begins or 0) + before.said + it.gap, max(SECOND, before.duration)
+        if self.siblings is not None and (theirs := self.siblings.clock_at(states, end - before.duration // 2)) is not None:
+            return theirs
+        missed = (it.own - before.own - 1) * it.duration
+        most = self.waited * SECOND + AWAY * it.duration
+        missed = missed if 0 < missed <= most and missed < STALE else 0
+        by = states - self.clock - end - missed
+        is_away = 0 < by <= most and (it.discontinuities > 0 or it.own != before.own + 1 and not missed)
+        return self.clock if abs(by) <= longest or is_away else self.clock + by
+
+    def clock_of(self, segments: list[PackagedSegment]) -> int:
+        """How far the packager's clock is ahead of the programme's at the first of the listed `segments`, which don't go on from the last list."""
+        first = next((it for it in segments if it.stated is not None), None)
+        if first is None or first.stated is None:
+            return self.clock
+        if not self.last or self.last[-1].begins is None:
+            theirs = self.siblings.clock_at(first.stated, None) if self.siblings is not None else None
+            return self.clock if theirs is None else theirs
+        last, newest = self.last[-1], segments[-1]
+        end = (last.begins or 0) + last.duration
+        until = first.stated + lasting(segments) - self.clock
+        is_seen = until >= end - newest.duration or begins_alike([*self.past, *self.last], segments)
+        if first.stated - self.clock <= end + max(SECOND, last.duration) and is_seen:
+            return self.clock  # (some of it was seen)
+        return self.clock_at(first.stated, last, first)
+
+    def before(self, first: PackagedSegment) -> PackagedSegment | None:
+        """The segment before the `first` one of a list, if that is the last one of the last list."""
+        return self.last[-1] if self.last and self.last[-1].begins is not None and first.number == self.last[-1].number + 1 else None
 
     def agree(self, segments: list[PackagedSegment]) -> None:
         """Gives the new ones of `segments`, which state no instant, those of the other renditions: a programme has one clock."""
@@ -501,18 +528,6 @@ def lasting(segments: list[PackagedSegment]) -> int:
     return sum(it.duration for it in segments)
 
 
-def set_by(segments: list[PackagedSegment]) -> dict[int, int]:
-    """How far the packager had set its clock since the first of the `segments`, by their media numbers: where it goes back, or where it goes on and
-    neither a number is left out nor a discontinuity is listed, so that nothing of the programme lies between."""
-    by, found = 0, {segments[0].number: 0}
-    for before, it in zip(segments, segments[1:]):
-        jump = (it.begins or 0) - (before.begins or 0) - before.duration
-        if abs(jump) > max(SECOND, before.duration) and (jump < 0 or it.own == before.own + 1 and not it.discontinuities):
-            by += jump
-        found[it.number] = by
-    return found
-
-
 def missed_by(last: PackagedSegment, segments: list[PackagedSegment]) -> int:
     """The nanoseconds that those between the segment `last` and the listed `segments` last, by the packager's numbers."""
     return (segments[0].own - last.own - 1) * lasting(segments) // len(segments)
@@ -559,7 +574,7 @@ def keep(it: PackagedSegment, old: PackagedSegment, kinds: dict[str, str]) -> No
     it.uri, it.byte_range, it.duration, it.keys, it.section = old.uri, old.byte_range, old.duration, old.keys, old.section
     it.stated = old.stated if it.stated is None else it.stated
     it.own = old.own if any(key.takes_number() for key in old.keys) else it.own
-    it.number, it.discontinuity, it.discontinuities, it.begins = old.number, old.discontinuity, old.discontinuities, old.begins
+    it.number, it.discontinuity, it.discontinuities, it.begins, it.shift = old.number, old.discontinuity, old.discontinuities, old.begins, old.shift
 
 
 def drop_gaps(found: PackagedList, kinds: dict[str, str]) -> None:

@@ -10,6 +10,9 @@ from .breaks import Numbering
 from .packaged import InitSection, Key, PackagedSegment
 from .urls import joined_or_same
 
+AWAY = 2  # segments by which a packager that was away may have been so longer than it is seen
+STALE = 1800 * playlist.SECOND  # after which nothing is taken for what a packager left out
+CLOSE = 3  # segments by which a rendition may be ahead of another one that has its instants
 FAR = 10  # segments after a list's end at which it may come next
 NEAR = 30  # segments by which the ends of two lists may be apart that are of one clock
 MOST_BORROWED = 100  # segments that a rendition takes from another one at a time
@@ -109,6 +112,16 @@ class Siblings:
         is_other, _, _, _, more, it = min(known, key=lambda one: one[:4])
         return (None if is_other else it.number + more, it.discontinuity) if more <= FAR else None
 
+    def clock_at(self, states: int, least: int | None) -> int | None:
+        """How far the packager's clock is ahead of the programme's where it `states` this instant, as another rendition has it; none if none has come there. By
+        the programme's clock that is after the instant `least`."""
+        for one in self.found:
+            for it in reversed(one.segments[-NEAR:]):
+                if it.stated is not None and it.begins is not None and abs(it.stated - states) <= CLOSE * it.duration and (least is None or states - it.ahead() >= least):
+                    return it.ahead()
+        newest = [it for one in self.found for it in one.segments[-1:] if it.begins is not None]
+        return newest[0].ahead() if least is None and newest else None
+
     def one_waits(self) -> bool:
         """Whether the list of a rendition doesn't go on, and is held back for now. One that begins again together with it has what it has shown."""
         return any(it.waits for it in self.found)
@@ -169,6 +182,11 @@ def numbering_of(mine: list[PackagedSegment], theirs: list[PackagedSegment]) -> 
             if it.begins is not None and one.begins is not None and abs(it.begins - one.begins) <= pace // 2:
                 return Numbering(it.number, one.number, other, pace)
     return Numbering(mine[-1].number, theirs[-1].number, other, pace) if mine and theirs else Numbering()
+
+
+def end_of(segments: list[PackagedSegment]) -> int:
+    """The instant at which the last one of the `segments` ends."""
+    return (segments[-1].begins or 0) + segments[-1].duration
 
 
 def middle_of(it: PackagedSegment) -> int:

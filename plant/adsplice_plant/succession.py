@@ -78,8 +78,13 @@ def is_known(one: PackagedSegment, other: PackagedSegment) -> bool:
 def is_in_time(one: PackagedSegment, other: PackagedSegment) -> bool:
     """Whether the instant that `one` states is within a second of that of `other`, which was listed before: of the one that it
     stated last, or else began at. So it is if either is none."""
-    begins = other.begins if other.stated is None else other.stated
+    begins = said_of(other)
     return one.stated is None or begins is None or abs(one.stated - begins) < SECOND
+
+
+def said_of(it: PackagedSegment) -> int | None:
+    """When the segment `it`, which was listed before, begins by its packager's clock."""
+    return it.begins if it.stated is None else it.stated
 
 
 def overlap(offset: int, last: Segments, new: Segments) -> range:
@@ -126,7 +131,7 @@ def offset_by_numbers(last: Segments, new: Segments) -> int | None:
 
 def begins_alike(last: Segments, new: Segments) -> bool:
     """Whether segments of `new` begin when those of `last` do: another packager has cut the same programme."""
-    begins, stated = sorted(it.begins for it in last if it.begins is not None), [it.stated for it in new if it.stated is not None]
+    begins, stated = sorted(begin for it in last if (begin := said_of(it)) is not None), [it.stated for it in new if it.stated is not None]
     places = [max(0, bisect_left(begins, it) - 1) for it in stated]
     return sum(any(abs(begin - it) <= NEAR for begin in begins[place:place + 2]) for it, place in zip(stated, places)) >= min(2, len(last), len(new))
 

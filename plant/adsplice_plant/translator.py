@@ -118,14 +118,6 @@ class Translator:
         before = self.stated.get(rendition, {})
         self.stated[rendition] = {it.id: start for it in ranges if it.is_splice() and (start := it.start()) is not None}
         moved = {name: start for name, start in self.stated[rendition].items() if abs(start - before.get(name, start)) > self.tolerance}
-        done = self.done.get(rendition)
-        is_next = done is not None and fresh < len(line.segments) and line.segments[fresh].number == done.number + 1 and done.duration > 0
-        for jump in line.jumps(fresh, done.segment() if done is not None and is_next else None) if done is not None else []:
-            if jump.by < 0:  # (what began before the list by the old clock may be still to come by the new one)
-                self.seen[rendition] = {name: said for name, said in self.seen.get(rendition, {}).items() if self.breaks.named(name) is not None}
-            self.count([it for it in tags if it.order[0] < jump.place], line)
-            tags = [it for it in tags if it.order[0] >= jump.place]
-            self.breaks.turn_clock(jump, {name for name, start in moved.items() if abs(start - before[name] - jump.by) <= line.half(jump.at)}, line.half(jump.last))
         for name, start in moved.items():
             one = self.breaks.named(name)
             if one is None or abs(one.start - start) <= (line.half(start) if one.is_settled else self.tolerance):
