@@ -19,8 +19,6 @@ TOLERANCE = SECOND // 10  # adsplice's own
 STALE = 1800 * SECOND  # after which a break without a duration that nothing ended is over
 MOST = 256  # breaks known at a time: adsplice decides no more
 MOST_ALIKE = 8  # segments that are compared, to see whether they are cut regularly
-AWAY = 2  # segments by which a packager that was away may have been so longer than it is seen
-NEAR_JUMPS = 2  # segments by which renditions' media numbers may differ where one change of the packager's clock shows
 SHOWN = 100  # letters of an ID that are told
 Order = tuple[int, int]  # of a tag: the place of the segment before which it stands, and its place among the tags there
 
@@ -32,9 +30,7 @@ class Break:
     (`is_ended`). What began it: its `name` by the standard, the segmentation `type` (none for a splice_insert and for a tag), the
     `event` and the `upid`, and which of how many breaks it is (`part`, `parts`; 0 if that isn't said). `number`: of its first segment. `latest`: the
     instant of the newest signal that spoke of it. `is_in_step`: its SCTE35-IN came before any segment after it. `others`: further attributes of its tag. `is_told`: its end was
-    told. `clock`: the media number of the last segment before the packager's clock changed, if it was put on the new clock.
-    `said`: its start by the old one, if it had begun by that; `over`: its end by the old one, if it had ended by that. `slack`: how far from its start it may
-    begin in truth, if only a rendition with longer segments than others has shown that."""
+    told. `slack`: how far from its start it may begin in truth, if only a rendition with longer segments than others has shown that."""
 
     id: str
     start: int
@@ -51,9 +47,6 @@ class Break:
     latest: int = 0
     others: str = ""
     is_told: bool = False
-    clock: int | None = None
-    said: int | None = None
-    over: int | None = None
     part: int = 0
     parts: int = 0
     slack: int = 0
@@ -66,16 +59,6 @@ class Break:
         """Whether it is over at the `instant`."""
         end = self.end()
         return instant >= (end if end is not None else max(self.start, self.latest) + STALE)
-
-    def is_on_new_clock(self, number: int) -> bool:
-        """Whether the packager's clock changed within it, right before the segment of the media `number` or after that."""
-        return self.clock is not None and self.said is not None and number <= self.clock + 1
-
-    def has_turned(self, jump: Jump) -> bool:
-        """Whether it is on the new clock after the `jump` already. Another rendition may come to it with the segment before or after."""
-        if self.clock is None or abs(self.clock - jump.number) > NEAR_JUMPS:
-            return False
-        return self.clock == jump.number or self.said is None or abs(self.start - self.said - jump.by) <= SECOND
 
     def is_past_plan(self, instant: int) -> bool:
         """Whether its planned end is before the `instant`; not if it has none."""
@@ -126,20 +109,6 @@ class Line:
     text: str
 
 
-class Jump(NamedTuple):
-    """A change of a list's clock `by` so much at the instant `at`, after the segment of the media `number`, which began at the instant `last`, and before
-    the segment at the `place`. `is_within`: the packager leaves no number out, and lists no discontinuity there, or it can't have been away so long meanwhile: so nothing of
-    the programme lies between. `is_apart`: the segments on both sides don't follow one another."""
-
-    last: int
-    at: int
-    by: int
-    number: int
-    is_within: bool
-    place: int
-    is_apart: bool = False
-
-
 class Numbering(NamedTuple):
     """The media numbers of a rendition beside those of its programme: its own number `own` is the programme's `theirs`, and `many` of the programme's
     segments are as long as `few` of its own."""
@@ -156,70 +125,26 @@ class Numbering(NamedTuple):
 
 class Timeline:
     """The `instants` of a list's `segments`. With `aligns` what lies within half a segment of a segment's begin is put there. `numbering`: which media
-    numbers its segments have in a programme's other renditions; `waited`: how many seconds after the list before it came."""
+    numbers its segments have in a programme's other renditions."""
 
-    def __init__(self, segments: list[PackagedSegment], instants: Instants, aligns: bool = True, numbering: Numbering | None = None, waited: float = float("inf")) -> None:
-        self.segments, self.aligns, self.numbering, self.waited = segments, aligns, numbering or Numbering(), waited
-        self.low_number, self.last = self.numbering.of(segments[0].number), self.numbering.of(segments[-1].number)
+    def __init__(self, segments: list[PackagedSegment], instants: Instants, aligns: bool = True, numbering: Numbering | None = None) -> None:
+        self.segments, self.aligns, self.numbering = segments, aligns, numbering or Numbering()
         self.begins, self.low = instants
         self.end = self.begins[-1] + segments[-1].duration
         self.first = min(self.begins[self.low], *self.begins[:self.low]) if self.low else self.begins[0]
-
-    def jumps(self, fresh: int, newest: PackagedSegment | None = None) -> list[Jump]:
-        """Where, from the place `fresh` on, the clock changes by more than a segment. `newest`: the segment that was listed before that place, with the instant
-        at which it began then: it may have left the list, or been put elsewhere since."""
-        found = []
-        for n in range(max(int(newest is None), fresh), len(self.segments)):
-            before, it = newest if newest is not None and n == fresh else self.segments[n - 1], self.segments[n]
-            last = before.begins if before is newest and before.begins is not None else self.begins[n - 1]
-            by, least = self.begins[n] - last - before.duration, max(SECOND, before.duration)
-            missed = self.missed(before, it) if abs(by) > least else 0
-            by -= missed
-            if abs(by) > least:
-                is_within = (missed > 0 or it.own == before.own + 1) and (not it.discontinuities or by > self.waited * SECOND + AWAY * it.duration)
-                is_apart = it.own != before.own + 1 and (missed > 0 or before is newest)
-                found.append(Jump(last, last + before.duration, by, self.numbering.of(before.number), is_within, n, is_apart))
-        return found
-
-    def missed(self, before: PackagedSegment, it: PackagedSegment) -> int:
-        """How many nanoseconds of segments lie between the segments `before` and `it` by the packager's numbers; 0 if these don't go on, or leave out more
-        than there can have been since the list before."""
-        found = (it.own - before.own - 1) * it.duration
-        return found if 0 < found <= self.waited * SECOND + AWAY * it.duration and found < STALE else 0
-
-    def has_turned(self, one: Break) -> bool:
-        """Whether the list has come to the clock by which the break `one` begins and ends now: renditions that are cut at other times come to it with
-        other segments."""
-        if one.clock is None or one.said is None:
-            return one.clock is None or self.last > one.clock or any(abs(jump.number - one.clock) <= NEAR_JUMPS for jump in self.jumps(1))
-        by, first = one.start - one.said, self.begins[0] - (self.low_number - one.number) * self.segments[0].duration * self.numbering.few // self.numbering.many
-        is_past = self.low_number > one.clock + 1 or self.low_number > one.clock and abs(first - one.start) <= abs(first - one.said)
-        return is_past or any(abs(jump.by - by) <= self.segments[-1].duration // 2 or abs(jump.number - one.clock) <= NEAR_JUMPS for jump in self.jumps(1))
-
-    def end_before(self, one: Break) -> int | None:
-        """Where the break `one`, which ended by a clock that changed since, ended by that: at one of the listed segments if it is near. If the first segment after
-        it is on the new clock here, it ends with that one. None if it didn't end."""
-        over = one.over
-        if over is None or not self.aligns:
-            return over
-        near = [(abs(begin - over), begin) for begin, it in zip(self.begins, self.segments) if abs(begin - over) <= it.duration // 2]
-        after = next((it.place for it in self.jumps(1) if it.last < over <= it.at + self.segments[it.place].duration // 2), None)
-        return min(near)[1] if near else over if after is None else self.begins[after]
 
     def end_after(self, start: int, end: int) -> int:
         """The instant `end` at which a break ends that begins with the segment at `start`: with the next segment at the earliest."""
         first = next((it for it in self.segments if it.begins is not None and abs(it.begins - start) <= TOLERANCE), None)
         return end if first is None else max(end, start + first.duration)
 
-    def begin_by_number(self, one: Break, instant: int, clock: int | None) -> int | None:
+    def begin_by_number(self, one: Break, instant: int) -> int | None:
         """Where the break `one` begins that is said to begin at the `instant`, if no segment begins near it: with the one that has the number of its first
-        segment, if that begins less than a segment away, or the packager's clock changed there (`clock`: after the segment of this number). None if there
-        is none."""
+        segment, if that begins less than a segment away. None if there is none."""
         it = next((it for it in reversed(self.segments) if self.numbering.of(it.number) == one.number), None)
         if not self.aligns or it is None or it.begins is None or self.nearest(instant) is not None:
             return None
-        is_there = abs(it.begins - instant) < it.duration or clock is not None and abs(clock - one.number) <= NEAR_JUMPS
-        return it.begins if is_there else None
+        return it.begins if abs(it.begins - instant) < it.duration else None
 
     def is_shortest(self) -> bool:
         """Whether no rendition of the programme has shorter segments."""
@@ -302,8 +227,6 @@ class Breaks:
         self.told: list[Line] = []
         self.recent: deque[Line] = deque(maxlen=MOST)  # that were told: each rendition of a programme says the same
         self.is_first = True  # no list was looked at before
-        self.clock: int | None = None  # the media number of the last segment before the packager's clock changed
-        self.set_at: int | None = None  # the same, if the packager set its clock there, and nothing of the programme lies between
 
     def copy(self) -> Breaks:
         """The same breaks, of which nothing is told yet."""
@@ -365,7 +288,7 @@ class Breaks:
         """Whether the signal `it`, at `start`, is that of a break which a rendition with longer segments has shown already. That begins there then: longer
         segments say less of it."""
         message = it.signal.message
-        near = [one for one in self.known if one.slack and one.clock == self.clock and abs(one.start - start) <= one.slack + line.half(start)
+        near = [one for one in self.known if one.slack and abs(one.start - start) <= one.slack + line.half(start)
                 and message.type == one.type and (0 in (message.event, one.event) or message.event == one.event) and it.id in ("", one.id)]
         if not near or not line.is_shortest():
             return False
@@ -418,8 +341,7 @@ class Breaks:
         name = message.name() if is_section or not it.signal.is_cue else "a tag without a section"
         number = line.numbering.of(found.number if found else it.number)
         new = Break(it.id or self.name_of(it, found, line), start, number, name, message.type, message.event, message.upid, planned,
-                    is_settled=line.is_shortest() and found is not None or start < line.first or not line.aligns, latest=start, others=it.others, clock=self.clock, part=message.part,
-                    parts=message.parts, slack=0 if line.is_shortest() or it.id else line.half(start))
+                    is_settled=line.is_shortest() and found is not None or start < line.first or not line.aligns, latest=start, others=it.others, part=message.part, parts=message.parts, slack=0 if line.is_shortest() or it.id else line.half(start))
         insort(self.known, new, key=lambda one: one.start)
         length = "without a duration" if planned is None else f"planned for {seconds_text(planned)} s"
         self.tell(f"breaks/{shown(new.id)}", "Begins", f"at {instant_text(start)}, {length} ({name})")
@@ -431,7 +353,7 @@ class Breaks:
         return f"{it.signal.message.event or 'cue'}-{line.numbering.of(first.number if first else it.number)}"
 
     def move(self, one: Break, start: int, line: Timeline, fresh: int) -> bool:
-        """The break `one` is said to begin at `start`, perhaps by another clock than before. It does, unless it has begun on `line` before
+        """The break `one` is said to begin at `start` now. It does, unless it has begun on `line` before
         the place `fresh`, or in segments that have left it, or would have begun by then. Whether it does."""
         low = next((n for n in range(fresh - 1, 0, -1) if line.begins[n] < line.begins[n - 1]), 0)
         half, begins = line.half(one.start), line.begins[low:fresh]
@@ -440,29 +362,11 @@ class Breaks:
         found, by = line.nearest(start), line.aligned(start) - one.start
         one.is_settled = found is not None or not line.aligns
         one.number = line.numbering.of(found.number) if found else one.number
-        one.start, one.latest, one.until, one.is_ended, one.clock = one.start + by, one.latest + by, None, False, self.clock
+        one.start, one.latest, one.until, one.is_ended = one.start + by, one.latest + by, None, False
         self.known.sort(key=lambda it: it.start)
         if by:
             self.tell(f"breaks/{shown(one.id)}", "Moved", f"to {instant_text(one.start)}: the packager states another START-DATE before it has begun")
         return True
-
-    def turn_clock(self, jump: Jump, names: set[str], half: int) -> None:
-        """The packager's clock changed by a `jump`, after a segment of twice `half` nanoseconds. What began before began, and ends, by the new clock. If the
-        clock went on, the packager may also have been away: then it holds for the breaks `names` alone, of which it says so. Each rendition of a programme
-        says the same."""
-        self.clock = jump.number
-        is_set = jump.by < 0 or jump.is_within
-        self.set_at = jump.number if is_set and not jump.is_apart else self.set_at
-        for one in [it for it in self.known if it.start < jump.at and not it.has_turned(jump) and (is_set or it.id in names)]:
-            end = one.end()
-            if one.over is None and end is not None and end <= jump.last + half:
-                one.over = end
-            if end is not None and end > jump.last:
-                one.until, one.is_ended = end, jump.by > 0  # (a clock that goes back leaves it open until a segment comes to its end)
-            one.said = one.start if one.said is None else one.said
-            one.start, one.latest, one.clock = one.start + jump.by, one.latest + jump.by, jump.number
-            one.until = None if one.until is None else one.until + jump.by
-        self.known.sort(key=lambda it: it.start)
 
     def goes_on(self, it: Placed, line: Timeline, has_begun: bool) -> Break | None:
         """The signal `it` says that a break goes on. If the feed began within it, it becomes known, as one that began before; but
@@ -490,8 +394,8 @@ class Breaks:
             return
         if own is not None and it.is_stated and not own.is_told:
             own.extend(it.at, half)
-        for one in [own] if own else reversed(self.known):  # (the end of one that the packager's clock changed within is known, and may still come earlier)
-            if one.is_ended and (one.said is None or one.is_told) or at - one.start <= half or one.is_over(at - half):
+        for one in [own] if own else reversed(self.known):
+            if one.is_ended or at - one.start <= half or one.is_over(at - half):
                 continue
             is_its = one.type == message.type and (0 in (one.event, message.event) or one.event == message.event)
             if own or it.signal.is_cue or is_its:
@@ -522,19 +426,18 @@ class Breaks:
                 found = line.nearest(one.start)
                 one.number = found.number if found else one.number
                 one.start, one.is_settled = line.aligned(one.start), True
-            if one.until is not None and not one.is_ended and line.has_turned(one) and line.is_reached(one.until, True):
+            if one.until is not None and not one.is_ended and line.is_reached(one.until, True):
                 one.until, one.is_ended = line.aligned(one.until, True) if line.is_shortest() else one.until, True
             end = one.end()
-            if end is not None and not one.is_told and line.has_turned(one) and line.is_reached(end, True):
+            if end is not None and not one.is_told and line.is_reached(end, True):
                 one.is_told = True
                 self.tell(f"breaks/{shown(one.id)}", "Ends", f"at {instant_text(end)}, after {seconds_text(end - one.start)} s ({one.name})")
         self.known.sort(key=lambda it: it.start)
 
-    def forget(self, first: int, number: int, moved: Collection[str]) -> None:
-        """Forgets the breaks that were over at the instant `first`, since which segments are listed, the first one of them with the media `number`. Once
-        the packager's clock has changed, renditions are known by numbers alone to have come so far. Those of the IDs `moved` stay while a list has
+    def forget(self, first: int, moved: Collection[str]) -> None:
+        """Forgets the breaks that were over at the instant `first`, since which segments are listed. Those of the IDs `moved` stay while a list has
         them: it states another START-DATE than what was written."""
-        self.known = [it for it in self.known if not it.is_over(first) or it.is_on_new_clock(number) or it.clock is not None and it.number >= number or it.id in moved]
+        self.known = [it for it in self.known if not it.is_over(first) or it.id in moved]
 
     def kept(self) -> list[dict[str, Any]]:
         """The breaks as JSON."""

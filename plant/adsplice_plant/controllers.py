@@ -119,8 +119,7 @@ def push(turn: Turn, channel: str) -> Request:
     if not it.settings.repair or not stands.repairer.last:
         return Request(What.PUSH, stands.text, stands.entry)
     if controller.took < 0:
-        text, is_ahead = first_list(turn, channel)
-        return Request(What.PUSH, text, stands.entry, is_ahead)
+        return Request(What.PUSH, first_list(turn, channel), stands.entry)
     if controller.listed >= stands.after and stands.ahead and controller.led < stands.entry:
         return Request(What.PUSH, shifted(stands, stands.ahead, controller.ahead), stands.entry, True)
     if controller.listed >= stands.after:
@@ -130,8 +129,6 @@ def push(turn: Turn, channel: str) -> Request:
     place = next((place for place, one in enumerate(history) if one.number >= least), 0)
     since = min(controller.took + 1, stands.repairer.last[-1].number)
     new = next((n for n, one in enumerate(history) if one.number > controller.took), len(history))
-    if controller.led < stands.entry and (until := replay.turned_at(stands, new)) is not None:
-        return Request(What.PUSH, listed_from(stands, place, controller.ahead, until, since), stands.entry, True)
     if controller.led < stands.entry and (announced := announced_after(stands, history, new)):
         until = next((n for n in range(new, len(history)) if is_begin(history[n], announced.values())), len(history))
         if until:  # (at the least it has the segment again that the controller took last)
@@ -153,28 +150,23 @@ def is_begin(it: PackagedSegment, starts: Iterable[int]) -> bool:
     return it.begins is not None and any(abs(it.begins - start) <= TOLERANCE for start in starts)
 
 
-def first_list(turn: Turn, channel: str) -> tuple[bytes, bool]:
-    """The first list of a channel that was made anew: it begins where its numbers are known that viewers have, and goes on with them. Whether it is a
-    part that comes ahead, up to where the packager's clock went back within a break."""
+def first_list(turn: Turn, channel: str) -> bytes:
+    """The first list of a channel that was made anew: it begins where its numbers are known that viewers have, and goes on with them."""
     stands, controller = turn.state.renditions[channel].stands, turn.state.renditions[channel].controller
     history = history_of(stands)
     place = numbers.first_needed(stands.viewed, history, least_of(stands, controller.reached))
     if place is None:
         turn.put_controller(channel, ahead=(0, 0))
         turn.put_standing(channel, viewed=reckoned_anew(turn, stands))
-        return stands.text, False
-    if controller.led:
-        return listed_from(stands, place, controller.ahead), False
+        return stands.text
     first = history[place]
     media, steps = stands.viewed.begins[first.number]
     ahead = media - first.number, steps - first.discontinuity
     if ahead != controller.ahead:
         turn.put_controller(channel, ahead=ahead)
         turn.is_kept = False
-    if (until := replay.turned_at(stands, place)) is not None:
-        return listed_from(stands, place, ahead, until), True
     is_whole = first is stands.repairer.last[0] and not stands.pods.missed and all(replay.as_it_ran(stands, line) == line for line, _ in stands.viewed.ranges.values())
-    return (shifted(stands, stands.text, ahead) if is_whole and ahead == (0, 0) else listed_from(stands, place, ahead)), False
+    return shifted(stands, stands.text, ahead) if is_whole and ahead == (0, 0) else listed_from(stands, place, ahead)
 
 
 def least_of(stands: Standing, reached: int) -> int:
@@ -425,7 +417,7 @@ def told_at_once(it: Rendition, stands: Standing, translator: Translator) -> Sta
     said, told = translator.take(found, it.settings.rendition()), ranges.ids_in(ranges.ranges_in(text))
     if said.ranges is None:
         return stands
-    lines = [replay.as_it_runs(stands, line, translator.breaks.named(packaged.id_in(line)), found.segments) for line in said.ranges if packaged.id_in(line) in told]
+    lines = [replay.as_it_runs(stands, line) for line in said.ranges if packaged.id_in(line) in told]
     viewed = stands.viewed.copy()
     viewed.note(lines, stands.repairer.last[-1].number)
     return replace(stands, viewed=viewed, text=packaged.write(found, lines))

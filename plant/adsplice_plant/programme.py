@@ -20,7 +20,7 @@ from .packaged import PackagedList, PackagedSegment
 from .playlist import SECOND
 from .reckoning import Numbers, Store
 from .repair import Repaired, Repairer, count_on
-from .replay import as_elsewhere, as_it_runs, put_past
+from .replay import as_elsewhere, as_it_runs
 from .siblings import Reach, Sibling, Siblings, is_alike, number_after, numbering_of, pace_of, reach_of
 from .state import FileState, Rendition, Standing, State, Way
 from .traits import usual_length
@@ -109,9 +109,8 @@ def take_list(turn: Turn, event: ListRead) -> None:
         return
     reach = reach_of(event.body) if len(turn.state.renditions) > 1 else Reach(None, number_after(event.body), 0)
     came_at = it.came_at if reach == it.reach else turn.at
-    waited = max(it.waited if it.is_new or came_at == it.came_at else 0.0, came_at - it.came_at) if it.came is not None else it.waited
     since = max(one.came_at for _, one in turn.renditions())
-    turn.put(event.channel, came=event.body, reach=reach, came_at=came_at, waited=waited, is_new=True, older=older_than(it, event.body))
+    turn.put(event.channel, came=event.body, reach=reach, came_at=came_at, is_new=True, older=older_than(it, event.body))
     if came_at == turn.at:
         note_behind(turn, event.channel, reach, since)
     turn.set(waits_until=0.0)
@@ -152,7 +151,7 @@ def begin_again(turn: Turn) -> None:
         if it.stands.repairer.last and it.controller.took < 0 and it.controller.reached < 0 and not turn.state.life:
             turn.put_controller(channel, reached=it.stands.repairer.last[0].number - 1)
         turn.put_controller(channel, way=Way.UNKNOWN, sent=None, trials=0, retry_at=0.0, is_unseen=False)
-        turn.put(channel, came_at=turn.at, waited=float("inf"))
+        turn.put(channel, came_at=turn.at, given_at=float("-inf"))
     begun = decided.begun_of(turn, turn.state.asked)  # (the others are asked for again, unless they were answered)
     turn.set(asked=dict.fromkeys(begun, turn.at), waits_until=0.0, in_step_since=None)
     presence.begin_again(turn)
@@ -329,10 +328,10 @@ def righted(turn: Turn, channel: str, found: dict[str, Taken]) -> Taken:
     if not it.settings.repair:
         return Taken(it.stands.repairer, Repaired(packaged.as_listed(read(body)), came=body), body, False)
     edge = edge_of(turn, channel) if len(turn.state.renditions) > 1 and not it.older else None
-    text = up_to(body, by_last(it, it.reach or reach_of(body)), edge) if edge is not None else body
+    text = up_to(body, by_last(turn, it, it.reach or reach_of(body)), edge) if edge is not None else body
     repairer = changed(it.stands.repairer)
     repairer.siblings = siblings_of(turn, channel, found) if len(turn.state.renditions) > 1 else None
-    repairer.shift, repairer.waited = turn.state.shift, it.waited
+    repairer.shift, repairer.waited = turn.state.shift, turn.at - it.given_at
     if it.is_other:
         repairer.held_since = float("-inf")
     repaired = repairer.take(text, turn.at, turn.clock)
@@ -397,17 +396,10 @@ def translate(turn: Turn, translator: Translator, found: dict[str, Taken], busy:
     if len(lists) + len(others) > 1:
         for channel, it in (*others, *lists.items()):
             rendition = turn.state.renditions[channel]
-            told += translator.take(it, rendition.settings.rendition(), numberings.get(channel), rendition.waited).told
+            told += translator.take(it, rendition.settings.rendition(), numberings.get(channel)).told
     for channel, it in lists.items():
-        rendition = turn.state.renditions[channel]
-        name = rendition.settings.rendition()
-        said = translator.take(it, name, numberings.get(channel), rendition.waited)
+        said = translator.take(it, turn.state.renditions[channel].settings.rendition(), numberings.get(channel))
         told, it.signals = told + said.told, said.ranges
-        run = rendition.stands.viewed.reckoned.run if rendition.stands.viewed.reckoned is not None else None
-        if run is not None and (moved := put_past(rendition.stands, it, translator.ended(run.id, name), translator.tolerance)) is not None:
-            found[channel].repaired.came = None
-            found[channel].repaired.kinds["clock"] = ""
-            it.signals = translator.begin_at(name, it.date_ranges(), *moved)
     return told
 
 
@@ -430,18 +422,15 @@ def learn(turn: Turn, found: dict[str, Taken]) -> None:
 
 def pass_over(turn: Turn, translator: Translator, found: dict[str, Taken]) -> None:
     """A break that one rendition of several can't begin begins in none, or in the others if that is set: it has passed the start without it, since the
-    others haven't come there, or it was away; or it has no segment near. The lists that were `found` may be of a clock that went back."""
+    others haven't come there, or it was away; or it has no segment near: `found` are its new lists."""
     if len(turn.state.renditions) == 1 or not translator.breaks.known:
         return
     lists = {channel: it.stands for channel, it in turn.renditions() if it.stands.repairer.last}
     reached = {channel: passed(it, found[channel].found() if channel in found else PackagedList()) for channel, it in lists.items()}
-    numberings = numberings_of(turn, {})
-    newest = {channel: numberings.get(channel, Numbering()).of(it.repairer.last[-1].number) for channel, it in lists.items()}
     for one in translator.breaks.known:
-        there = [channel for channel, number in newest.items() if one.clock is None or number > one.clock]
         is_open = {channel for channel, it in lists.items() if one.id in it.pods.entered}
-        past = {channel for channel in there if reached[channel] > one.start and (not is_open or began_before(lists[channel], one))} - is_open
-        bare = {channel for channel in there if channel in found and lacks_cut(turn, translator, one, channel, found[channel])} - past - is_open
+        past = {channel for channel in lists if reached[channel] > one.start and (not is_open or began_before(lists[channel], one))} - is_open
+        bare = {channel for channel in lists if channel in found and lacks_cut(turn, translator, one, channel, found[channel])} - past - is_open
         if past or bare:
             leave_out(turn, one, past, bare, turn.fills_others() or bool(is_open))
 
@@ -457,7 +446,7 @@ def lacks_cut(turn: Turn, translator: Translator, one: Break, channel: str, it: 
     rendition = turn.state.renditions[channel]
     start = translator.start_in(one, rendition.settings.rendition())
     begins = [it.begins for it in it.found().segments if it.number > rendition.stands.repairer.last[-1].number and it.begins is not None]
-    is_past = one.clock is None and bool(begins) and begins == sorted(begins) and begins[-1] > start + translator.tolerance
+    is_past = bool(begins) and begins[-1] > start + translator.tolerance
     return is_past and all(abs(it - start) > translator.tolerance for it in begins)
 
 
@@ -576,7 +565,7 @@ def text_of(turn: Turn, channel: str, it: Taken, translator: Translator) -> byte
         if lines != found.date_ranges():
             found.signals = lines
     if found is not None and found.segments:
-        lines = [as_it_runs(rendition.stands, line, translator.breaks.named(packaged.id_in(line)), found.segments) for line in found.date_ranges()]
+        lines = [as_it_runs(rendition.stands, line) for line in found.date_ranges()]
         if lines != found.date_ranges():
             found.signals = lines
     if it.repaired.head is None and found is not None:
@@ -596,7 +585,8 @@ def stand(turn: Turn, channel: str, it: Taken, text: bytes, entry: int) -> None:
     else:
         it.repairer.accept(it.repaired)
         stands = standing(before, it, text, entry, turn.state.translator)
-    turn.put(channel, stands=stands, before=before if rendition.controller.trials == 0 else None, is_other=False)
+    is_longer = not before.repairer.last or stands.repairer.last[-1].number > before.repairer.last[-1].number
+    turn.put(channel, stands=stands, before=before if rendition.controller.trials == 0 else None, is_other=False, given_at=turn.at if is_longer else rendition.given_at)
 
 
 def standing(before: Standing, it: Taken, text: bytes, entry: int, translator: Translator) -> Standing:

@@ -324,13 +324,7 @@ class Repairer:
         first, missed = found.segments[0].begins, found.segments[0].own - last.own - 1
         if first is not None and missed > 0 and (taken := siblings.after(last, missed, first)):
             return taken
-        if first is not None and first < last.begins and (taken := siblings.after_clock(last, first)):
-            return ahead_of(found.segments, last, taken)
         end = last.begins + last.duration
-        turn = next((n for n, it in enumerate(found.segments) if n and (it.begins or 0) < (found.segments[n - 1].begins or 0)), len(found.segments))
-        newest = found.segments[turn - 1]
-        if newest.begins is not None and newest.begins + lasting(found.segments) < end - newest.duration:
-            return []  # (by a clock that went back farther than the list lasts)
         place = next((n for n, it in enumerate(found.segments) if it.begins is None or middle_of(it) >= end), len(found.segments) - 1)
         found.segments = from_place(found.segments, place)
         first = found.segments[0].begins
@@ -438,12 +432,13 @@ class Repairer:
         end, longest = (before.begins or 0) + before.said + it.gap, max(SECOND, before.duration)
         if self.siblings is not None and (theirs := self.siblings.clock_at(states, end - before.duration // 2)) is not None:
             return theirs
-        missed = (it.own - before.own - 1) * it.duration
-        most = self.waited * SECOND + AWAY * it.duration
+        missed, most = (it.own - before.own - 1) * it.duration, self.waited * SECOND + AWAY * it.duration
+        if missed > 0 and abs(states - self.clock - end - missed) <= longest:
+            return self.clock
         missed = missed if 0 < missed <= most and missed < STALE else 0
         by = states - self.clock - end - missed
         is_away = 0 < by <= most and (it.discontinuities > 0 or it.own != before.own + 1 and not missed)
-        return self.clock if abs(by) <= longest or is_away else self.clock + by
+        return self.clock if is_away else self.clock + by
 
     def clock_of(self, segments: list[PackagedSegment]) -> int:
         """How far the packager's clock is ahead of the programme's at the first of the listed `segments`, which don't go on from the last list."""
@@ -451,7 +446,7 @@ class Repairer:
         if first is None or first.stated is None:
             return self.clock
         if not self.last or self.last[-1].begins is None:
-            theirs = self.siblings.clock_at(first.stated, None) if self.siblings is not None else None
+            theirs = self.siblings.clock_beside(segments) if self.siblings is not None else None
             return self.clock if theirs is None else theirs
         last, newest = self.last[-1], segments[-1]
         end = (last.begins or 0) + last.duration

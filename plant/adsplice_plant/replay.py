@@ -31,11 +31,6 @@ class Run(NamedTuple):
     last: int | None = None
     end: int = 0
 
-    def is_turned(self) -> bool:
-        """Whether it is over, and the packager's clock went back within it."""
-        return self.last is not None and self.end <= self.start
-
-
 def run_of(stands: Standing, history: list[PackagedSegment], line: str) -> Run | None:
     """How the break of the EXT-X-DATERANGE `line` ran in the `history`; none if it wasn't filled there."""
     start = start_of(stands, line)
@@ -68,11 +63,8 @@ def as_it_ran(stands: Standing, line: str) -> str:
     run, found = run_of(stands, history_of(stands), line), read_range(line)
     if run is None or run.last is None:
         return line
-    if run.is_turned():
-        return f'{without(line, ENDED)},END-DATE="{instant_text(run.end)}"'
-    length, stated = length_of(found), packaged.instant_of(found.said.get("END-DATE", ""))
-    is_by_other_clock = stated is not None and stated <= run.start
-    if length is not None and abs(run.start + length - run.end) <= TOLERANCE and not is_by_other_clock:
+    length = length_of(found)
+    if length is not None and abs(run.start + length - run.end) <= TOLERANCE:
         return line
     return f"{without(line, ENDS)},DURATION={seconds_text(run.end - run.start)}"
 
@@ -85,9 +77,7 @@ def as_elsewhere(stands: Standing, others: list[Standing], line: str, segments: 
     for other in others:
         said = other.viewed.ranges.get(name)
         run = run_of(other, history_of(other), said[0]) if said is not None and name in other.pods.entered else None
-        if run is not None and (end := turned_end(stands, other, run, found)) is not None:
-            return f'{without(line, ENDS)},END-DATE="{instant_text(end)}"'
-        if said is None or run is None or not is_behind(stands, other) or run.is_turned() or (run.end if run.last is not None else end_of(other)) <= end_of(stands):
+        if said is None or run is None or not is_behind(stands, other) or (run.end if run.last is not None else end_of(other)) <= end_of(stands):
             continue
         length, half = length_of(found), stands.repairer.last[-1].duration // 2
         if run.last is None:
@@ -102,16 +92,6 @@ def as_elsewhere(stands: Standing, others: list[Standing], line: str, segments: 
         if run.last is not None:
             break
     return line
-
-
-def turned_end(stands: Standing, other: Standing, run: Run, found: DateRange) -> int | None:
-    """Where a break is to end that the date range `found` ends before segments which the `other` rendition has in its `run` of it already, if the packager's
-    clock went back within that, and if the rendition that `stands` so is behind. None if it ends as it says."""
-    end, stated = end_of(other), packaged.instant_of(found.said.get("END-DATE", ""))
-    if run.last is not None or end > run.start or stated is None or not stands.repairer.last or not is_alike(pace_of(stands.repairer.last), pace_of(other.repairer.last)):
-        return None
-    mine, its = stands.repairer.last[-1], other.repairer.last[-1]
-    return end if mine.number < its.number and stated + its.duration // 2 < end else None
 
 
 def lasting_elsewhere(other: Standing, run: Run, line: str, start: int | None, segments: list[PackagedSegment]) -> int:
@@ -142,10 +122,9 @@ def lasting(began: int, end: int, start: int | None, segments: list[PackagedSegm
     return near.begins - start
 
 
-def as_it_runs(stands: Standing, line: str, one: Break | None, segments: list[PackagedSegment]) -> str:
+def as_it_runs(stands: Standing, line: str) -> str:
     """The EXT-X-DATERANGE `line` of a break that is open, and had no end when it began. It ends with its pod then, unless it is ended before: what
-    says a later end may come after lists that nobody read. Once adsplice was told so, an END-DATE alone says an earlier end. `one`: what is known of it;
-    if the packager's clock changed within it, it ends so by the new clock, or with the first of the listed `segments` that comes after its pod."""
+    says a later end may come after lists that nobody read. Once adsplice was told so, an END-DATE alone says an earlier end."""
     reckoned, found = stands.viewed.reckoned, read_range(line)
     if reckoned is None or reckoned.run is None or reckoned.run.id != found.id:
         return line
@@ -153,11 +132,6 @@ def as_it_runs(stands: Standing, line: str, one: Break | None, segments: list[Pa
     length, total = length_of(found), reckoned.run.shape.total()
     by_pod, given = f"DURATION={seconds_text(total)}", stands.viewed.ranges.get(found.id, ("", 0))[0]
     is_by_pod, is_told = known is not None and [name for name, _ in rules.ends_of(known, total)] == [BY_POD], given.endswith(f",{by_pod}")
-    if one is not None and one.said is not None:
-        stated, end = found.start() or one.start, one.end()
-        start = stated + one.start - one.said if abs(stated - one.said) < abs(stated - one.start) else stated  # (here it may have begun by the new clock)
-        is_later = end is None or is_by_pod and end > start + total + TOLERANCE
-        return f'{without(line, ENDS)},END-DATE="{instant_text(after_pod(reckoned, total, segments, one, start))}"' if is_later else line
     if length is None or not (is_by_pod or is_told):
         return line
     if length > total + TOLERANCE:
@@ -166,48 +140,9 @@ def as_it_runs(stands: Standing, line: str, one: Break | None, segments: list[Pa
     return f'{without(line, ENDS)},END-DATE="{instant_text((found.start() or 0) + length)}"' if is_earlier else line
 
 
-def after_pod(reckoned: Reckoned, total: int, segments: list[PackagedSegment], one: Break, start: int) -> int:
-    """The instant of the first of the listed `segments` that begins once the open run of the break `one` has lasted `total` nanoseconds: by its segments, or
-    by the packager's new clock, since some may not have been read. By that it begins at the instant `start` here. If none does, it is the end by that clock."""
-    lasted, end, said = reckoned.run.lasted if reckoned.run is not None else 0, start + total, one.start if one.said is None else one.said
-    for it in segments:
-        if reckoned.newest is None or it.number <= reckoned.newest or it.begins is None:
-            continue
-        is_on_new_clock = it.begins < said if one.start < said else it.begins >= one.start
-        if lasted + TOLERANCE >= total or is_on_new_clock and it.begins + TOLERANCE >= end:
-            return it.begins
-        lasted += it.duration
-    return end
-
-
 def length_of(found: DateRange) -> int | None:
     """How long the break of the date range lasts, or is to last; none if it doesn't say."""
     return found.length(found.start()) or duration_of(found.said.get("PLANNED-DURATION", ""))
-
-
-def put_past(stands: Standing, found: PackagedList, ended: int | None, tolerance: int) -> tuple[int, int] | None:
-    """Puts the new segment of the list `found` by which the open break has `ended` at the end that adsplice knows of it, if it begins before that: the
-    packager's clock went back. The instants at which it began and begins; none if it stays."""
-    reckoned = stands.viewed.reckoned
-    if ended is None or reckoned is None or reckoned.run is None or not stands.repairer.last:
-        return None
-    breaks = {it.id: it for it in known_after(reckoned, found.date_ranges())}
-    known = breaks.get(reckoned.run.id)
-    end = None if known is None else ends_at(known, reckoned.run.shape.total())
-    instants, newest = found.instants(), stands.repairer.last[-1].number
-    new = [it for it in found.segments[instants.low if instants is not None else 0:] if it.number > newest]
-    it = next((it for it in new if it.begins is not None and it.begins >= ended - tolerance), None)
-    if end is None or it is None or it.begins is None or it.begins >= end - tolerance:
-        return None
-    end += tolerance + MILLISECOND  # (another break may begin there, with a later segment)
-    began, it.begins, found.pieces, found.timed = it.begins, end, None, None
-    return began, end
-
-
-def ends_at(known: rules.Break, total: int) -> int | None:
-    """The instant at which adsplice ends the break that is `known` so, whose pod lasts `total` nanoseconds; none if no instant is known."""
-    end = rules.end_of(known, total)
-    return end if isinstance(end, int) else None
 
 
 def is_behind(stands: Standing, other: Standing) -> bool:
@@ -224,15 +159,6 @@ def end_of(stands: Standing) -> int:
 def without(line: str, names: tuple[str, ...]) -> str:
     """The EXT-X-DATERANGE `line` without the attributes of the `names`."""
     return packaged.DATE_RANGE + ",".join(it for it in pieces_of(line.partition(":")[2]) if it.partition("=")[0] not in names)
-
-
-def turned_at(stands: Standing, place: int) -> int | None:
-    """The place in the history, from `place` on, of the first segment after the packager's clock went back within a break; none if there is none. A list
-    up to there comes first: of one list alone adsplice would say that the break was over before it began."""
-    history = history_of(stands)
-    runs = [run for line, _ in stands.viewed.ranges.values() if (run := run_of(stands, history, line)) is not None and run.first >= place]
-    turns = [at for at in range(place + 1, len(history)) if (history[at].begins or 0) < (history[at - 1].begins or 0)]
-    return next((at for at in turns if any(run.first < at <= (len(history) if run.last is None else run.last) for run in runs)), None)
 
 
 def is_past(stands: Standing, line: str, place: int) -> bool:

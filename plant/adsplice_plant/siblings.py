@@ -31,30 +31,20 @@ class Sibling(NamedTuple):
     lends: bool = True
     is_alike: bool = True
 
-    def newest(self) -> list[PackagedSegment]:
-        """The segments since its packager's clock went back last: those before have the same instants."""
-        begins = [it.begins or 0 for it in self.segments]
-        return self.segments[next((place for place in range(len(begins) - 1, 0, -1) if begins[place] < begins[place - 1]), 0):]
-
-    def places_at(self, instant: int) -> list[tuple[bool, bool, int, int, PackagedSegment]]:
-        """How its segments lie to the `instant`: whether one is far away, whether the packager's clock has gone back since, how far they are apart, and how
-        many segments come between if it is the last one."""
-        newest, found = len(self.newest()), []
+    def places_at(self, instant: int) -> list[tuple[bool, int, int, PackagedSegment]]:
+        """How its segments lie to the `instant`: whether one is far away, how far they are apart, and how many segments come between if it is the last
+        one."""
+        found = []
         for place, it in enumerate(reversed(self.segments)):
             if it.begins is not None:
                 more = max(0, (instant - it.begins + it.duration // 2) // it.duration) if not place and it.duration else 0
                 by = abs(instant - it.begins)
-                found.append((by > it.duration and not 0 < more <= FAR, place >= newest, by, more, it))
+                found.append((by > it.duration and not 0 < more <= FAR, by, more, it))
         return found
 
     def has(self, other: PackagedSegment) -> bool:
         """Whether it has a segment with the media number of the `other` rendition's that begins when that does, or nearly."""
         return any(it.number == other.number and abs((it.begins or 0) - (other.begins or 0)) <= other.duration // 2 for it in self.segments)
-
-    def since(self, other: PackagedSegment) -> list[PackagedSegment]:
-        """Its segments from the one on that has the media number of the `other` rendition's; none if it has none, or isn't cut alike."""
-        place = bisect_left(self.segments, other.number, key=lambda it: it.number) if self.is_alike else len(self.segments)
-        return self.segments[place:] if place < len(self.segments) and self.segments[place].number == other.number else []
 
 
 class Reach(NamedTuple):
@@ -104,23 +94,36 @@ class Siblings:
 
     def place_at(self, instant: int | None) -> tuple[int | None, int] | None:
         """Another rendition's media number and discontinuity number at `instant`, by the segment that begins nearest to it. Past its last segment the
-        next ones are as long as that; none if it is so far away that the two have other clocks. One whose segments are as long is asked first;
-        of another one the media number says nothing (none). One from before its packager's clock went back counts if no newer one is near."""
+        next ones are as long as that; none if it is far away. One whose segments are as long is asked first; of another one the media number says nothing
+        (none)."""
         known = [(not one.is_alike, *placed) for one in self.found for placed in (one.places_at(instant) if instant is not None else [])]
         if not known:
             return None
-        is_other, _, _, _, more, it = min(known, key=lambda one: one[:4])
+        is_other, _, _, more, it = min(known, key=lambda one: one[:3])
         return (None if is_other else it.number + more, it.discontinuity) if more <= FAR else None
 
-    def clock_at(self, states: int, least: int | None) -> int | None:
+    def clock_at(self, states: int, least: int) -> int | None:
         """How far the packager's clock is ahead of the programme's where it `states` this instant, as another rendition has it; none if none has come there. By
         the programme's clock that is after the instant `least`."""
         for one in self.found:
             for it in reversed(one.segments[-NEAR:]):
-                if it.stated is not None and it.begins is not None and abs(it.stated - states) <= CLOSE * it.duration and (least is None or states - it.ahead() >= least):
+                if it.stated is not None and it.begins is not None and abs(it.stated - states) <= CLOSE * it.duration and states - it.ahead() >= least:
                     return it.ahead()
-        newest = [it for one in self.found for it in one.segments[-1:] if it.begins is not None]
-        return newest[0].ahead() if least is None and newest else None
+        return None
+
+    def clock_beside(self, segments: list[PackagedSegment]) -> int | None:
+        """The same at the first list of a rendition, which has these `segments`: if it ends far from another rendition's, by the media number that both have; else
+        both end now. None if there is no other one."""
+        newest = segments[-1]
+        for one in self.found:
+            if not one.segments or one.segments[-1].begins is None or newest.stated is None:
+                continue
+            last, end = one.segments[-1], newest.stated + newest.duration
+            if abs(end - last.ahead() - end_of(one.segments)) <= NEAR * last.duration:
+                return last.ahead()
+            known = {it.number: it.begins for it in one.segments} if one.is_alike else {}
+            return next((it.stated - begins for it in reversed(segments) if it.stated is not None and (begins := known.get(it.own)) is not None), end - end_of(one.segments))
+        return None
 
     def one_waits(self) -> bool:
         """Whether the list of a rendition doesn't go on, and is held back for now. One that begins again together with it has what it has shown."""
@@ -134,25 +137,15 @@ class Siblings:
 
     def between(self, last: PackagedSegment, end: int) -> list[PackagedSegment]:
         """The segments of one of them whose middles lie in the time from the end of a rendition's `last` segment to before `end`: of the one that has most
-        of them. Their references hold for another rendition, too. None if they are more than MOST_BORROWED. If the clock has gone back since, they are
-        after the `last` one by their numbers."""
+        of them. Their references hold for another rendition, too. None if they are more than MOST_BORROWED."""
         start = (last.begins or 0) + last.duration
-        found = [[[it for it in those if it.begins is not None and start <= middle_of(it) < end] for those in (one.newest(), (it for it in one.segments if it.number > last.number))]
-                 for one in self.found]
-        return self.most([now or before for now, before in found])
+        return self.most([[it for it in one.segments if it.begins is not None and start <= middle_of(it) < end] for one in self.found])
 
     def after(self, last: PackagedSegment, count: int, first: int) -> list[PackagedSegment]:
         """The `count` segments of one of them after the one that is the `last` one of a rendition, by their media numbers; none if none has them all by
         its packager's numbers, too, or if they end more than a segment from the instant `first`."""
         found = [[it for it in one.segments if last.number <= it.number <= last.number + count] if one.has(last) else [] for one in self.found]
         return self.most([those[1:] if len(those) == count + 1 and those[-1].own - those[0].own == count and is_before(those[-1], first) else [] for those in found])
-
-    def after_clock(self, last: PackagedSegment, first: int) -> list[PackagedSegment]:
-        """The segments of one of them after the one that is the `last` one of a rendition, up to the instant `first` by a clock that has gone back
-        since: of the one that has most of them. A rendition has them by its numbers, if it has the same number at the same instant."""
-        place = self.place_at(first)
-        number = place[0] if place is not None and place[0] is not None else last.number
-        return self.most([[it for it in one.segments if last.number < it.number < number] if one.has(last) else [] for one in self.found])
 
     def most(self, found: list[list[PackagedSegment]]) -> list[PackagedSegment]:
         """Of the segments that were `found` of each rendition those of the one that lends most of them; none if they are more than MOST_BORROWED."""

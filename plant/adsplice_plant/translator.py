@@ -4,7 +4,7 @@ It has the state of one channel, or of all renditions of a programme: which brea
 A list that it was given before changes nothing."""
 from __future__ import annotations
 
-from dataclasses import dataclass, field
+from dataclasses import dataclass, field, fields
 from typing import Any, NamedTuple
 
 from . import packaged, signals, splice
@@ -59,7 +59,6 @@ class Translator:
         self.breaks, self.aligns, self.tolerance = Breaks(AUTO if types is None else types, types is not None), aligns, tolerance
         self.done: dict[str, Mark] = {}  # of each rendition
         self.firsts: dict[str, int] = {}  # the instant of the first one
-        self.lows: dict[str, int] = {}  # its media number
         self.seen: dict[str, dict[str, set[str]]] = {}  # of each rendition's listed date ranges the attributes that were looked at
         self.stated: dict[str, dict[str, int]] = {}  # of each rendition's listed date ranges the START-DATE
         self.cuts: dict[str, dict[str, list[int | None]]] = {}  # where each rendition's list has begun and ended breaks
@@ -69,7 +68,7 @@ class Translator:
         """The same state, as a value of its own."""
         found = changed(self)
         found.breaks, found.done, found.styles = self.breaks.copy(), dict(self.done), set(self.styles)
-        found.firsts, found.lows = dict(self.firsts), dict(self.lows)
+        found.firsts = dict(self.firsts)
         found.seen = {name: {id_: set(said) for id_, said in it.items()} for name, it in self.seen.items()}
         found.stated = {name: dict(it) for name, it in self.stated.items()}
         found.cuts = {name: {id_: [*cut] for id_, cut in it.items()} for name, it in self.cuts.items()}
@@ -77,9 +76,8 @@ class Translator:
 
     # ---- what a list says
 
-    def take(self, found: PackagedList, rendition: str = "", numbering: Numbering | None = None, waited: float = float("inf")) -> Translated:
-        """Looks at the list `found` of a `rendition`, whose media numbers have this `numbering` in its programme, and which came so many seconds after the
-        list before (`waited`); answers what it becomes."""
+    def take(self, found: PackagedList, rendition: str = "", numbering: Numbering | None = None) -> Translated:
+        """Looks at the list `found` of a `rendition`, whose media numbers have this `numbering` in its programme; answers what it becomes."""
         if not found.segments:
             return Translated()
         ranges, fresh = ranges_of(found), self.first_new(found, rendition)
@@ -87,18 +85,17 @@ class Translator:
         self.look_for_styles(found, ranges, fresh, instants is None)
         if instants is None:
             return Translated(None, self.tellings())
-        line, before = Timeline(found.segments, instants, self.aligns, numbering, waited), {it.id for it in self.breaks.known}
-        tags = self.restate(ranges, self.of_segments(found, fresh), line, fresh, rendition)
-        self.count(tags + self.of_ranges(ranges, line, fresh, rendition), line)
+        line, before = Timeline(found.segments, instants, self.aligns, numbering), {it.id for it in self.breaks.known}
+        self.restate(ranges, line, fresh, rendition)
+        self.count(self.of_segments(found, fresh) + self.of_ranges(ranges, line, fresh, rendition), line)
         self.breaks.settle(line)
         newest, last = found.segments[-1], self.done.get(rendition)
         if fresh < len(found.segments):
             self.done[rendition] = Mark(newest.number, newest.uri, line.begins[-1], None if last is None else last.begins, newest.own, newest.duration)
-        self.firsts[rendition], self.lows[rendition] = self.done[rendition].since(line.first), line.low_number
+        self.firsts[rendition] = self.done[rendition].since(line.first)
         self.breaks.is_first = False
-        near = [name for name in self.firsts if self.is_near(name, line)]
-        self.breaks.forget(min((self.firsts[name] for name in near), default=line.first), min(self.lows.get(name, line.low_number) for name in (*near, rendition)),
-                           {it.id for it in self.breaks.known if any(self.is_moved(it, name) for name in self.stated)})
+        near = [first for first in self.firsts.values() if first >= line.first - STALE]  # (a rendition that stands still for long holds nothing)
+        self.breaks.forget(min(near, default=line.first), {it.id for it in self.breaks.known if any(self.is_moved(it, name) for name in self.stated)})
         self.cut(line, rendition, fresh)
         listed = [it for it in self.breaks.known if self.is_listed(it, line, rendition)]
         is_known = self.passes(ranges, listed, line, rendition)
@@ -106,15 +103,9 @@ class Translator:
         lines = None if is_known else others + [self.written(it, line, rendition) for it in listed]
         return Translated(lines, self.tellings(), [it for it in self.breaks.known if it.id not in before])
 
-    def is_near(self, rendition: str, line: Timeline) -> bool:
-        """Whether the `rendition` isn't long behind the list of `line`: by its instants, or by its numbers if the packager's clock went on meanwhile. One
-        that stands still for long holds nothing."""
-        behind = (line.low_number - self.lows.get(rendition, line.low_number)) * line.segments[-1].duration
-        return self.firsts[rendition] >= line.first - STALE or self.breaks.clock is not None and behind <= STALE
-
-    def restate(self, ranges: list[DateRange], tags: list[Placed], line: Timeline, fresh: int, rendition: str) -> list[Placed]:
-        """A packager whose clock was put right states another START-DATE of a break: one that hasn't begun in a segment before the place
-        `fresh` begins then. Of the signals of `tags` those before a change of its clock count before that; answers the others. The rest as in `of_ranges`."""
+    def restate(self, ranges: list[DateRange], line: Timeline, fresh: int, rendition: str) -> None:
+        """A packager states another START-DATE of a break: one that hasn't begun in a segment before the place `fresh` begins then. The rest as in
+        `of_ranges`."""
         before = self.stated.get(rendition, {})
         self.stated[rendition] = {it.id: start for it in ranges if it.is_splice() and (start := it.start()) is not None}
         moved = {name: start for name, start in self.stated[rendition].items() if abs(start - before.get(name, start)) > self.tolerance}
@@ -123,11 +114,9 @@ class Translator:
             if one is None or abs(one.start - start) <= (line.half(start) if one.is_settled else self.tolerance):
                 continue
             if not self.breaks.move(one, start, line, fresh):
-                self.stated[rendition][name] = before[name]  # (the segments of the new clock are still to come)
                 continue
             for cuts in self.cuts.values():
                 cuts.pop(name, None)
-        return tags
 
     def first_new(self, found: PackagedList, rendition: str) -> int:
         """The place of the first segment of the list `found` that the `rendition` hasn't listed before; past the last one if none is."""
@@ -220,12 +209,7 @@ class Translator:
     def is_listed(self, one: Break, line: Timeline, rendition: str) -> bool:
         """Whether the break `one` is written in the list of `line` of the `rendition`: a segment of it is listed, or is to come. One without an end is
         written as long as its first segment is listed; one that may yet be put on a segment isn't written before that is listed, also if
-        another rendition has come to it. One within which the packager's clock changed is written as long as a segment from before that is listed; one that
-        was over by then, as long as a segment is that isn't after it."""
-        if one.over is not None and one.clock is not None:
-            return line.low_number <= one.clock and one.over >= line.begins[0] - TOLERANCE
-        if one.is_on_new_clock(line.low_number):
-            return True
+        another rendition has come to it."""
         end, start, first = one.end(), self.cuts[rendition][one.id][0], self.firsts[rendition]
         if line.aligns and start is None and not line.is_reached(one.start) and not line.will_begin(one.start):
             return False
@@ -240,39 +224,26 @@ class Translator:
         before: Break | None = None
         for it in self.breaks.known:
             found = self.cuts[rendition][it.id]
-            for place, instant in enumerate((it.start if it.said is None else it.said, it.until)):
-                is_by_old_clock = not place and it.said is not None
-                if instant is not None and found[place] is None and line.is_reached(instant, bool(place)) and (is_by_old_clock or line.has_turned(it)):
-                    known = line.end_before(it) if place else line.begin_by_number(it, instant, self.breaks.set_at)
-                    own = known if known is not None else line.aligned(instant, bool(place)) if line.has_turned(it) else instant
+            for place, instant in enumerate((it.start, it.until)):
+                if instant is not None and found[place] is None and line.is_reached(instant, bool(place)):
+                    known = None if place else line.begin_by_number(it, instant)
+                    own = line.aligned(instant, bool(place)) if known is None else known
                     own = own if place else line.begin_from(own, instant, fresh)
                     found[place] = own if abs(own - instant) > self.tolerance else instant
                     found[place] = self.in_order(line, rendition, it, before, place)
-            if found[0] is None and it.said is not None and line.has_turned(it) and (first := line.nearest(it.start)) is not None:
-                found[0] = first.begins  # (here the clock changed with the segment with which it begins, or before)
             before = it
 
     def in_order(self, line: Timeline, rendition: str, one: Break, before: Break | None, place: int) -> int | None:
         """Where the break `one` begins (`place` 0) or ends (1) in the `rendition`, whose segments may be longer than those of other renditions: it has a
         segment at least, and begins no earlier than the break `before` it ended, if it follows that."""
         start, until = self.cuts[rendition][one.id]
-        if line.is_shortest() or one.clock is not None:
+        if line.is_shortest():
             return (start, until)[place]
         if place:
             return until if start is None or until is None else line.end_after(start, until)
         ended = None if before is None else before.end()
-        own = None if before is None or before.clock is not None or ended is None or one.start < ended - self.tolerance else self.cuts[rendition][before.id][1]
+        own = None if before is None or ended is None or one.start < ended - self.tolerance else self.cuts[rendition][before.id][1]
         return start if own is None or start is None else max(start, own)
-
-    def begin_at(self, rendition: str, lines: list[str], began: int, begins: int) -> list[str]:
-        """A segment of the `rendition`, which began at the instant `began`, has the instant `begins`: so have the breaks that begin with it. The
-        EXT-X-DATERANGE `lines` of its list say so then."""
-        for cut in self.cuts[rendition].values():
-            if cut[0] is not None and abs(cut[0] - began) <= self.tolerance:
-                cut[0] = begins
-        starts = [(line, packaged.attributes_of(line.partition(":")[2]).get("START-DATE", "")) for line in lines]
-        is_there = [(at := packaged.instant_of(start)) is not None and abs(at - began) <= self.tolerance for _, start in starts]
-        return [line.replace(f'"{start}"', f'"{instant_text(begins)}"', 1) if it else line for (line, start), it in zip(starts, is_there)]
 
     def is_cut_elsewhere(self, one: Break, rendition: str) -> bool:
         """Whether the break `one` begins or ends elsewhere in the `rendition` than where its signal was shown."""
@@ -292,7 +263,7 @@ class Translator:
             said[it.id] = it.said | said.get(it.id, {})
         if said.keys() & (self.breaks.cancelled | {it.id for it in self.breaks.known if it not in listed and (not it.is_settled or self.is_moved(it, rendition))}):
             return False
-        if any(it.said is not None or self.is_cut_elsewhere(it, rendition) for it in listed):
+        if any(self.is_cut_elsewhere(it, rendition) for it in listed):
             return False
         earliest = line.first - TOLERANCE
         begun = {name for name, it in said.items() if is_leaving(it) and (packaged.instant_of(it["START-DATE"]) or 0) >= earliest}
@@ -300,15 +271,14 @@ class Translator:
         return is_known and all(is_leaving(said[it.id]) and is_same(it, said[it.id], self.tolerance) for it in listed)
 
     def written(self, one: Break, line: Timeline, rendition: str) -> str:
-        """The EXT-X-DATERANGE of the break `one` in the list of `line` of the `rendition`, which may be one from before the packager's clock
-        changed."""
+        """The EXT-X-DATERANGE of the break `one` in the list of `line` of the `rendition`."""
         end = one.end()
         planned = None if end is None else one.planned if one.planned is not None else end - one.start
         start, until = self.cuts[rendition][one.id]
-        start = start if start is not None else one.start if one.said is None else one.said
+        start = start if start is not None else one.start
         text = f'ID="{one.id}",START-DATE="{instant_text(start)}"' + one.others
         if one.until is not None and self.is_ended(one, line):
-            until = until if until is not None else one.until if one.clock is not None else line.expected(one.until)
+            until = until if until is not None else line.expected(one.until)
             text += f',END-DATE="{instant_text(until)}"'
         elif planned is not None and (later := self.next_start(one, rendition)) is not None and start < later < start + planned - self.tolerance:
             text += f',END-DATE="{instant_text(later)}"'  # (the segments aren't cut where the plan says)
@@ -317,10 +287,7 @@ class Translator:
 
     @staticmethod
     def is_ended(one: Break, line: Timeline) -> bool:
-        """Whether the list of `line` says where the break `one` ends: once it has come there, or to the planned end of one that is extended;
-        and by the packager's new clock, if that has changed, once the list has segments of it."""
-        if one.clock is not None:
-            return one.is_ended and line.has_turned(one)
+        """Whether the list of `line` says where the break `one` ends: once it has come there, or to the planned end of one that is extended."""
         is_at_end = one.until is not None and one.is_ended and line.is_reached(one.until, True)
         return is_at_end or one.is_extended() and line.is_reached(one.start + (one.planned or 0))
 
@@ -331,19 +298,14 @@ class Translator:
 
     def next_start(self, one: Break, rendition: str) -> int | None:
         """The instant of the segment of the `rendition` with which the break after `one` begins; none if none has begun there."""
-        starts = (self.cuts[rendition][it.id][0] for it in self.breaks.known if it.start > one.start and it.clock == one.clock)
+        starts = (self.cuts[rendition][it.id][0] for it in self.breaks.known if it.start > one.start)
         return next((it for it in starts if it is not None), None)
-
-    def ended(self, name: str, rendition: str) -> int | None:
-        """The instant of the segment with which the break `name` has ended in the `rendition`; none if it hasn't."""
-        one = self.breaks.named(name)
-        return None if one is None or not one.is_told else self.cuts.get(rendition, {}).get(name, [None, None])[1]
 
     # ---- what is kept
 
     def kept(self) -> dict[str, Any]:
         """The state as JSON."""
-        return {"breaks": self.breaks.kept(), "clock": self.breaks.clock, "set_at": self.breaks.set_at, "done": dict(self.done), "firsts": dict(self.firsts), "lows": dict(self.lows),
+        return {"breaks": self.breaks.kept(), "done": dict(self.done), "firsts": dict(self.firsts),
                 "cancelled": sorted(self.breaks.cancelled), "styles": sorted(self.styles),
                 "stated": {name: dict(it) for name, it in self.stated.items()},
                 "cuts": {name: {id_: [*cut] for id_, cut in it.items()} for name, it in self.cuts.items()},
@@ -351,11 +313,11 @@ class Translator:
 
     def resume(self, kept: dict[str, Any]) -> None:
         """Goes on from the state that `kept` answered; raises if that isn't one (KeyError, TypeError, ValueError)."""
-        self.breaks.known = [Break(**it) for it in kept["breaks"]]
+        members = {it.name for it in fields(Break)}
+        self.breaks.known = [Break(**{name: value for name, value in it.items() if name in members}) for it in kept["breaks"]]  # (an older feed kept more)
         self.done = {name: Mark(*it) for name, it in kept["done"].items()}
         self.seen = {name: {id_: set(said) for id_, said in it.items()} for name, it in kept["seen"].items()}
         self.stated = {name: {id_: int(start) for id_, start in it.items()} for name, it in kept.get("stated", {}).items()}
         self.cuts = {name: {id_: [*cut] for id_, cut in it.items()} for name, it in kept.get("cuts", {}).items()}
-        self.firsts, self.lows = ({name: int(first) for name, first in kept.get(member, {}).items()} for member in ("firsts", "lows"))
+        self.firsts = {name: int(first) for name, first in kept.get("firsts", {}).items()}
         self.breaks.cancelled, self.styles, self.breaks.is_first = set(kept["cancelled"]), set(kept["styles"]), not self.done
-        self.breaks.clock, self.breaks.set_at = kept.get("clock"), kept.get("set_at")
