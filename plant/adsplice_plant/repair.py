@@ -22,6 +22,7 @@ UNTAKEN = {"EXT-X-SKIP"}  # without what it refers to, a list says something els
 OTHER_LISTS = {"EXT-X-I-FRAMES-ONLY", "EXT-X-STREAM-INF", "EXT-X-MEDIA", "EXT-X-I-FRAME-STREAM-INF"}
 NOTED = {  # what the reader noted, and the repair
     "EXT-X-PROGRAM-DATE-TIME": "instants", packaged.MISPLACED: "sequence tags", "EXT-X-SESSION-KEY": "session tags", "EXT-X-SESSION-DATA": "session tags"}
+MOST_LOOKED_AT = 8  # listed segments, to see how exactly their instants are stated
 MOST_PAST = 1_000  # segments that left the list and are remembered
 LESS, MORE = 10, 12  # a newest segment grows whose duration is so much more in the next list: of `MORE` to `LESS`
 LEAST = 3  # target durations that a list lasts at least, if it did before (RFC 8216, 6.2.2)
@@ -117,6 +118,7 @@ class Repairer:
         self.accepted: Accepted | None = None  # the last list, if the next one may go on from its text
         self.stated: dict[str, clocks.Stated] = {}  # what the date ranges of the last list state
         self.clock = 0  # how far the packager's clock is ahead of the programme's at the newest segment
+        self.is_guessed = False  # whether that isn't known to the millisecond
         self.shift = Shift()  # the programme's, as it is now
         self.waited = float("inf")  # seconds after which this list came after the last one
 
@@ -275,8 +277,11 @@ class Repairer:
         for place, it in enumerate(found.segments):
             discontinuity += it.discontinuities
             it.number, it.discontinuity = found.segments[0].own + place, discontinuity
-        self.clock = self.clock_of(found.segments)
         self.set_times(found.segments, True)
+        if self.siblings is not None and (by := self.siblings.apart_from(found.segments)):
+            self.clock, self.is_guessed = self.clock + by, True
+            for it in found.segments:
+                it.begins = None if it.begins is None else it.begins - by
         first = found.segments[0]
         theirs = self.siblings.place_at(first.begins) if self.siblings is not None else None
         if theirs is not None:
@@ -419,26 +424,36 @@ class Repairer:
         end = before.begins + before.said + it.gap
         if states is None:
             return end
-        if abs(states - self.clock - end) > max(SECOND, before.duration):
+        if abs(states - self.clock - end) > packaged.NEAR:
             self.clock = self.clock_at(states, before, it)
-        elif it.stated is None:
-            return end  # (how long segments are isn't always said to the millisecond)
-        return max(states - self.clock, before.begins + 1)
+        is_exact = it.stated is not None or abs(states - self.clock - end) > max(SECOND, before.duration)  # (how long segments are isn't always said to the millisecond)
+        return max(states - self.clock, before.begins + 1) if is_exact else end
 
     def clock_at(self, states: int, before: PackagedSegment, it: PackagedSegment) -> int:
         """How far the packager's clock is ahead of the programme's at the segment `it`, which follows the one `before` and of which the list `states` an instant
         far from where that ends. As another rendition has it that has come there; else as it was, if the packager can have been away so long; else it was
         set: then the segments between are as many as its numbers leave out."""
         end, longest = (before.begins or 0) + before.said + it.gap, max(SECOND, before.duration)
-        if self.siblings is not None and (theirs := self.siblings.clock_at(states, end - before.duration // 2)) is not None:
+        by = states - self.clock - end
+        theirs = self.siblings.clock_at(states, end - before.duration // 2) if self.siblings is not None else None
+        if abs(by) <= longest:
+            is_theirs = theirs is not None and (self.is_guessed or abs(states - theirs - end) <= packaged.NEAR)
+            self.is_guessed = self.is_guessed and not is_theirs
+            is_set = it.own == before.own + 1 and not (it.discontinuities and by > 0) and self.is_exact()
+            return theirs if theirs is not None and is_theirs else self.clock + by if is_set else self.clock
+        if theirs is not None:
             return theirs
         missed, most = (it.own - before.own - 1) * it.duration, self.waited * SECOND + AWAY * it.duration
-        if missed > 0 and abs(states - self.clock - end - missed) <= longest:
+        if missed > 0 and abs(by - missed) <= longest:
             return self.clock
-        missed = missed if 0 < missed <= most and missed < STALE else 0
-        by = states - self.clock - end - missed
-        is_away = 0 < by <= most and (it.discontinuities > 0 or it.own != before.own + 1 and not missed)
+        by -= missed if 0 < missed <= most and missed < STALE else 0
+        is_away = 0 < by <= most and (it.discontinuities > 0 or it.own != before.own + 1 and not 0 < missed <= most)
         return self.clock if is_away else self.clock + by
+
+    def is_exact(self) -> bool:
+        """Whether the newest listed segments begin where those before them end: then a packager whose instants are others has set its clock."""
+        newest = self.last[-MOST_LOOKED_AT:]
+        return len(newest) > 2 and all(abs((it.begins or 0) - (before.begins or 0) - before.said - it.gap) <= packaged.NEAR for before, it in zip(newest, newest[1:]))
 
     def clock_of(self, segments: list[PackagedSegment]) -> int:
         """How far the packager's clock is ahead of the programme's at the first of the listed `segments`, which don't go on from the last list."""
@@ -446,8 +461,7 @@ class Repairer:
         if first is None or first.stated is None:
             return self.clock
         if not self.last or self.last[-1].begins is None:
-            theirs = self.siblings.clock_beside(segments) if self.siblings is not None else None
-            return self.clock if theirs is None else theirs
+            return self.clock
         last, newest = self.last[-1], segments[-1]
         end = (last.begins or 0) + last.duration
         until = first.stated + lasting(segments) - self.clock

@@ -111,19 +111,17 @@ class Siblings:
                     return it.ahead()
         return None
 
-    def clock_beside(self, segments: list[PackagedSegment]) -> int | None:
-        """The same at the first list of a rendition, which has these `segments`: if it ends far from another rendition's, by the media number that both have; else
-        both end now. None if there is no other one."""
-        newest = segments[-1]
+    def apart_from(self, segments: list[PackagedSegment]) -> int:
+        """How far the `segments` of a rendition's first list are ahead of another rendition's, if they end so far from those that the two have other clocks: by the
+        media number that both have; if that says nothing, both end now. Else 0."""
         for one in self.found:
-            if not one.segments or one.segments[-1].begins is None or newest.stated is None:
+            if not one.segments or None in (one.segments[-1].begins, segments[-1].begins):
                 continue
-            last, end = one.segments[-1], newest.stated + newest.duration
-            if abs(end - last.ahead() - end_of(one.segments)) <= NEAR * last.duration:
-                return last.ahead()
-            known = {it.number: it.begins for it in one.segments} if one.is_alike else {}
-            return next((it.stated - begins for it in reversed(segments) if it.stated is not None and (begins := known.get(it.own)) is not None), end - end_of(one.segments))
-        return None
+            by, most = end_of(segments) - end_of(one.segments), FAR * max(one.segments[-1].duration, segments[-1].duration)
+            known = {it.number: it.begins for it in one.segments if it.begins is not None} if one.is_alike else {}
+            numbered = next((it.begins - known[it.own] for it in reversed(segments) if it.begins is not None and it.own in known), None)
+            return 0 if abs(by) <= most else numbered if numbered is not None and abs(numbered - by) <= most else by
+        return 0
 
     def one_waits(self) -> bool:
         """Whether the list of a rendition doesn't go on, and is held back for now. One that begins again together with it has what it has shown."""
