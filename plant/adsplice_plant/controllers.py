@@ -498,7 +498,7 @@ def list_refused(turn: Turn, event: Answered) -> None:
         return
     if controller.unfit >= UNFIT and not turn.state.life and it.settings.repair and it.came is not None and faults.code_of(line) not in ("N4", "N9"):
         repairer = Repairer(it.stands.repairer.choices)
-        repairer.clock, repairer.shift = it.stands.repairer.clock, turn.state.shift
+        repairer.clock, repairer.shifts = it.stands.repairer.clock, turn.state.shifts
         afresh = repairer.take(it.came, turn.at, turn.clock).found
         if afresh is not None:
             turn.put_controller(channel, sent=Request(What.FIND), unfit=0)

@@ -66,8 +66,8 @@ def difference(old: Known, now: Known) -> Said:
         said["removed"] = {name: [one.ids, one.begun, texts_of(one.bodies), one.where, one.is_given] for name, one in it.removed.items()}
     if it.equal_after != was.equal_after:
         said["equal_after"] = it.equal_after
-    if it.shift != was.shift:
-        said["shift"] = it.shift
+    if it.shifts != was.shifts:
+        said["shifts"] = it.shifts
     if it.is_apart != was.is_apart:
         said["apart"] = sorted(it.is_apart)
     if it.life != was.life:
@@ -155,9 +155,9 @@ def after(old: Known, said: Said) -> Known:
     removed = {str(name): removed_of(*one) for name, one in said["removed"].items()} if "removed" in said else was.removed
     fallback = {str(name): bytes_of(text) for name, text in said["fallback"].items()} if "fallback" in said else was.fallback
     apart = frozenset(str(name) for name in said["apart"]) if "apart" in said else was.is_apart
-    since, by = said.get("shift", was.shift)
+    shifts = tuple(Shift(int(since), int(by)) for since, by in said["shifts"]) if "shifts" in said else was.shifts
     now = replace(was, renditions=renditions, entry=int(said["n"]), decisions=decisions, files=files, asked=asked, over=over, removed=removed, fallback=fallback,
-                  equal_after=int(said.get("equal_after", was.equal_after)), is_apart=apart, life=str(said.get("life", was.life)), shift=Shift(int(since), int(by)))
+                  equal_after=int(said.get("equal_after", was.equal_after)), is_apart=apart, life=str(said.get("life", was.life)), shifts=shifts)
     return Known(now, {**old.signals, **said.get("signals", {})})
 
 

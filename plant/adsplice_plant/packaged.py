@@ -49,7 +49,7 @@ class InitSection(NamedTuple):
 class Shift(NamedTuple):
     """How much later viewers have instants than the programme's clock has them: `by` nanoseconds from the instant `since` on."""
 
-    since: int = 0
+    since: int = EARLIEST
     by: int = 0
 
 

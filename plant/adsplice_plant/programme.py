@@ -12,7 +12,7 @@ from dataclasses import dataclass, replace
 from . import apart, controllers, decided, joining, packaged, presence, ranges, repairs, slates, spelling
 from .edges import by_last, edge_of, note_behind, patience_ends, up_to
 from .breaks import Break, Line, Numbering, shown
-from .clocks import shift_after
+from .clocks import shifts_after
 from .events import Action, Answered, Ask, AskedInVain, Began, Event, FallbackRead, FolderRead, Found, ListRead, Looked, OriginChanged, SlateRead, Tell
 from .events import Repaired as RepairTold
 from .growing import Growing
@@ -247,10 +247,9 @@ def take_lists(turn: Turn) -> None:
 def follow_clock(turn: Turn) -> None:
     """Viewers' clock follows the packager's, if that was set and nothing speaks against it. Renditions that nobody waits for follow once they go on."""
     target = turn.target()
-    those = [it.stands for _, it in turn.renditions() if it.stands.repairer.last and it.stands.repairer.last[-1].begins is not None and turn.at < patience_ends(it, target)]
-    if those and not any(it.viewed.reckoned is not None and it.viewed.reckoned.run is not None for it in those):
-        repairers = [it.repairer for it in those]
-        turn.set(shift=shift_after(turn.state.shift, [it.last for it in repairers], [it.clock for it in repairers], turn.state.translator))
+    those = [it.stands.repairer for _, it in turn.renditions() if it.stands.repairer.last and it.stands.repairer.last[-1].begins is not None and turn.at < patience_ends(it, target)]
+    if those:
+        turn.set(shifts=shifts_after(turn.state.shifts, [it.last for it in those], [it.clock for it in those], turn.state.translator))
 
 
 def may_begin(turn: Turn) -> bool:
@@ -331,7 +330,7 @@ def righted(turn: Turn, channel: str, found: dict[str, Taken]) -> Taken:
     text = up_to(body, by_last(turn, it, it.reach or reach_of(body)), edge) if edge is not None else body
     repairer = changed(it.stands.repairer)
     repairer.siblings = siblings_of(turn, channel, found) if len(turn.state.renditions) > 1 else None
-    repairer.shift, repairer.waited = turn.state.shift, turn.at - it.given_at
+    repairer.shifts, repairer.waited = turn.state.shifts, turn.at - it.given_at
     if it.is_other:
         repairer.held_since = float("-inf")
     repaired = repairer.take(text, turn.at, turn.clock)

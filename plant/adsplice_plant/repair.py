@@ -119,7 +119,7 @@ class Repairer:
         self.stated: dict[str, clocks.Stated] = {}  # what the date ranges of the last list state
         self.clock = 0  # how far the packager's clock is ahead of the programme's at the newest segment
         self.is_guessed = False  # whether that isn't known to the millisecond
-        self.shift = Shift()  # the programme's, as it is now
+        self.shifts = (Shift(),)  # the programme's
         self.waited = float("inf")  # seconds after which this list came after the last one
 
     # ---- a list
@@ -404,8 +404,9 @@ class Repairer:
 
     def shift_of(self, it: PackagedSegment, before: PackagedSegment | None) -> int:
         """How much later viewers have the instant of the new segment `it`, which comes after the one `before`."""
-        is_past = it.begins is None or it.begins + it.duration // 2 < self.shift.since
-        return before.shift if is_past and before is not None else self.shift.by
+        middle = self.shifts[-1].since if it.begins is None else it.begins + it.duration // 2
+        found = next((one.by for one in reversed(self.shifts) if one.since <= middle), None)
+        return found if found is not None else self.shifts[0].by if before is None else before.shift
 
     def set_clock(self, found: PackagedList, kinds: dict[str, str], new: list[PackagedSegment] | None = None) -> None:
         """Puts the date ranges of the list `found` on the programme's clock. It is another list then if viewers don't have the packager's instants. `new`: those
@@ -431,24 +432,21 @@ class Repairer:
 
     def clock_at(self, states: int, before: PackagedSegment, it: PackagedSegment) -> int:
         """How far the packager's clock is ahead of the programme's at the segment `it`, which follows the one `before` and of which the list `states` an instant
-        far from where that ends. As another rendition has it that has come there; else as it was, if the packager can have been away so long; else it was
-        set: then the segments between are as many as its numbers leave out."""
+        far from where that ends. It was set if the packager leaves nothing out, and its instants were exact so far. Else it is as another rendition has it that
+        has come there; or as it was, if the packager can have been away so long; or it was set, and the segments between are those that its numbers leave out."""
         end, longest = (before.begins or 0) + before.said + it.gap, max(SECOND, before.duration)
-        by = states - self.clock - end
+        by, missed, most = states - self.clock - end, (it.own - before.own - 1) * it.duration, self.waited * SECOND + AWAY * it.duration
+        if missed == 0 and (not it.discontinuities or not 0 < by <= most) and not self.is_guessed and self.is_exact():
+            return self.clock + by
         theirs = self.siblings.clock_at(states, end - before.duration // 2) if self.siblings is not None else None
-        if abs(by) <= longest:
-            is_theirs = theirs is not None and (self.is_guessed or abs(states - theirs - end) <= packaged.NEAR)
-            self.is_guessed = self.is_guessed and not is_theirs
-            is_set = it.own == before.own + 1 and not (it.discontinuities and by > 0) and self.is_exact()
-            return theirs if theirs is not None and is_theirs else self.clock + by if is_set else self.clock
-        if theirs is not None:
+        if theirs is not None and (self.is_guessed or abs(by) > longest or abs(states - theirs - end) <= packaged.NEAR):
+            self.is_guessed = False
             return theirs
-        missed, most = (it.own - before.own - 1) * it.duration, self.waited * SECOND + AWAY * it.duration
-        if missed > 0 and abs(by - missed) <= longest:
+        if abs(by) <= longest or missed > 0 and abs(by - missed) <= longest:
             return self.clock
-        by -= missed if 0 < missed <= most and missed < STALE else 0
-        is_away = 0 < by <= most and (it.discontinuities > 0 or it.own != before.own + 1 and not 0 < missed <= most)
-        return self.clock if is_away else self.clock + by
+        is_missed = 0 < missed <= most and missed < STALE
+        is_away = 0 < by <= most and (it.discontinuities > 0 or missed != 0) and not is_missed
+        return self.clock if is_away else self.clock + by - (missed if is_missed else 0)
 
     def is_exact(self) -> bool:
         """Whether the newest listed segments begin where those before them end: then a packager whose instants are others has set its clock."""
