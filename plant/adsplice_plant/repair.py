@@ -119,7 +119,7 @@ class Repairer:
         self.stated: dict[str, clocks.Stated] = {}  # what the date ranges of the last list state
         self.clock = 0  # how far the packager's clock is ahead of the programme's at the newest segment
         self.is_guessed = False  # whether that isn't known to the millisecond
-        self.shifts = (Shift(),)  # the programme's
+        self.shifts: tuple[Shift, ...] = (Shift(),)  # the programme's
         self.waited = float("inf")  # seconds after which this list came after the last one
 
     # ---- a list
