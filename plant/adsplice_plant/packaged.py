@@ -133,7 +133,8 @@ class PackagedList:
     that change what the list means, and of instants that don't read. `signals`: the EXT-X-DATERANGE lines in place of its own; none if
     it keeps those. `marked`: the places of the segments before which its own stand, once these were looked for; `pieces`: the text
     of each segment, once it was written; `timed`: when the segments begin, and `own`: its own EXT-X-DATERANGE lines, once that was asked for, or as they
-    are by the programme's clock. `has_clock`: whether its packager has another one."""
+    are by the programme's clock. `has_clock`: whether its packager has another one. Viewers have what comes after it `shift`
+    nanoseconds later."""
 
     version: int | None = None
     target: int | None = None
@@ -152,6 +153,7 @@ class PackagedList:
     timed: Instants | None = None
     own: list[tuple[int, int, str]] | None = None
     has_clock: bool = False
+    shift: int = 0
 
     def own_ranges(self) -> list[tuple[int, int, str]]:
         """The packager's EXT-X-DATERANGE lines: the place of the segment before which each stands (past the last one after it), its
@@ -380,23 +382,26 @@ def write(found: PackagedList, ranges: list[str] | None = None) -> bytes:
               f"#EXT-X-DISCONTINUITY-SEQUENCE:{first.discontinuity - first.discontinuities}"]
     lines += [f"#EXT-X-PLAYLIST-TYPE:{found.kind}"] if found.kind else []
     lines += ["#EXT-X-INDEPENDENT-SEGMENTS"] if found.is_independent else []
-    lines += written_ranges(found.date_ranges() if ranges is None else ranges, found.segments)
+    lines += written_ranges(found, found.date_ranges() if ranges is None else ranges)
     head = "".join(f"{line}\n" for line in lines).encode()
     if found.pieces is None:
         found.pieces = [piece_of(before, it) for before, it in zip((None, *found.segments), found.segments)]
     return b"".join([head, piece_of(None, first), *found.pieces[1:], b"#EXT-X-ENDLIST\n" if found.is_ended else b""])
 
 
-def written_ranges(lines: list[str], segments: list[PackagedSegment]) -> list[str]:
-    """The EXT-X-DATERANGE `lines` by the clock that viewers have, in a list of `segments`."""
-    return [moved_range(line, shift_at(instant_of(attributes_of(line.partition(":")[2]).get("START-DATE", "")), segments)) for line in lines] if any(it.shift for it in segments) else lines
+def written_ranges(found: PackagedList, lines: list[str]) -> list[str]:
+    """The EXT-X-DATERANGE `lines` of the list `found`, by the clock that viewers have."""
+    if not found.shift and not any(it.shift for it in found.segments):
+        return lines
+    return [moved_range(line, shift_at(found, instant_of(attributes_of(line.partition(":")[2]).get("START-DATE", "")))) for line in lines]
 
 
-def shift_at(instant: int | None, segments: list[PackagedSegment]) -> int:
-    """How much later viewers have the `instant`: as the newest of the `segments` that begins by then, or nearly; the first one if none does."""
-    if instant is None:
-        return segments[-1].shift
-    return next((it.shift for it in reversed(segments) if it.begins is not None and it.begins <= instant + NEAR), segments[0].shift)
+def shift_at(found: PackagedList, instant: int | None) -> int:
+    """How much later viewers of the list `found` have the `instant`: as the newest segment that begins by then, or nearly; the first one if none does."""
+    last = found.segments[-1]
+    if instant is None or last.begins is None or instant >= last.begins + last.duration - NEAR:
+        return found.shift
+    return next((it.shift for it in reversed(found.segments) if it.begins is not None and it.begins <= instant + NEAR), found.segments[0].shift)
 
 
 def moved_range(line: str, by: int) -> str:

@@ -412,7 +412,7 @@ class Repairer:
         """Puts the date ranges of the list `found` on the programme's clock. It is another list then if viewers don't have the packager's instants. `new`: those
         of its segments that the list hasn't from one whose clock was the programme's."""
         segments = found.segments if new is None or self.accepted is None or self.accepted.found.has_clock else new
-        found.has_clock = any(abs(it.ahead()) > packaged.NEAR for it in segments)
+        found.shift, found.has_clock = self.shifts[-1].by, any(abs(it.ahead()) > packaged.NEAR for it in segments)
         self.stated = clocks.put_right(found, self.stated)
         if any(it.is_set() for it in segments):
             kinds["clock"] = ""

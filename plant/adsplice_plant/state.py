@@ -193,6 +193,10 @@ class State:
     life: str = ""  # of a log that several machines have: another one is another log. Empty for a log of one machine
     is_behind: bool = False  # whether that log has more: a channel without a list waits for it
 
+    def shift(self) -> int:
+        """How much later viewers have what is to come."""
+        return self.shifts[-1].by
+
 
 def query_of(settings: Settings) -> str:
     """The query of the URL of the channel's list; empty if it has none, or is a file."""
