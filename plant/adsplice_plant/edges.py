@@ -43,10 +43,10 @@ def awaited(turn: Turn, it: Rendition) -> Reach | None:
     came = it.came if it.came is not None else it.stands.text
     if not came or turn.at >= patience_ends(it, turn.target()) or it.older or it.stands.repairer.held_since is not None:
         return None
-    return by_last(turn, it, it.reach if it.reach is not None else reach_of(came))
+    return by_last(it, it.reach if it.reach is not None else reach_of(came))
 
 
-def by_last(turn: Turn, it: Rendition, reach: Reach) -> Reach:
+def by_last(it: Rendition, reach: Reach) -> Reach:
     """How far the newest list of the rendition goes, which goes as far as `reach` by its packager's clock, by the programme's. The packager may have set its
     clock since what was given last, if the list still has that: it went back, or on farther than the time in which no list came."""
     reach = reach if reach.instant is None else reach._replace(instant=reach.instant - it.stands.repairer.clock)
@@ -57,7 +57,7 @@ def by_last(turn: Turn, it: Rendition, reach: Reach) -> Reach:
         return reach
     end = last.begins + last.duration + count * reach.last
     by, most = reach.instant - end, max(SECOND, last.duration, reach.last)
-    return reach._replace(instant=end) if by < -most or by > (turn.at - it.given_at) * SECOND + (AWAY + count) * most else reach
+    return reach._replace(instant=end) if by < -most or by > (it.read_at - it.given_at) * SECOND + (AWAY + count) * most else reach
 
 
 def patience_ends(it: Rendition, target: float) -> float:
@@ -70,9 +70,9 @@ def patience_ends(it: Rendition, target: float) -> float:
 def note_behind(turn: Turn, channel: str, reach: Reach, since: float) -> None:
     """A list of the `channel` has come as far as `reach`: the others that haven't are behind from now on, unless they are already. If no rendition has had
     a new segment `since` longer than a target duration ago, none of them was behind until now."""
-    is_quiet, mine = turn.at - since > turn.target(), by_last(turn, turn.state.renditions[channel], reach)
+    is_quiet, mine = turn.at - since > turn.target(), by_last(turn.state.renditions[channel], reach)
     for name, it in turn.renditions():
-        if name != channel and it.reach is not None and (is_quiet or it.behind_since <= it.came_at) and not by_last(turn, it, it.reach).covers(mine):
+        if name != channel and it.reach is not None and (is_quiet or it.behind_since <= it.came_at) and not by_last(it, it.reach).covers(mine):
             turn.put(name, behind_since=turn.at)
 
 

@@ -50,10 +50,11 @@ class Request(NamedTuple):
 # ---- events
 
 class ListRead(NamedTuple):
-    """The list of a `channel` was read at its origin: its text is the `body`."""
+    """The list of a `channel` was read at its origin: its text is the `body`. `at`: the moment of that, by the clock that never goes back; none if it was now."""
 
     channel: str
     body: bytes
+    at: float | None = None
 
 
 class OriginChanged(NamedTuple):

@@ -110,7 +110,7 @@ def take_list(turn: Turn, event: ListRead) -> None:
     reach = reach_of(event.body) if len(turn.state.renditions) > 1 else Reach(None, number_after(event.body), 0)
     came_at = it.came_at if reach == it.reach else turn.at
     since = max(one.came_at for _, one in turn.renditions())
-    turn.put(event.channel, came=event.body, reach=reach, came_at=came_at, is_new=True, older=older_than(it, event.body))
+    turn.put(event.channel, came=event.body, reach=reach, came_at=came_at, read_at=turn.at if event.at is None else event.at, is_new=True, older=older_than(it, event.body))
     if came_at == turn.at:
         note_behind(turn, event.channel, reach, since)
     turn.set(waits_until=0.0)
@@ -265,10 +265,16 @@ def may_begin(turn: Turn) -> bool:
     if is_in_step(turn):
         return True
     targets = [read(it.came[:HEAD]).target or 1 for _, it in turn.renditions() if it.came is not None]
-    if turn.at - since < STEP * max(targets, default=1):
+    if turn.at - since < STEP * max(targets, default=1) * (2 if are_apart(turn) else 1):
         return False
     turn.tell("", "ladder", 0, "Unequal", "the renditions' playlists don't begin and end with the same media numbers; gives them all the same")
     return True
+
+
+def are_apart(turn: Turn) -> bool:
+    """Whether a rendition's newest list begins after another's has ended: its packager has begun again, and the other's will."""
+    listed = [it for one in turn.state.renditions.values() if one.came is not None and (it := segments_of(one.came)) and it[0].stated and it[-1].stated]
+    return bool(listed) and max(it[0].stated or 0 for it in listed) >= min((it[-1].stated or 0) + it[-1].duration for it in listed)
 
 
 def is_in_step(turn: Turn) -> bool:
@@ -327,10 +333,10 @@ def righted(turn: Turn, channel: str, found: dict[str, Taken]) -> Taken:
     if not it.settings.repair:
         return Taken(it.stands.repairer, Repaired(packaged.as_listed(read(body)), came=body), body, False)
     edge = edge_of(turn, channel) if len(turn.state.renditions) > 1 and not it.older else None
-    text = up_to(body, by_last(turn, it, it.reach or reach_of(body)), edge) if edge is not None else body
+    text = up_to(body, by_last(it, it.reach or reach_of(body)), edge) if edge is not None else body
     repairer = changed(it.stands.repairer)
     repairer.siblings = siblings_of(turn, channel, found) if len(turn.state.renditions) > 1 else None
-    repairer.shifts, repairer.waited = turn.state.shifts, turn.at - it.given_at
+    repairer.shifts, repairer.waited = turn.state.shifts, it.read_at - it.given_at
     if it.is_other:
         repairer.held_since = float("-inf")
     repaired = repairer.take(text, turn.at, turn.clock)
@@ -360,8 +366,10 @@ def siblings_of(turn: Turn, channel: str, found: dict[str, Taken]) -> Siblings:
         listed, new = it.stands.repairer.past[-MOST_REMEMBERED:] + it.stands.repairer.last, found[name].found().segments if name in found else []
         is_like = is_alike(pace, pace_of(listed or new))
         if name != channel:
+            held_since, growing = it.stands.repairer.held_since, it.stands.repairer.growing
+            if held_since is not None and growing is not None and growing.stated is not None and listed and name not in found:  # (it stays as long as it was)
+                listed.append(replace(growing, begins=growing.stated - it.stands.repairer.clock, number=listed[-1].number + 1, discontinuity=listed[-1].discontinuity))
             listed += [one for one in new if not listed or one.number > listed[-1].number]
-            held_since = it.stands.repairer.held_since
             waits = held_since is not None and name not in found and turn.at - held_since < (target_of(turn.state, name) or 0)
             siblings.append(Sibling(it.settings.base, listed, held_since is not None, waits, is_like and it.settings.group == mine.settings.group, is_like))
     return Siblings(siblings)
@@ -585,7 +593,7 @@ def stand(turn: Turn, channel: str, it: Taken, text: bytes, entry: int) -> None:
         it.repairer.accept(it.repaired)
         stands = standing(before, it, text, entry, turn.state.translator)
     is_longer = not before.repairer.last or stands.repairer.last[-1].number > before.repairer.last[-1].number
-    turn.put(channel, stands=stands, before=before if rendition.controller.trials == 0 else None, is_other=False, given_at=turn.at if is_longer else rendition.given_at)
+    turn.put(channel, stands=stands, before=before if rendition.controller.trials == 0 else None, is_other=False, given_at=rendition.read_at if is_longer else rendition.given_at)
 
 
 def standing(before: Standing, it: Taken, text: bytes, entry: int, translator: Translator) -> Standing:

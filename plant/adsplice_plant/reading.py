@@ -130,4 +130,4 @@ class Reading:
         self.is_well = not found.why
         if found.body is not None:
             self.stated = target_in(found.body) or self.stated
-            self.post(ListRead(name, found.body))
+            self.post(ListRead(name, found.body, time.monotonic()))

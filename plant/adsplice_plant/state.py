@@ -81,7 +81,7 @@ class Standing:
 class Rendition:
     """A rendition, whose channel the `settings` tell of: where its lists stand (`stands`), and where they stood `before` its newest one was
     given, until that is answered. `came`: the newest list that was read; how far that goes in a ladder (`reach`), and the moment at which a list came
-    so far first (`came_at`), when one with new segments was given last (`given_at`), and the moment since then at which another rendition's came farther first
+    so far first (`came_at`), when it was read (`read_at`), and when the one was read that was given last with new segments (`given_at`), and the moment since then at which another rendition's came farther first
     (`behind_since`); `older`: those before it that it doesn't go on from; `is_new`: whether one of them is still to be taken in. `seen_at`: when the written playlist was looked at last."""
 
     settings: Settings
@@ -91,6 +91,7 @@ class Rendition:
     older: tuple[bytes, ...] = ()
     reach: Reach | None = None
     came_at: float = float("-inf")
+    read_at: float = float("-inf")
     given_at: float = float("-inf")
     behind_since: float = float("-inf")
     is_new: bool = False

@@ -29,6 +29,8 @@ from adsplice_plant.playlist import SECOND  # noqa: E402
 from adsplice_plant.pods import Pods  # noqa: E402
 from adsplice_plant.reckoning import Reckoned, Run, Shape, Store  # noqa: E402
 from adsplice_plant.packing import edit_of, edited  # noqa: E402
+from adsplice_plant.clocks import Stated  # noqa: E402
+from adsplice_plant.packaged import Shift  # noqa: E402
 from adsplice_plant.repair import Choices, Head, Lead, Repairer  # noqa: E402
 from adsplice_plant.settings import Settings  # noqa: E402
 from adsplice_plant.siblings import Sibling, Siblings  # noqa: E402
@@ -40,9 +42,9 @@ from adsplice_rules.channel import Channel, decide, refreshed, written  # noqa: 
 
 NEEDS = ()
 ENDS = {  # what ends with a process, by the class whose member it is
-    "State": {"in_step_since", "waits_until", "longest_pause", "is_behind"}, "Rendition": {"settings", "came", "reach", "older", "came_at", "waited", "behind_since", "is_new", "seen_at", "is_other", "slate"},
+    "State": {"in_step_since", "waits_until", "longest_pause", "is_behind"}, "Rendition": {"settings", "came", "reach", "older", "came_at", "read_at", "given_at", "behind_since", "is_new", "seen_at", "is_other", "slate"},
     "Controller": {"sent", "trials", "retry_at", "is_unseen", "dropped_at"},
-    "Repairer": {"siblings", "accepted", "held_since"}, "File": {"since", "looked_at", "is_there"}, "Breaks": {"told", "recent"}, "Decided": {"tells"}}
+    "Repairer": {"siblings", "accepted", "held_since", "shifts", "waited"}, "File": {"since", "looked_at", "is_there"}, "Breaks": {"told", "recent"}, "Decided": {"tells"}}
 
 
 # ---- states, as a feed makes them
@@ -281,23 +283,21 @@ def crowded():
     one = members(fresh("a", "b"))
     key = packaged.Key("identity", 'METHOD=AES-128,URI="k"', False)
     segments = [packaged.PackagedSegment(f"{n}.ts", n, 2 * SECOND, (7, 8), (key,), packaged.InitSection('URI="i"', (key,)), 5 * n, 2, ["#EXTINF:2,", "#EXT-X-BITRATE:9"], True, 3, 4,
-                                         n + 100, 2 * n, 6 * n, 9) for n in (6, 7, 8)]
+                                         n + 100, 2 * n, 6 * n, 9, 3) for n in (6, 7, 8)]
     repairer = Repairer(Choices(), Siblings([]))
     repairer.head, repairer.past, repairer.last, repairer.adds, repairer.owed, repairer.lead, repairer.front = Head(3, 2, "EVENT"), segments[:1], segments[1:], True, 2, Lead(107, 2, 9), 1
-    repairer.grows, repairer.growing = True, segments[0]
+    repairer.grows, repairer.growing, repairer.clock, repairer.is_guessed, repairer.stated = True, segments[0], 7, True, {"b1": Stated(1, 2, 3, 4, 5)}
     reckoned = Reckoned(108, 16, 90, 5, Run("b1", Shape(((7, 8), (9,)), (True, False)), 5), (rules.Break("b1", 1, 2, 3, 4, "0x1", "0x2"),), "b1", True, 7)
     viewed = Viewed(Growing([(107, (90, 5)), (108, (91, 5))]), (91, 5), True, {"b1": ("#EXT-X-DATERANGE:ID=b1", 108)}, reckoned)
     stands = Standing(repairer, viewed, 8, b"#EXTM3U\n", b"ahead\n", Pods("[]", {"b1": "[1]"}, {"b1": "[2]"}, {"b2"}), {"times": 3}, 7)
     renditions = {name: dataclasses.replace(it, stands=stands, before=dataclasses.replace(stands, entry=7), listed=frozenset({"b1"})) for name, it in one.renditions.items()}
     translator = copy.copy(one.translator)
-    translator.lows = {"a": 21, "b": 22}
     translator.done, translator.firsts, translator.seen, translator.stated, translator.cuts, translator.styles = (
         {"a": Mark(8, "8.ts", 48, 46, 9, 2)}, {"a": 6}, {"a": {"b1": {"SCTE35-OUT"}}}, {"a": {"b1": 6}}, {"a": {"b1": [6, None]}}, {"EXT-X-AD"})
     translator.breaks = copy.copy(one.translator.breaks)
     breaks = translator.breaks
-    breaks.known, breaks.cancelled, breaks.is_first, breaks.clock = [Break("b1", 6, 7, "a splice", 52, 9, "upid", 3, 9, False, True, True, 8, ",X=1", True, 6, 4, 5, 1, 2, 3)], {"b3"}, False, 106
-    breaks.set_at = 105
-    return dataclasses.replace(one, renditions=renditions, translator=translator, entry=9, life="one")
+    breaks.known, breaks.cancelled, breaks.is_first = [Break("b1", 6, 7, "a splice", 52, 9, "upid", 3, 9, False, True, True, 8, ",X=1", True, 1, 2, 3)], {"b3"}, False
+    return dataclasses.replace(one, renditions=renditions, translator=translator, entry=9, life="one", shifts=(Shift(1, 2), Shift(3, 4)))
 
 
 def crowded_alone():

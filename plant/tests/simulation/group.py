@@ -62,7 +62,7 @@ class Site:
 
     def new_viewers(self) -> dict[str, Viewers]:
         """Viewers of the renditions who have seen nothing."""
-        return {name: Viewers(self.plan, it, self.world.packagers, self.world.ads, self.world.read[name]) for name, it in self.world.packagers.items()}
+        return {name: Viewers(self.plan, it, self.world.packagers, self.world.ads, self.world.read) for name, it in self.world.packagers.items()}
 
     def come(self, name: str, viewers: Viewers) -> None:
         """Viewers of a rendition come from another machine."""

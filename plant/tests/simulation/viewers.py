@@ -55,13 +55,13 @@ class Ads:
 @dataclass
 class Viewers:
     """The viewers of the rendition of a `packager`; `others` are all packagers by their renditions. `read` are the segments that the feed read
-    in lists, by their URIs. `ledger`: what they have by media numbers."""
+    in lists of each, by their URIs. `ledger`: what they have by media numbers."""
 
     plan: Plan
     packager: Packager
     others: Mapping[str, Packager]
     ads: Ads
-    read: dict[str, float]
+    read: Mapping[str, dict[str, float]]
     ledger: dict[int, Written] = field(default_factory=dict)
     last: int = -1
     reached: int | None = None  # the millisecond of the programme up to which they have it
@@ -146,7 +146,9 @@ class Viewers:
         if self.reached is None:
             return self.at_first()
         after = self.plan.breaks[self.since[-1].place].end if self.since and self.since[-1].place >= 0 else self.reached
-        next_one = next((it.begin for it in self.between(after, after + MOST_AWAY) if self.was_read(it)), after)  # (what lies before that is nobody's)
+        lenders = (self.packager,) if self.plan.kinds else self.others.values()
+        begins = [next((it.begin for it in self.between(after, after + MOST_AWAY, one) if self.was_read(it, one)), None) for one in lenders]
+        next_one = min((it for it in begins if it is not None), default=after)  # (what lies before that is nobody's)
         planned = self.plan.breaks[self.since[-1].place].planned if self.since and self.since[-1].place >= 0 else after
         near = [(it.name != name, order, abs(it.start - at), place) for order, at in enumerate((next_one, after, planned)) for place, it in enumerate(self.plan.breaks)
                 if abs(it.start - at) <= self.half_at(it.start) + NEAR and not (self.since and place == self.since[-1].place)]
@@ -159,9 +161,10 @@ class Viewers:
         is_read = any(self.was_read(it) for it in self.packager.all if abs(it.begin - start) <= half)
         return half if is_read else max(it.length for it in self.others.values()) // 2
 
-    def was_read(self, it: Cut) -> bool:
-        """Whether the feed read a segment of the packager in a list."""
-        return f"{BASE}/{self.packager.name}/{it.uri}" in self.read
+    def was_read(self, it: Cut, packager: Packager | None = None) -> bool:
+        """Whether the feed read a segment of the `packager` in a list; of the rendition's own if none is named."""
+        name = (packager or self.packager).name
+        return f"{BASE}/{name}/{it.uri}" in self.read[name]
 
     def at_first(self) -> int:
         """The break within which the very first segment is."""
@@ -205,9 +208,9 @@ class Viewers:
         if lost:
             self.breach("lost", f"{', '.join(it.uri for it in lost[:3])} ({len(lost)} segments from {lost[0].begin}) before {uri}")
 
-    def between(self, begin: int, end: int) -> Sequence[Cut]:
-        """The packager's own segments whose middles are in that time."""
-        cuts = self.packager.all
+    def between(self, begin: int, end: int, packager: Packager | None = None) -> Sequence[Cut]:
+        """The segments of the `packager` whose middles are in that time; the rendition's own if none is named."""
+        cuts = (packager or self.packager).all
         low, high = bisect_left(cuts, begin, key=lambda it: (it.begin + it.end) // 2), bisect_right(cuts, end, key=lambda it: (it.begin + it.end) // 2)
         return cuts[low:high]
 

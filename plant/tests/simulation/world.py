@@ -93,7 +93,7 @@ class World:
         self.ads = Ads()
         self.read: dict[str, dict[str, float]] = {name: {} for name in plan.names}  # segments in lists that the feed read, and when
         self.unkept: list[tuple[str, str]] = []
-        self.viewers = {name: Viewers(plan, it, self.packagers, self.ads, self.read[name]) for name, it in self.packagers.items()}
+        self.viewers = {name: Viewers(plan, it, self.packagers, self.ads, self.read) for name, it in self.packagers.items()}
         self.folders = {name: Folder() for name in plan.names}
         self.fallbacks: dict[str, bytes | None] = dict.fromkeys(plan.names)
         self.fallback_version, self.stamp = 0, 0
@@ -202,11 +202,11 @@ class World:
 
     def lacks_cut(self, viewers: Viewers) -> bool:
         """Whether a rendition lacks a cut that the feed never read in its lists, and in those of no other rendition until its viewers came past it."""
-        own, shown = {cut_of(uri) for uri in viewers.read}, viewers.times
+        own, shown = {cut_of(uri) for uri in viewers.read[viewers.packager.name]}, viewers.times
         lost = {cut_of(it.uri) for one in self.packagers.values() for it in one.all if cut_of(it.uri) > min(shown, default=0)} - own - shown.keys()
         for cut in lost:
             past = min((at for number, at in shown.items() if number > cut), default=None)
-            read = [at for known in ([viewers.read] if self.plan.kinds else self.read.values()) for uri, at in known.items() if cut_of(uri) == cut]
+            read = [at for known in ([viewers.read[viewers.packager.name]] if self.plan.kinds else self.read.values()) for uri, at in known.items() if cut_of(uri) == cut]
             if past is not None and all(at > past for at in read):
                 return True
         return False
@@ -267,7 +267,7 @@ class World:
         if self.was_sent.get(name) == body:
             return
         self.was_sent[name] = body
-        self.feed.give(ListRead(self.plan.channel(name), body))
+        self.feed.give(ListRead(self.plan.channel(name), body, self.now))
 
     def who_answers(self, name: str) -> Packager:
         """The packager of a rendition that answers now: of two behind one address often another one than before, as long as the day lasts."""
