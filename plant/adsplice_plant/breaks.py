@@ -227,6 +227,7 @@ class Breaks:
         self.told: list[Line] = []
         self.recent: deque[Line] = deque(maxlen=MOST)  # that were told: each rendition of a programme says the same
         self.is_first = True  # no list was looked at before
+        self.shift = 0  # how much later viewers have instants, which are told
 
     def copy(self) -> Breaks:
         """The same breaks, of which nothing is told yet."""
@@ -344,7 +345,7 @@ class Breaks:
                     is_settled=line.is_shortest() and found is not None or start < line.first or not line.aligns, latest=start, others=it.others, part=message.part, parts=message.parts, slack=0 if line.is_shortest() or it.id else line.half(start))
         insort(self.known, new, key=lambda one: one.start)
         length = "without a duration" if planned is None else f"planned for {seconds_text(planned)} s"
-        self.tell(f"breaks/{shown(new.id)}", "Begins", f"at {instant_text(start)}, {length} ({name})")
+        self.tell(f"breaks/{shown(new.id)}", "Begins", f"at {instant_text(start + self.shift)}, {length} ({name})")
         return new
 
     @staticmethod
@@ -365,7 +366,7 @@ class Breaks:
         one.start, one.latest, one.until, one.is_ended = one.start + by, one.latest + by, None, False
         self.known.sort(key=lambda it: it.start)
         if by:
-            self.tell(f"breaks/{shown(one.id)}", "Moved", f"to {instant_text(one.start)}: the packager states another START-DATE before it has begun")
+            self.tell(f"breaks/{shown(one.id)}", "Moved", f"to {instant_text(one.start + self.shift)}: the packager states another START-DATE before it has begun")
         return True
 
     def goes_on(self, it: Placed, line: Timeline, has_begun: bool) -> Break | None:
@@ -431,7 +432,7 @@ class Breaks:
             end = one.end()
             if end is not None and not one.is_told and line.is_reached(end, True):
                 one.is_told = True
-                self.tell(f"breaks/{shown(one.id)}", "Ends", f"at {instant_text(end)}, after {seconds_text(end - one.start)} s ({one.name})")
+                self.tell(f"breaks/{shown(one.id)}", "Ends", f"at {instant_text(end + self.shift)}, after {seconds_text(end - one.start)} s ({one.name})")
         self.known.sort(key=lambda it: it.start)
 
     def forget(self, first: int, moved: Collection[str]) -> None:

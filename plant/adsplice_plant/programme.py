@@ -225,6 +225,7 @@ def take_lists(turn: Turn) -> None:
     if not found:
         return
     translator = turn.state.translator.copy()
+    translator.breaks.shift = turn.state.shift()
     busy = {channel: righted(turn, channel, found) for channel, it in turn.renditions() if it.is_new and channel not in due}
     told = translate(turn, translator, found, busy) if turn.state.renditions[due[0]].settings.signals else []
     learn(turn, found)
@@ -496,16 +497,18 @@ def waits(turn: Turn, translator: Translator, found: dict[str, Taken]) -> bool:
 
 def ask(turn: Turn, translator: Translator, found: dict[str, Taken], end: int) -> None:
     """Asks for the decisions of the breaks that became known by the lists that were `found`, which end at the instant `end`."""
-    first, known = next(iter(turn.state.renditions.values())).settings, translator.breaks.known
+    first, breaks = next(iter(turn.state.renditions.values())).settings, translator.breaks.known
     target = max((it.found().target or 0 for it in found.values()), default=0) or round(turn.target())
-    new = [it for it in known if it.id not in turn.state.asked and not is_decided(turn, it.id)]
-    asked = {name: until for name, until in turn.state.asked.items() if any(it.id == name for it in known)}
+    new = [it for it in breaks if it.id not in turn.state.asked and not is_decided(turn, it.id)]
+    asked = {name: until for name, until in turn.state.asked.items() if any(it.id == name for it in breaks)}
     turn.set(asked=asked | {it.id: turn.at + min(first.hold, SHARE * target) for it in new})
     if new:
         listed = {name: found[name].found().segments if name in found else it.stands.repairer.last for name, it in turn.renditions()}
         bare = frozenset(name for name, segments in listed.items() if segments and segments[-1].section is None)
         replaced = {name: reckoned.replaced for name, it in turn.renditions() if (reckoned := it.stands.viewed.reckoned) is not None}
-        turn.actions.append(Ask(tuple(new), target, end, {name: usual_length(it) for name, it in listed.items()}, bare, replaced))
+        shift = turn.state.shift()  # (by the clock that viewers have)
+        known = tuple(changed(it, start=it.start + shift, until=None if it.until is None else it.until + shift) for it in new)
+        turn.actions.append(Ask(known, target, end + shift, {name: usual_length(it) for name, it in listed.items()}, bare, replaced))
 
 
 def is_decided(turn: Turn, name: str) -> bool:

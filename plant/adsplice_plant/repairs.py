@@ -33,7 +33,7 @@ KINDS = {
     "keys": ("5.2", "a key without IV has the packager's number as IV, which is stated"),
     "other renditions": ("6.2.4", "a rendition that was away takes segments or a discontinuity of the others, so that equal instants have equal numbers"),
     "times": ("4.3.2.6", "no segment states EXT-X-PROGRAM-DATE-TIME: it is added by this machine's clock (times = no leaves it out)"),
-    "clock": ("4.3.2.6", "the packager's clock has changed: its new segments state the instants that follow from its playlist now"),
+    "clock": ("4.3.2.6", "the packager has set its clock: that of viewers goes on, and comes nearer to it while no break is open"),
     "other sections": ("4.3.2.5", "segments in front have an initialisation section where the others have none, or the other way round: they are left out"),
     "gaps": ("6.2.1", "a segment of EXT-X-GAP isn't there, and is left out with a discontinuity after it"),
 }

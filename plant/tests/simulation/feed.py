@@ -14,6 +14,7 @@ from adsplice_plant.inbox import Inbox
 from adsplice_plant.location import Url
 from adsplice_plant.settings import Settings
 from adsplice_plant.state import State, begin, with_renditions
+from adsplice_plant.values import changed
 
 from .packager import BASE
 from .plan import Plan
@@ -260,7 +261,7 @@ class Feed:
         elif isinstance(it, Send):
             self.send(it)
         elif isinstance(it, Ask):
-            self.world.ask(it.known)
+            self.world.ask(tuple(changed(one, start=one.start - self.state.shift()) for one in it.known))  # (by the programme's clock)
         elif isinstance(it, Find):
             self.world.find(it.channel, it.found)
         elif isinstance(it, Finish):

@@ -146,13 +146,21 @@ class Viewers:
         if self.reached is None:
             return self.at_first()
         after = self.plan.breaks[self.since[-1].place].end if self.since and self.since[-1].place >= 0 else self.reached
-        lenders = (self.packager,) if self.plan.kinds else self.others.values()
-        begins = [next((it.begin for it in self.between(after, after + MOST_AWAY, one) if self.was_read(it, one)), None) for one in lenders]
-        next_one = min((it for it in begins if it is not None), default=after)  # (what lies before that is nobody's)
+        next_ones = [self.next_begin(after, one) for one in self.lenders()]
+        alike = [at for at, one in zip(next_ones, self.lenders()) if one.length == self.packager.length]
         planned = self.plan.breaks[self.since[-1].place].planned if self.since and self.since[-1].place >= 0 else after
-        near = [(it.name != name, order, abs(it.start - at), place) for order, at in enumerate((next_one, after, planned)) for place, it in enumerate(self.plan.breaks)
+        near = [(it.name != name, order, abs(it.start - at), place) for order, at in enumerate((min(alike), *next_ones, after, planned)) for place, it in enumerate(self.plan.breaks)
                 if abs(it.start - at) <= self.half_at(it.start) + NEAR and not (self.since and place == self.since[-1].place)]
         return min(near)[-1] if near else -1
+
+    def lenders(self) -> list[Packager]:
+        """The packagers whose segments they may have: the rendition's own first."""
+        return [self.packager, *(it for it in self.others.values() if it is not self.packager and not self.plan.kinds)]
+
+    def next_begin(self, after: int, packager: Packager) -> int:
+        """When the first segment of the `packager` begins that the feed read and that comes `after` a moment; that moment if there is none. (What lies before
+        that is nobody's.)"""
+        return next((it.begin for it in self.between(after, after + MOST_AWAY, packager) if self.was_read(it, packager)), after)
 
     def half_at(self, start: int) -> int:
         """How far from its `start` a break may begin: half a segment, of the longest ones of all renditions if none of the own ones near it was read, since

@@ -1,0 +1,96 @@
+"""A packager's clock and its programme's (RFC 8216, 4.3.2.6).
+
+The programme's clock never jumps: where a packager sets its own, the segments after that begin where those before end. Viewers' clock follows the
+packager's while no break is open or to come: so each break begins and ends by one clock.
+"""
+from __future__ import annotations
+
+from typing import Any, NamedTuple
+
+from .date_ranges import read_range
+from .packaged import NEAR, PackagedList, PackagedSegment, Shift, instant_of, range_with
+from .siblings import end_of
+from .translator import Translator
+
+
+MOST_SHIFTS = 64  # that are remembered, for renditions that stand still
+
+
+class Stated(NamedTuple):
+    """What a date range of a packager states: its START-DATE, as it `said` that and as it is by the programme's clock (`start`); the same of its END-DATE
+    (`said_end`, `end`), none if it states none; and another START-DATE that the newest list states (`pending`): by a clock that no segment has yet, or
+    since the break was moved."""
+
+    said: int
+    start: int
+    said_end: int | None = None
+    end: int | None = None
+    pending: int | None = None
+
+
+class Span(NamedTuple):
+    """Listed segments that have one clock of their packager: from the instant `first` on by that, which is `ahead` of the programme's."""
+
+    first: int
+    ahead: int
+
+
+def spans_of(segments: list[PackagedSegment]) -> list[Span]:
+    """The spans of the listed `segments`, the newest first."""
+    found: list[Span] = []
+    for it in segments:
+        if it.stated is not None and (not found or abs(it.ahead() - found[-1].ahead) > NEAR):
+            found.append(Span(it.stated, it.ahead()))
+    return found[::-1]
+
+
+def by_programme(said: int, spans: list[Span]) -> int:
+    """The instant `said` by a packager's clock as it is by the programme's: by the newest of the `spans` that has begun by then; by the oldest one if none has."""
+    found = next((it for it in spans if it.first <= said + NEAR), spans[-1] if spans else Span(0, 0))
+    return said - found.ahead
+
+
+def put_right(found: PackagedList, known: dict[str, Stated]) -> dict[str, Stated]:
+    """Puts the date ranges of the list `found` on the programme's clock; `known` is what those of the list before stated. Answers what these state."""
+    spans, stated, rows = spans_of(found.segments) if found.has_clock else [], dict[str, Stated](), []
+    for place, at, line in found.own_ranges():
+        it = read_range(line)
+        start, end = it.start(), instant_of(it.said.get("END-DATE", ""))
+        if it.id and start is not None:
+            one = stated[it.id] = placed(stated.get(it.id, known.get(it.id)), start, end, spans)
+            line = range_with(line, {"START-DATE": one.start, "END-DATE": one.end})
+        rows.append((place, at, line))
+    if rows != found.own_ranges():
+        found.own = rows
+    return stated
+
+
+def placed(known: Stated | None, start: int, end: int | None, spans: list[Span]) -> Stated:
+    """What a date range states that begins at `start` and ends at `end` (none if it doesn't say), of which that is `known` which it stated in the list before."""
+    begins = by_programme(start, spans)
+    ends = None if end is None else known.end if known is not None and known.said_end == end else by_programme(end, spans)
+    if known is None or abs(begins - known.start) <= NEAR or known.pending == start:
+        return Stated(start, begins, end, ends)
+    if known.said == start:
+        return known._replace(said_end=end, end=ends, pending=None)
+    return known._replace(said_end=end, end=ends, pending=start)
+
+
+def stated_of(said: dict[str, list[Any]]) -> dict[str, Stated]:
+    """What date ranges state, as it was kept."""
+    return {str(name): Stated(*(None if it is None else int(it) for it in one)) for name, one in said.items()}  # type: ignore[arg-type]
+
+
+def shifts_after(shifts: tuple[Shift, ...], listed: list[list[PackagedSegment]], clocks: list[int], translator: Translator) -> tuple[Shift, ...]:
+    """How viewers' clock goes on after the `shifts`: nearer to the packager's from the end of the `listed` segments of all renditions on, if that was set by all
+    of their `clocks`, and no break that the `translator` knows is open or to come then. It goes on at once, and back by half a segment with each new one: so
+    no two segments have one instant."""
+    now, since = shifts[-1], max(map(end_of, listed))
+    by = clocks[0] - now.by
+    if abs(by) <= NEAR or max(clocks) - min(clocks) > NEAR or since <= now.since:
+        return shifts
+    newest = min(it[-1].begins or 0 for it in listed)  # (a segment that ends a break is to have the break's clock)
+    if any((end := it.end()) is None or end > newest for it in translator.breaks.known):
+        return shifts
+    least = min(it[-1].duration for it in listed) // 2
+    return (*shifts, Shift(since, now.by + max(by, -least)))[-MOST_SHIFTS:]
