@@ -246,8 +246,8 @@ class Repairer:
         last = self.last[-1]
         if self.adds or last.begins is None or any(it.stated is None for it in segments):
             return segments
-        end = last.begins + last.duration + self.clock
-        return from_place(segments, next((n for n, it in enumerate(segments) if (it.stated or 0) + it.duration // 2 >= end), len(segments)))
+        end, begins = last.begins + last.duration, [(it.stated or 0) - self.clock if it.begins is None else it.begins for it in segments]
+        return from_place(segments, next((n for n, it in enumerate(segments) if begins[n] + it.duration // 2 >= end), len(segments)))
 
     def is_later(self, segments: list[PackagedSegment]) -> bool:
         """Whether the listed `segments` go on from the last list after some that nobody read: by the packager's numbers, and by the instants that
