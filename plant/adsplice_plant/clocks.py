@@ -29,9 +29,10 @@ class Stated(NamedTuple):
 
 
 class Span(NamedTuple):
-    """Listed segments that have one clock of their packager: from the instant `first` on by that, which is `ahead` of the programme's."""
+    """Listed segments that have one clock of their packager: from the instant `first` to `end` by that, which is `ahead` of the programme's."""
 
     first: int
+    end: int
     ahead: int
 
 
@@ -39,14 +40,20 @@ def spans_of(segments: list[PackagedSegment]) -> list[Span]:
     """The spans of the listed `segments`, the newest first."""
     found: list[Span] = []
     for it in segments:
-        if it.stated is not None and (not found or abs(it.ahead() - found[-1].ahead) > NEAR):
-            found.append(Span(it.stated, it.ahead()))
+        if it.stated is None:
+            continue
+        if found and abs(it.ahead() - found[-1].ahead) <= NEAR:
+            found[-1] = found[-1]._replace(end=it.stated + it.duration)
+        else:
+            found.append(Span(it.stated, it.stated + it.duration, it.ahead()))
     return found[::-1]
 
 
 def by_programme(said: int, spans: list[Span]) -> int:
-    """The instant `said` by a packager's clock as it is by the programme's: by the newest of the `spans` that has begun by then; by the oldest one if none has."""
-    found = next((it for it in spans if it.first <= said + NEAR), spans[-1] if spans else Span(0, 0))
+    """The instant `said` by a packager's clock as it is by the programme's: by the newest of the `spans` that has it; else by the newest that has begun by then, or
+    the oldest one."""
+    there = [it for it in spans if it.first <= said + NEAR]
+    found = next((it for it in there if said <= it.end + NEAR), there[0] if there else spans[-1] if spans else Span(0, 0, 0))
     return said - found.ahead
 
 

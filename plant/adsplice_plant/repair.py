@@ -121,6 +121,7 @@ class Repairer:
         self.is_guessed = False  # whether that isn't known to the millisecond
         self.shifts: tuple[Shift, ...] = (Shift(),)  # the programme's
         self.waited = float("inf")  # seconds after which this list came after the last one
+        self.listed = 0  # nanoseconds that this list lasts
 
     # ---- a list
 
@@ -150,6 +151,7 @@ class Repairer:
         growing = self.drop(found, kinds)
         if not found.segments:
             return Repaired(why=repairs.EMPTY)
+        self.listed = lasting(found.segments)
         self.drop_other_sections(found, kinds)
         is_timed = any(it.stated is not None for it in found.segments)
         is_untimed = not is_timed and self.choices.adds_times and found.kind != "VOD"
@@ -444,9 +446,16 @@ class Repairer:
             return theirs
         if abs(by) <= longest or missed > 0 and abs(by - missed) <= longest:
             return self.clock
-        is_missed = 0 < missed <= most and missed < STALE
-        is_away = 0 < by <= most and (it.discontinuities > 0 or missed != 0) and not is_missed
-        return self.clock if is_away else self.clock + by - (missed if is_missed else 0)
+        if 0 < missed <= most and missed < STALE:
+            return self.clock + by - missed
+        is_away = 0 < by <= most and (it.discontinuities > 0 or missed != 0)
+        return self.clock if is_away else self.clock + by - (self.away(it) if missed else 0)
+
+    def away(self, it: PackagedSegment) -> int:
+        """How long a packager was away that began again with the segment `it`, and set its clock: as long as no list came, in whole segments."""
+        if self.waited == float("inf") or not it.duration:
+            return 0
+        return max(0, round(self.waited * SECOND) - self.listed) // it.duration * it.duration
 
     def is_exact(self) -> bool:
         """Whether the newest listed segments begin where those before them end: then a packager whose instants are others has set its clock."""
