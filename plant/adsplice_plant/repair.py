@@ -452,10 +452,11 @@ class Repairer:
         return self.clock if is_away else self.clock + by - (self.away(it) if missed else 0)
 
     def away(self, it: PackagedSegment) -> int:
-        """How long a packager was away that began again with the segment `it`, and set its clock: as long as no list came, in whole segments."""
+        """How long a packager was away that began again with the segment `it`, and set its clock: as long as no list came but for what
+        this one lists, in whole segments."""
         if self.waited == float("inf") or not it.duration:
             return 0
-        return max(0, round(self.waited * SECOND) - self.listed) // it.duration * it.duration
+        return max(0, round(self.waited * SECOND) - self.listed + it.duration // 2) // it.duration * it.duration
 
     def is_exact(self) -> bool:
         """Whether the newest listed segments begin where those before them end: then a packager whose instants are others has set its clock."""
