@@ -17,7 +17,7 @@ STILL, LATE, AWAY = "AdspliceChannelStandsStill", "AdspliceChannelLate", "Adspli
 PROCESS, REFUSED, FALLBACK, EMPTY = "AdspliceProcessAway", "AdspliceDecisionRefused", "AdspliceFallbackWasShown", "AdspliceBreakWasEmpty"
 UNWRITTEN, UNKEPT, APART = "AdspliceAsRunUnwritten", "AdspliceEventsUnkept", "AdspliceRenditionsApart"
 DECISIONS = (REFUSED, FALLBACK, "AdspliceDecisionLate")
-CLOCK = (LATE, EMPTY, "AdspliceClockBehind", "AdspliceClockAhead", APART)
+CLOCK = (LATE, EMPTY, "AdspliceClockWasSet", "AdspliceClockBehind", "AdspliceClockAhead", APART)
 MANY = 2_000  # decision files
 WAIT = 35.0  # seconds that a fault waits for its place in a break, at the most
 
