@@ -356,8 +356,7 @@ class Breaks:
     def move(self, one: Break, start: int, line: Timeline, fresh: int) -> bool:
         """The break `one` is said to begin at `start` now. It does, unless it has begun on `line` before
         the place `fresh`, or in segments that have left it, or would have begun by then. Whether it does."""
-        low = next((n for n in range(fresh - 1, 0, -1) if line.begins[n] < line.begins[n - 1]), 0)
-        half, begins = line.half(one.start), line.begins[low:fresh]
+        half, begins = line.half(one.start), line.begins[line.low:fresh]
         if not begins or one.start < begins[0] - half or any(abs(it - one.start) <= half for it in begins) or start < line.begins[-1] - half:
             return False
         found, by = line.nearest(start), line.aligned(start) - one.start

@@ -167,9 +167,7 @@ def signals_of(path: Path, fresh: State, told: list[Tell]) -> dict[str, Any]:
     try:
         said: dict[str, Any] = json.loads(path.read_bytes())
         state_of(Known(fresh, said))  # (raises one of FAULTS)
-        clocks = [said.get("clock"), *(it.get("clock") for it in said["breaks"])]
-        numbers = [*(it[0] for it in said["done"].values()), *(it for it in clocks if it is not None)]
-        if not all(isinstance(it, int) for it in numbers):
+        if not all(isinstance(it[0], int) for it in said["done"].values()):
             raise ValueError("a number of it is none")
     except FileNotFoundError:
         return {}
@@ -190,8 +188,6 @@ def known_by(fresh: State, found: dict[str, Earlier], signals: dict[str, Any]) -
     theirs = {one.number: one.discontinuity for it in found.values() if it.moved == most for one in it.repairer.past + it.repairer.last}
     renditions, signals = dict(fresh.renditions), dict(signals)
     if signals:
-        signals["clock"] = None if signals.get("clock") is None else signals["clock"] + most
-        signals["breaks"] = [{**it, "clock": None if it.get("clock") is None else it["clock"] + most} for it in signals["breaks"]]
         signals["done"] = dict(signals["done"])
     for name, it in found.items():
         media = it.moved - most

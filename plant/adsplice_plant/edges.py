@@ -83,7 +83,7 @@ def up_to(body: bytes, mine: Reach, edge: Reach) -> bytes:
     if not mine.is_near(edge):
         if abs(number - edge.number) > MOST_APART:
             return body
-        end = None  # (they state no instants, or one of them is on another clock than the other)
+        end = None  # (they state no instants, or the one is far from the other)
     while (place := body.rfind(EXTINF, 0, at)) > first:
         duration = duration_of(body[place + len(EXTINF):body.find(b"\n", place)].decode("utf-8", "replace")) or 0
         if edge.covers(Reach(end, number, duration)) if end is None or edge.instant is None else end < edge.instant + duration // 2:

@@ -51,7 +51,7 @@ class Pods:
     def enter(self, starts: Mapping[str, int], known: Collection[str], fresh: list[int], first: int, tolerance: int) -> None:
         """A list is about to be pushed whose breaks have these `starts`, whose segments begin from the instant `first` on, and the new ones at the instants
         `fresh`. Those of `known` were listed before. A break begins with a segment within the `tolerance` of its start (docs/operating/channel.md,
-        tolerance). One that starts before the list is nobody's; or, if the packager's clock is going back, still to come."""
+        tolerance). One that starts before the list is nobody's."""
         for name, start in starts.items():
             if name in self.entered:
                 continue

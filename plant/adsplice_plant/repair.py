@@ -14,7 +14,7 @@ from .packaged import PackagedList, PackagedSegment, Shift
 from .playlist import SECOND
 from .siblings import AWAY, STALE, Siblings, middle_of
 from .spelling import Kinds, Unread
-from .succession import LAG, Place, begins_alike, is_named, is_same, lags, place_of, said_of
+from .succession import LAG, Place, begins_alike, is_named, is_same, lags, place_of
 
 NEWEST_VERSION = 7  # of a playlist that RFC 8216 describes
 TYPES = ("EVENT", "VOD")

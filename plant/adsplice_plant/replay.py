@@ -6,17 +6,14 @@ from typing import NamedTuple
 from adsplice_rules import breaks as rules
 
 from . import packaged
-from .breaks import TOLERANCE, Break
+from .breaks import TOLERANCE
 from .date_ranges import DateRange, read_range
-from .packaged import PackagedList, PackagedSegment
+from .packaged import PackagedSegment
 from .playlist import instant_text, seconds_text
-from .reckoning import Reckoned, known_after
-from .siblings import is_alike, pace_of
 from .signals import duration_of, pieces_of
 from .state import Standing
 from .turn import history_of
 
-MILLISECOND = 1_000_000
 BY_POD = "its pod"  # says where a break ends that says nothing of it (ends_of)
 ENDED = ("END-DATE", "DURATION", "SCTE35-IN")  # attributes that say where a break ended (RFC 8216, 4.3.2.7)
 ENDS = (*ENDED, "PLANNED-DURATION")  # and where it is to end

@@ -1,7 +1,6 @@
 """The other renditions of a programme, as one of them sees them: one clock, and equal numbers at equal instants (RFC 8216, 6.2.4)."""
 from __future__ import annotations
 
-from bisect import bisect_left
 from dataclasses import replace
 from typing import NamedTuple
 
