@@ -105,7 +105,7 @@ def take(turn: Turn, event: Event) -> None:
 def take_list(turn: Turn, event: ListRead) -> None:
     """The list of a channel was read."""
     it = turn.state.renditions[event.channel]
-    if it.came == event.body:
+    if it.came == event.body or it.is_new and it.came is not None and is_older(event.body, it.came):
         return
     reach = reach_of(event.body) if len(turn.state.renditions) > 1 else Reach(None, number_after(event.body), 0)
     came_at = it.came_at if reach == it.reach else turn.at
@@ -127,6 +127,12 @@ def older_than(it: Rendition, body: bytes) -> tuple[bytes, ...]:
         return ()
     is_left = not has_path(body, newest_of(it.older[-1]) if it.older else oldest_of(it.came))
     return (*it.older, it.came)[-MOST_OLDER:] if is_left else it.older
+
+
+def is_older(body: bytes, came: bytes) -> bool:
+    """Whether the list `body` is an older one than that which `came` and still waits, as a cache may have it: that has its newest segment, and a newer one."""
+    mine, newest = newest_of(body), newest_of(came)
+    return bool(mine) and mine != newest and has_path(came, mine) and not has_path(body, newest)
 
 
 def has_path(body: bytes, path: bytes) -> bool:
