@@ -94,7 +94,8 @@ def shifts_after(shifts: tuple[Shift, ...], listed: list[list[PackagedSegment]],
     no two segments have one instant."""
     now, since = shifts[-1], max(map(end_of, listed))
     by = clocks[0] - now.by
-    if abs(by) <= NEAR or max(clocks) - min(clocks) > NEAR or since <= now.since:
+    longest = max(it[-1].duration for it in listed)
+    if abs(by) <= NEAR or max(clocks) - min(clocks) > NEAR or since < now.since + longest - NEAR:
         return shifts
     newest = min(it[-1].begins or 0 for it in listed)  # (a segment that ends a break is to have the break's clock)
     if any((end := it.end()) is None or end > newest for it in translator.breaks.known):

@@ -9,7 +9,7 @@ import re
 from collections.abc import Collection, Iterable
 from dataclasses import replace
 
-from . import apart, decided, faults, numbers, packaged, ranges, replay, spelling
+from . import apart, clocks, decided, faults, numbers, packaged, ranges, replay, spelling
 from .breaks import TOLERANCE
 from .decisions import NO_FALLBACK, OVER
 from .events import Answered, Find, Found, Request, Send, What
@@ -415,6 +415,8 @@ def told_at_once(it: Rendition, stands: Standing, translator: Translator, shift:
     front = text[:max(0, text.find(EXTINF))]
     found = PackagedList(head.version, head.target, kind=head.kind, segments=stands.repairer.last, shift=shift)
     found.is_independent, found.is_ended = b"#EXT-X-INDEPENDENT-SEGMENTS" in front, text.rstrip().endswith(END)
+    found.has_clock = any(abs(one.ahead()) > packaged.NEAR for one in found.segments)
+    clocks.put_right(found, stands.repairer.stated)
     said, told = translator.take(found, it.settings.rendition()), ranges.ids_in(ranges.ranges_in(text))
     if said.ranges is None:
         return stands

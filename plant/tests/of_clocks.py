@@ -100,6 +100,8 @@ def test_viewers_have_no_instant_twice(room):
     back = shifts_after(none, [listed], [-3 * SECOND], translator)
     assert back[-1] == Shift(12 * SECOND, -SECOND) and shifts_after(back, [listed], [-3 * SECOND], translator) == back
     assert shifts_after(none, [listed, listed], [0, 5 * SECOND], translator) == none
+    later = [*listed, PackagedSegment("6.ts", 6, 2 * SECOND, begins=12 * SECOND - SECOND // 2, said=2 * SECOND)]  # (renditions that are cut otherwise)
+    assert shifts_after(back, [listed, later], [-3 * SECOND] * 2, translator) == back
     for end, is_over in ((10 * SECOND, True), (11 * SECOND, False), (None, False)):  # (the newest segment, at 10 s, ends it)
         translator.breaks.known = [Break("b", 4 * SECOND, 2, "a tag", until=end)]
         assert (shifts_after(none, [listed], [5 * SECOND], translator) != none) == is_over, end
