@@ -88,16 +88,15 @@ def stated_of(said: dict[str, list[Any]]) -> dict[str, Stated]:
     return {str(name): Stated(*(None if it is None else int(it) for it in one)) for name, one in said.items()}  # type: ignore[arg-type]
 
 
-def shifts_after(shifts: tuple[Shift, ...], listed: list[list[PackagedSegment]], clocks: list[int], translator: Translator) -> tuple[Shift, ...]:
+def shifts_after(shifts: tuple[Shift, ...], listed: list[list[PackagedSegment]], clocks: list[int], translator: Translator, longest: int) -> tuple[Shift, ...]:
     """How viewers' clock goes on after the `shifts`: nearer to the packager's from the end of the `listed` segments of all renditions on, if that was set by all
     of their `clocks`, and no break that the `translator` knows is open or to come then. It goes on at once, and back by half a segment with each new one: so
-    no two segments have one instant."""
+    no two segments have one instant. `longest`: the nanoseconds of the longest segment of any rendition."""
     now, since = shifts[-1], max(map(end_of, listed))
     by = clocks[0] - now.by
-    longest = max(it[-1].duration for it in listed)
     if abs(by) <= NEAR or max(clocks) - min(clocks) > NEAR or since < now.since + longest - NEAR:
         return shifts
-    newest = min(it[-1].begins or 0 for it in listed)  # (a segment that ends a break is to have the break's clock)
+    newest = min(it[-1].begins or 0 for it in listed) - longest  # (a segment that ends a break is to have the break's clock)
     if any((end := it.end()) is None or end > newest for it in translator.breaks.known):
         return shifts
     least = min(it[-1].duration for it in listed) // 2

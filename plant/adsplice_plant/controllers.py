@@ -14,7 +14,7 @@ from .breaks import TOLERANCE
 from .decisions import NO_FALLBACK, OVER
 from .events import Answered, Find, Found, Request, Send, What
 from .numbers import Viewed
-from .packaged import PackagedList, PackagedSegment
+from .packaged import PackagedList, PackagedSegment, Shift
 from .reckoning import Numbers, Reckoned, Store
 from .repair import Head, Repaired, Repairer
 from .state import Controller, Decided, Rendition, Standing, Way
@@ -132,8 +132,8 @@ def push(turn: Turn, channel: str) -> Request:
     if controller.led < stands.entry and (announced := announced_after(stands, history, new)):
         until = next((n for n in range(new, len(history)) if is_begin(history[n], announced.values())), len(history))
         if until:  # (at the least it has the segment again that the controller took last)
-            return Request(What.PUSH, listed_from(stands, turn.state.shift(), min(place, until - 1), controller.ahead, until, since, announced), stands.entry, True)
-    return Request(What.PUSH, listed_from(stands, turn.state.shift(), place, controller.ahead, since=since), stands.entry)
+            return Request(What.PUSH, listed_from(stands, turn.state.shifts, min(place, until - 1), controller.ahead, until, since, announced), stands.entry, True)
+    return Request(What.PUSH, listed_from(stands, turn.state.shifts, place, controller.ahead, since=since), stands.entry)
 
 
 def announced_after(stands: Standing, history: list[PackagedSegment], new: int) -> dict[str, int]:
@@ -166,7 +166,7 @@ def first_list(turn: Turn, channel: str) -> bytes:
         turn.put_controller(channel, ahead=ahead)
         turn.is_kept = False
     is_whole = first is stands.repairer.last[0] and not stands.pods.missed and all(replay.as_it_ran(stands, line) == line for line, _ in stands.viewed.ranges.values())
-    return shifted(stands, stands.text, ahead) if is_whole and ahead == (0, 0) else listed_from(stands, turn.state.shift(), place, ahead)
+    return shifted(stands, stands.text, ahead) if is_whole and ahead == (0, 0) else listed_from(stands, turn.state.shifts, place, ahead)
 
 
 def least_of(stands: Standing, reached: int) -> int:
@@ -200,18 +200,18 @@ def reckoned_anew(turn: Turn, stands: Standing) -> Viewed:
     return viewed
 
 
-def listed_from(stands: Standing, shift: int, place: int, ahead: Numbers, until: int | None = None, since: int = 0, without: Collection[str] = ()) -> bytes:
+def listed_from(stands: Standing, shifts: tuple[Shift, ...], place: int, ahead: Numbers, until: int | None = None, since: int = 0, without: Collection[str] = ()) -> bytes:
     """The list of the segments from the `place` in the history on, with numbers that are `ahead`; up to before the place `until`, if one is named. It says
     of breaks what was listed since the media number `since`: nothing of those `without` which it is, and of those that were missed and would have a pod
-    now; and of others where they ended for viewers by then. What is no longer listed and hasn't begun, adsplice has forgotten. Viewers have what is to come
-    `shift` nanoseconds later."""
+    now; and of others where they ended for viewers by then. What is no longer listed and hasn't begun, adsplice has forgotten. `shifts`: how much
+    later viewers have instants."""
     segments, head = history_of(stands)[place:until], stands.repairer.head
     assert head is not None
     missed, newest = {name for name in stands.pods.missed if stands.pods.at_hand(name) is not None}, stands.repairer.last[-1]
     said = [line for name, (line, number) in stands.viewed.ranges.items() if number >= max(since, segments[0].number) and name not in missed
             and not (number < newest.number and (is_to_come(line, newest) or replay.is_past(stands, line, place)))]
     lines = [replay.as_it_ran(stands, line) if until is None or without else replay.as_it_began(line) for line in said if packaged.id_in(line) not in without]
-    found = PackagedList(head.version, head.target, kind=head.kind, segments=moved(segments, ahead), shift=shift)
+    found = PackagedList(head.version, head.target, kind=head.kind, segments=moved(segments, ahead), shifts=shifts)
     front = stands.text[:max(0, stands.text.find(EXTINF))]
     found.is_independent, found.is_ended = b"#EXT-X-INDEPENDENT-SEGMENTS" in front, stands.text.rstrip().endswith(END)
     return packaged.write(found, lines)
@@ -403,17 +403,17 @@ def begin_anew(turn: Turn, channel: str, anew: int) -> None:
     translator = turn.state.translator.copy()
     for one in translator.breaks.known:
         one.is_in_step = False  # (it is shown all of a list's segments at once)
-    turn.put(channel, stands=told_at_once(it, stands, translator, turn.state.shift()))
+    turn.put(channel, stands=told_at_once(it, stands, translator, turn.state.shifts))
     turn.set(translator=translator)
 
 
-def told_at_once(it: Rendition, stands: Standing, translator: Translator, shift: int) -> Standing:
-    """What stands of the rendition `it`, with the date ranges by which its breaks end where they do in a channel that is shown all segments at once. `shift` as in `listed_from`."""
+def told_at_once(it: Rendition, stands: Standing, translator: Translator, shifts: tuple[Shift, ...]) -> Standing:
+    """What stands of the rendition `it`, with the date ranges by which its breaks end where they do in a channel that is shown all segments at once. `shifts` as in `listed_from`."""
     head, text = stands.repairer.head, stands.text
     if not it.settings.signals or not it.settings.repair or head is None or not stands.repairer.last:
         return stands
     front = text[:max(0, text.find(EXTINF))]
-    found = PackagedList(head.version, head.target, kind=head.kind, segments=stands.repairer.last, shift=shift)
+    found = PackagedList(head.version, head.target, kind=head.kind, segments=stands.repairer.last, shifts=shifts)
     found.is_independent, found.is_ended = b"#EXT-X-INDEPENDENT-SEGMENTS" in front, text.rstrip().endswith(END)
     found.has_clock = any(abs(one.ahead()) > packaged.NEAR for one in found.segments)
     clocks.put_right(found, stands.repairer.stated)

@@ -133,8 +133,8 @@ class PackagedList:
     that change what the list means, and of instants that don't read. `signals`: the EXT-X-DATERANGE lines in place of its own; none if
     it keeps those. `marked`: the places of the segments before which its own stand, once these were looked for; `pieces`: the text
     of each segment, once it was written; `timed`: when the segments begin, and `own`: its own EXT-X-DATERANGE lines, once that was asked for, or as they
-    are by the programme's clock. `has_clock`: whether its packager has another one. Viewers have what comes after it `shift`
-    nanoseconds later."""
+    are by the programme's clock. `has_clock`: whether its packager has another one. `shifts`: how much later viewers have what
+    comes after it."""
 
     version: int | None = None
     target: int | None = None
@@ -153,7 +153,7 @@ class PackagedList:
     timed: Instants | None = None
     own: list[tuple[int, int, str]] | None = None
     has_clock: bool = False
-    shift: int = 0
+    shifts: tuple[Shift, ...] = ()
 
     def own_ranges(self) -> list[tuple[int, int, str]]:
         """The packager's EXT-X-DATERANGE lines: the place of the segment before which each stands (past the last one after it), its
@@ -391,7 +391,7 @@ def write(found: PackagedList, ranges: list[str] | None = None) -> bytes:
 
 def written_ranges(found: PackagedList, lines: list[str]) -> list[str]:
     """The EXT-X-DATERANGE `lines` of the list `found`, by the clock that viewers have."""
-    if not found.shift and not any(it.shift for it in found.segments):
+    if not any(it.by for it in found.shifts[-1:]) and not any(it.shift for it in found.segments):
         return lines
     return [moved_range(line, shift_at(found, instant_of(attributes_of(line.partition(":")[2]).get("START-DATE", "")))) for line in lines]
 
@@ -400,8 +400,15 @@ def shift_at(found: PackagedList, instant: int | None) -> int:
     """How much later viewers of the list `found` have the `instant`: as the newest segment that begins by then, or nearly; the first one if none does."""
     last = found.segments[-1]
     if instant is None or last.begins is None or instant >= last.begins + last.duration - NEAR:
-        return found.shift
+        by = later(found.shifts, None if instant is None else instant + last.duration // 2)
+        return last.shift if by is None else by
     return next((it.shift for it in reversed(found.segments) if it.begins is not None and it.begins <= instant + NEAR), found.segments[0].shift)
+
+
+def later(shifts: tuple[Shift, ...], instant: int | None) -> int | None:
+    """How much later viewers have the segment in the middle of which the `instant` is, by these `shifts`; or what is to come, if it isn't known. None if it was
+    before them. (Renditions are cut at other times. So of segments that begin at about one time all have one shift.)"""
+    return next((it.by for it in reversed(shifts) if instant is None or it.since <= instant), None)
 
 
 def moved_range(line: str, by: int) -> str:

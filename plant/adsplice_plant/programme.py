@@ -256,7 +256,8 @@ def follow_clock(turn: Turn) -> None:
     target = turn.target()
     those = [it.stands.repairer for _, it in turn.renditions() if it.stands.repairer.last and it.stands.repairer.last[-1].begins is not None and turn.at < patience_ends(it, target)]
     if those:
-        turn.set(shifts=shifts_after(turn.state.shifts, [it.last for it in those], [it.clock for it in those], turn.state.translator))
+        longest = max(it.stands.repairer.last[-1].duration for _, it in turn.renditions() if it.stands.repairer.last)
+        turn.set(shifts=shifts_after(turn.state.shifts, [it.last for it in those], [it.clock for it in those], turn.state.translator, longest))
 
 
 def may_begin(turn: Turn) -> bool:

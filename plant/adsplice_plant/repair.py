@@ -406,15 +406,14 @@ class Repairer:
 
     def shift_of(self, it: PackagedSegment, before: PackagedSegment | None) -> int:
         """How much later viewers have the instant of the new segment `it`, which comes after the one `before`."""
-        middle = self.shifts[-1].since if it.begins is None else it.begins + it.duration // 2
-        found = next((one.by for one in reversed(self.shifts) if one.since <= middle), None)
+        found = packaged.later(self.shifts, None if it.begins is None else it.begins + it.duration // 2)
         return found if found is not None else self.shifts[0].by if before is None else before.shift
 
     def set_clock(self, found: PackagedList, kinds: dict[str, str], new: list[PackagedSegment] | None = None) -> None:
         """Puts the date ranges of the list `found` on the programme's clock. It is another list then if viewers don't have the packager's instants. `new`: those
         of its segments that the list hasn't from one whose clock was the programme's."""
         segments = found.segments if new is None or self.accepted is None or self.accepted.found.has_clock else new
-        found.shift, found.has_clock = self.shifts[-1].by, any(abs(it.ahead()) > packaged.NEAR for it in segments)
+        found.shifts, found.has_clock = self.shifts, any(abs(it.ahead()) > packaged.NEAR for it in segments)
         self.stated = clocks.put_right(found, self.stated)
         if any(it.is_set() for it in segments):
             kinds["clock"] = ""

@@ -95,21 +95,21 @@ def test_date_ranges_mean_what_they_meant(room):
 def test_viewers_have_no_instant_twice(room):
     listed = [PackagedSegment(f"{n}.ts", n, 2 * SECOND, begins=2 * n * SECOND, said=2 * SECOND) for n in range(6)]
     translator, none = Translator(), (Shift(),)
-    assert shifts_after(none, [listed], [0], translator) == none
-    assert shifts_after(none, [listed], [3600 * SECOND], translator)[-1] == Shift(12 * SECOND, 3600 * SECOND)
-    back = shifts_after(none, [listed], [-3 * SECOND], translator)
-    assert back[-1] == Shift(12 * SECOND, -SECOND) and shifts_after(back, [listed], [-3 * SECOND], translator) == back
-    assert shifts_after(none, [listed, listed], [0, 5 * SECOND], translator) == none
+    assert shifts_after(none, [listed], [0], translator, 2 * SECOND) == none
+    assert shifts_after(none, [listed], [3600 * SECOND], translator, 2 * SECOND)[-1] == Shift(12 * SECOND, 3600 * SECOND)
+    back = shifts_after(none, [listed], [-3 * SECOND], translator, 2 * SECOND)
+    assert back[-1] == Shift(12 * SECOND, -SECOND) and shifts_after(back, [listed], [-3 * SECOND], translator, 2 * SECOND) == back
+    assert shifts_after(none, [listed, listed], [0, 5 * SECOND], translator, 2 * SECOND) == none
     later = [*listed, PackagedSegment("6.ts", 6, 2 * SECOND, begins=12 * SECOND - SECOND // 2, said=2 * SECOND)]  # (renditions that are cut otherwise)
-    assert shifts_after(back, [listed, later], [-3 * SECOND] * 2, translator) == back
-    for end, is_over in ((10 * SECOND, True), (11 * SECOND, False), (None, False)):  # (the newest segment, at 10 s, ends it)
+    assert shifts_after(back, [listed, later], [-3 * SECOND] * 2, translator, 2 * SECOND) == back
+    for end, is_over in ((8 * SECOND, True), (9 * SECOND, False), (None, False)):  # (the newest segment, at 10 s, is past it in all renditions)
         translator.breaks.known = [Break("b", 4 * SECOND, 2, "a tag", until=end)]
-        assert (shifts_after(none, [listed], [5 * SECOND], translator) != none) == is_over, end
+        assert (shifts_after(none, [listed], [5 * SECOND], translator, 2 * SECOND) != none) == is_over, end
 
 
 def test_a_written_list_has_viewers_instants(room):
     segments = [PackagedSegment(f"{n}.ts", n, 2 * SECOND, begins=BEGUN + 2 * n * SECOND, number=n, tags=["#EXTINF:2,"], shift=(-SECOND if n > 1 else 0)) for n in range(4)]
-    found = packaged.PackagedList(3, 2, segments=segments, shift=-2 * SECOND)
+    found = packaged.PackagedList(3, 2, segments=segments, shifts=(Shift(BEGUN + 8 * SECOND, -2 * SECOND),))
     lines = [f'#EXT-X-DATERANGE:ID="{name}",START-DATE="{instant(at)}",END-DATE="{instant(at + 1)}"' for name, at in (("a", 2), ("b", 4), ("c", 9))]
     text = packaged.write(found, lines).decode()
     assert [line.partition(":")[2] for line in text.splitlines() if "DATE-TIME" in line] == [instant(it) for it in (0, 2, 3, 5)], text
