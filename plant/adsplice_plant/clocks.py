@@ -9,7 +9,9 @@ from typing import Any, NamedTuple
 
 from .date_ranges import read_range
 from .packaged import NEAR, PackagedList, PackagedSegment, Shift, instant_of, range_with
+from .playlist import SECOND
 from .siblings import end_of
+from .signals import duration_of
 from .translator import Translator
 
 
@@ -18,14 +20,15 @@ MOST_SHIFTS = 64  # that are remembered, for renditions that stand still
 
 class Stated(NamedTuple):
     """What a date range of a packager states: its START-DATE, as it `said` that and as it is by the programme's clock (`start`); the same of its END-DATE
-    (`said_end`, `end`), none if it states none; and another START-DATE that the newest list states (`pending`): by a clock that no segment has yet, or
-    since the break was moved."""
+    (`said_end`, `end`), none if it states none; and others that the newest list states (`pending`, `pending_end`): by a clock that no segment has yet, or
+    since the break was moved or extended."""
 
     said: int
     start: int
     said_end: int | None = None
     end: int | None = None
     pending: int | None = None
+    pending_end: int | None = None
 
 
 class Span(NamedTuple):
@@ -64,23 +67,33 @@ def put_right(found: PackagedList, known: dict[str, Stated]) -> dict[str, Stated
         it = read_range(line)
         start, end = it.start(), instant_of(it.said.get("END-DATE", ""))
         if it.id and start is not None:
-            one = stated[it.id] = placed(stated.get(it.id, known.get(it.id)), start, end, spans)
+            planned = duration_of(it.said.get("PLANNED-DURATION", ""))
+            one = stated[it.id] = placed(stated.get(it.id, known.get(it.id)), start, end, spans, planned)
             line = range_with(line, {"START-DATE": one.start, "END-DATE": one.end})
+            line = line if one.end is not None else line.replace(f',END-DATE="{it.said.get("END-DATE")}"', "", 1)
         rows.append((place, at, line))
     if rows != found.own_ranges():
-        found.own = rows
+        found.own, found.signals = rows, [line for _, _, line in rows]
     return stated
 
 
-def placed(known: Stated | None, start: int, end: int | None, spans: list[Span]) -> Stated:
-    """What a date range states that begins at `start` and ends at `end` (none if it doesn't say), of which that is `known` which it stated in the list before."""
+def placed(known: Stated | None, start: int, end: int | None, spans: list[Span], planned: int | None = None) -> Stated:
+    """What a date range states that begins at `start` and ends at `end` (none if it doesn't say) and is `planned` to last so long, of which that is `known`
+    which it stated in the list before. What can't be so, or moves or extends the break, counts once two lists state it."""
     begins = by_programme(start, spans)
-    ends = None if end is None else known.end if known is not None and known.said_end == end else by_programme(end, spans)
     if known is None or abs(begins - known.start) <= NEAR or known.pending == start:
-        return Stated(start, begins, end, ends)
-    if known.said == start:
-        return known._replace(said_end=end, end=ends, pending=None)
-    return known._replace(said_end=end, end=ends, pending=start)
+        one = Stated(start, begins)
+    else:
+        one = Stated(known.said, known.start, pending=None if known.said == start else start)
+    if end is None:
+        return one
+    if known is not None and known.said_end == end:
+        return one._replace(said_end=end, end=known.end)
+    ends = by_programme(end, spans)
+    is_sure = one.start < ends and (planned is None or ends <= one.start + planned + SECOND)
+    if is_sure or known is not None and known.pending_end == end:
+        return one._replace(said_end=end, end=ends)
+    return one._replace(said_end=None if known is None else known.said_end, end=None if known is None else known.end, pending_end=end)
 
 
 def stated_of(said: dict[str, list[Any]]) -> dict[str, Stated]:

@@ -88,6 +88,9 @@ def test_date_ranges_mean_what_they_meant(room):
     pending = placed(one, begins + later, ends, [])
     assert (pending.start, pending.pending) == (begins, begins + later)
     assert placed(pending, begins + later, ends, []).start == begins + later and placed(pending, begins, ends, []).pending is None
+    early = placed(one._replace(said_end=None, end=None), begins, ends + later, [], 10 * SECOND)  # (by a clock that no segment has yet)
+    assert early.end is None and placed(early, begins, ends + later, [Span(later, 2 * later, later)], 10 * SECOND).end == ends
+    assert placed(early, begins, ends + later, [], 10 * SECOND).end == ends + later  # (extended)
     _, repairer = begins_after(list_of(steady(0, 5), ranges=[("b", 14)]), list_of(steady(1, 5) + steady(6, 7, -180), ranges=[("b", 14 - 180)]))
     assert repairer.stated["b"].start == BEGUN + 14 * SECOND
 
