@@ -81,11 +81,12 @@ def question_of(channel: str, renditions: list[str], target: int, one: Break, la
             "name": one.name, "upid": one.upid, "number": one.part or None, "of": one.parts or None, "target": target, "renditions": renditions, "ladder": ladder}
 
 
-def rendition_of(name: str, traits: Traits, piece: int, replaced: int | None) -> dict[str, Any]:
-    """What a question says of the rendition called `name`: its `traits`, how long a `piece` is, and how much of it was `replaced`, in nanoseconds; null
-    what isn't known."""
+def rendition_of(name: str, traits: Traits, piece: int, replaced: int | None, cut: int | None) -> dict[str, Any]:
+    """What a question says of the rendition called `name`: its `traits`, how long a `piece` is, how much of it was `replaced`, and how long after the break's
+    start it is `cut`, in nanoseconds; null what isn't known."""
+    seconds = {"replaced": replaced, "cut": cut}
     return {"name": name, "kind": traits.kind or None, "codecs": traits.codecs or None, "size": traits.size or None,
-            "segment": piece / playlist.SECOND if piece else None, "replaced": replaced / playlist.SECOND if replaced is not None else None}
+            "segment": piece / playlist.SECOND if piece else None, **{key: it / playlist.SECOND if it is not None else None for key, it in seconds.items()}}
 
 
 def decision_of(body: bytes, name: str) -> tuple[dict[str, Any] | None, str]:
@@ -142,10 +143,10 @@ class Asker:
         """The names of the programme's renditions; none for a channel by itself."""
         return [it for it in self.folders if it]
 
-    def ladder(self, it: Ask) -> list[dict[str, Any]]:
-        """What a question says of each rendition, as `it` has that of their channels."""
-        channels = {name: f"{self.name}-{name}" if name else self.name for name in self.folders}
-        return [rendition_of(name, self.traits.get(name, Traits()), it.pieces.get(channel, 0), it.replaced.get(channel)) for name, channel in channels.items()]
+    def ladder(self, it: Ask, one: Break) -> list[dict[str, Any]]:
+        """What a question about the break `one` says of each rendition, as `it` has that of their channels."""
+        channels, cuts = {name: f"{self.name}-{name}" if name else self.name for name in self.folders}, it.cuts.get(one.id, {})
+        return [rendition_of(name, self.traits.get(name, Traits()), it.pieces.get(channel, 0), it.replaced.get(channel), cuts.get(channel)) for name, channel in channels.items()]
 
     def longest(self, target: int | None) -> float:
         """The seconds that a list of this `target` duration may wait: below half of it."""
@@ -192,7 +193,7 @@ class Asker:
     def begin(self, one: Break, it: Ask, now: float, is_again: bool) -> None:
         """Asks for the break `one`. `is_again`: the feed ended while its question was open."""
         lead = max(0.0, (one.start - it.end) / playlist.SECOND)
-        said = question_of(self.name, self.renditions(), it.target or 0, one, self.ladder(it))
+        said = question_of(self.name, self.renditions(), it.target or 0, one, self.ladder(it, one))
         bare = frozenset(name for name in self.folders if name and f"{self.name}-{name}" in it.bare)
         question = Question(one.id, one.start, said, now, now + max(self.longest(it.target), lead), bare)
         self.open.append(question)

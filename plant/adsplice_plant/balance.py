@@ -1,8 +1,8 @@
 """By how much a channel's sound has become longer than its pictures at all its breaks: players that join each stream end to end are off by so much.
 
-A break takes up to a frame more of the programme's sound than of its pictures, or less, which is known afterwards. What the last breaks took on average
-is expected of it, up to a quarter of a frame. A pod brings what is off then within half a frame. So it is off by at most that, the quarter, and
-the frame that the break takes, together: whatever breaks take, by a frame and three quarters.
+Where a break begins, sound may be cut up to a frame beside the pictures, which the question says. Where it ends, too, which is known afterwards. The makings
+of a pod's ads bring what is off by then within three quarters of a frame, in the ads and at their end. So after the break it is off by at most a frame and
+three quarters. In its ads it is off by a frame at most, and by as much as after it if the question doesn't say where sound is cut.
 """
 from __future__ import annotations
 
@@ -15,7 +15,6 @@ from .filling import Pod, balanced
 from .playlist import SECOND
 from .whole_files import write_aside
 
-MOST_CUTS = 8  # breaks of which the average counts
 LONG = 60 * SECOND  # after its end a break's run is over in all playlists, also if the next break is asked for before it begins
 
 
@@ -31,14 +30,12 @@ class Last(NamedTuple):
 @dataclass
 class Balance:
     """By how many nanoseconds a channel's sound has become longer than its pictures at all breaks together (`over`). `cut_before`: by how many pods had
-    taken more of the sound, as the last question said that counts; `cut_last`: the same of the last question. `last`: the pod that was given last.
-    `cuts`: how much more of the sound the last breaks took, the newest one last."""
+    taken more of the sound, as the last question said that counts; `cut_last`: the same of the last question. `last`: the pod that was given last."""
 
     over: int = 0
     cut_before: int | None = None
     cut_last: int | None = None
     last: Last | None = None
-    cuts: tuple[int, ...] = ()
 
     def cut(self, now: int | None, most: int) -> None:
         """Pods have taken more of the sound than of the pictures by `now`; none if that isn't known. A step of over `most` counts for nothing: a rendition
@@ -47,27 +44,21 @@ class Balance:
             return
         if self.cut_before is not None and abs(now - self.cut_before) <= most:
             self.over -= now - self.cut_before
-            self.cuts = (*self.cuts, now - self.cut_before)[-MOST_CUTS:]
             self.cut_before = now
         elif self.cut_before is None or self.cut_last is not None and abs(now - self.cut_last) <= most:
             self.cut_before = now
         self.cut_last = now
 
-    def expected(self, frame: int) -> int:
-        """How much more of the sound the next break is to take by what the last ones did, in nanoseconds, of which a `frame` lasts so many."""
-        return max(-frame // 4, min(frame // 4, sum(self.cuts) // max(1, len(self.cuts))))
-
-    def give(self, pod: Pod, start: int, replaced: int | None, frame: int) -> Pod:
+    def give(self, pod: Pod, start: int, replaced: int | None, cut: int | None, frame: int) -> Pod:
         """The `pod` for a break that begins at `start` with those makings by which sound stays nearest to pictures; pods have `replaced` so much of the pictures,
-        if that is known. A `frame` of the sound lasts so many nanoseconds. If no more is replaced than when the last pod was given, whose break is long over, nobody has seen that
-        one: it doesn't count."""
+        and sound is `cut` so much later than they are, if that is known. If that is more than a `frame` of the sound, it is cut so where the break ends, too. If no
+        more is replaced than when the last pod was given, whose break is long over, nobody has seen that one: it doesn't count."""
         if self.last is not None and self.last.replaced == replaced and start - self.last.end >= LONG:
             self.over -= self.last.over
-        expected = self.expected(frame)
-        found, over = balanced(pod, self.over - expected)
-        over += expected
-        self.last = Last(over - self.over, start + pod.length(), replaced) if replaced is not None else None
-        self.over = over
+        by = self.over + (cut if cut is not None and abs(cut) <= frame else 0)
+        found, over = balanced(pod, by)
+        self.last = Last(over - by, start + pod.length(), replaced) if replaced is not None else None
+        self.over += over - by
         return found
 
 
@@ -77,7 +68,7 @@ def read(path: Path) -> Balance:
         said = json.loads(path.read_bytes())
         before, newest = (None if said[name] is None else int(said[name]) for name in ("cut_before", "cut_last"))
         over, end, replaced = said["last"] or (0, 0, 0)
-        return Balance(int(said["over"]), before, newest, Last(int(over), int(end), int(replaced)) if said["last"] else None, tuple(int(it) for it in said["cuts"])[-MOST_CUTS:])
+        return Balance(int(said["over"]), before, newest, Last(int(over), int(end), int(replaced)) if said["last"] else None)
     except (OSError, ValueError, TypeError, KeyError, RecursionError):
         return Balance()
 

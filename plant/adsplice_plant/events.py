@@ -158,7 +158,8 @@ class Send(NamedTuple):
 class Ask(NamedTuple):
     """The decisions of the breaks `known` are to be asked for, once each. `target`: the target duration in seconds; `end`: the instant at
     which the newest list ends; `pieces`: how long the segments of each channel are as a rule, in nanoseconds, by the channels' names; `bare`: the
-    channels whose segments have no initialisation section; `replaced`: the nanoseconds of each channel in whose place pods came, where that is known."""
+    channels whose segments have no initialisation section; `replaced`: the nanoseconds of each channel in whose place pods came, where that is known;
+    `cuts`: of each break, by its ID, how many nanoseconds after its start each channel is cut, where that is known."""
 
     known: tuple[Break, ...]
     target: int
@@ -166,6 +167,7 @@ class Ask(NamedTuple):
     pieces: Mapping[str, int] = {}
     bare: frozenset[str] = frozenset()
     replaced: Mapping[str, int] = {}
+    cuts: Mapping[str, Mapping[str, int]] = {}
 
 
 class Look(NamedTuple):

@@ -100,8 +100,8 @@ class Ladder:
         return next((replaced.get(name) for name, it in self.renditions.items() if it.picture), None)
 
     def cut_apart(self, replaced: Mapping[str, int]) -> int | None:
-        """By how many nanoseconds pods took more of the sound than of the pictures, if so much was `replaced` of each rendition. None if there is no
-        sound apart from pictures, or one of both isn't known."""
+        """By how many nanoseconds pods took more of the sound than of the pictures, if so much was `replaced` of each rendition; or how much later sound is cut,
+        if these are the cuts. None if there is no sound apart from pictures, or one of both isn't known."""
         sound = next((replaced.get(name) for name, it in self.renditions.items() if it.is_sound()), None)
         picture = self.pictures_replaced(replaced)
         return None if sound is None or picture is None else sound - picture

@@ -22,7 +22,7 @@ from .repair import Repaired, Repairer, count_on
 from .replay import as_elsewhere, as_it_runs, put_past
 from .siblings import Reach, Sibling, Siblings, is_alike, number_after, numbering_of, pace_of, reach_of
 from .state import FileState, Rendition, Standing, State, Way
-from .traits import usual_length
+from .traits import cut_near, usual_length
 from .translator import Translator
 from .turn import Turn, history_of, window_of
 from .values import changed
@@ -497,7 +497,8 @@ def ask(turn: Turn, translator: Translator, found: dict[str, Taken], end: int) -
         listed = {name: found[name].found().segments if name in found else it.stands.repairer.last for name, it in turn.renditions()}
         bare = frozenset(name for name, segments in listed.items() if segments and segments[-1].section is None)
         replaced = {name: reckoned.replaced for name, it in turn.renditions() if (reckoned := it.stands.viewed.reckoned) is not None}
-        turn.actions.append(Ask(tuple(new), target, end, {name: usual_length(it) for name, it in listed.items()}, bare, replaced))
+        cuts = {one.id: {name: cut for name, it in listed.items() if (cut := cut_near(it, one.start)) is not None} for one in new}
+        turn.actions.append(Ask(tuple(new), target, end, {name: usual_length(it) for name, it in listed.items()}, bare, replaced, cuts))
 
 
 def is_decided(turn: Turn, name: str) -> bool:

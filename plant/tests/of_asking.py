@@ -131,7 +131,7 @@ def test_a_break_is_asked_for_once_and_its_list_waits_for_the_answer(room):
     until(lambda: os.path.exists(f"{room.path}/1001.json"), 20, "the answer")
     assert server.questions == [{"channel": "news", "id": "1001", "start": instant(24), "planned": 10, "event": 1001, "type": 0x34,
                                  "name": "Provider Placement Opportunity Start", "upid": "000000002CA0A18A", "number": 1, "of": 1, "target": 2, "renditions": [],
-                                 "ladder": [{"name": "", "kind": None, "codecs": None, "size": None, "segment": 2, "replaced": 0}]}]
+                                 "ladder": [{"name": "", "kind": None, "codecs": None, "size": None, "segment": 2, "replaced": 0, "cut": 0}]}]
     with open(f"{room.path}/1001.json", encoding="utf-8") as file:
         assert file.read() == json.dumps(json.loads(decided(("1001", 5))))
     for newest in range(13, 20):
@@ -298,8 +298,8 @@ def test_a_question_has_what_each_rendition_is_like(room):
     it.channels = [replace(it.channels[0], traits=Traits("VIDEO", "avc1.640028", "1920x1080")), replace(it.channels[1], traits=Traits("AUDIO", "mp4a.40.2"))]
     it.begin()
     it.give(12)
-    assert server.questions[0]["ladder"] == [{"name": "hd", "kind": "VIDEO", "codecs": "avc1.640028", "size": "1920x1080", "segment": 2, "replaced": 0},
-                                             {"name": "en", "kind": "AUDIO", "codecs": "mp4a.40.2", "size": None, "segment": 2, "replaced": 0}]
+    assert server.questions[0]["ladder"] == [{"name": "hd", "kind": "VIDEO", "codecs": "avc1.640028", "size": "1920x1080", "segment": 2, "replaced": 0, "cut": 0},
+                                             {"name": "en", "kind": "AUDIO", "codecs": "mp4a.40.2", "size": None, "segment": 2, "replaced": 0, "cut": 0}]
 
 
 def long_sound(now):
@@ -314,7 +314,7 @@ def long_sound(now):
     return found
 
 
-def test_a_question_says_how_much_of_each_rendition_pods_have_replaced(room):
+def test_a_question_says_how_much_of_each_rendition_pods_have_replaced_and_where_it_is_cut(room):
     from adsplice_plant.events import AskedInVain, Began, FallbackRead, ListRead
     from of_slate import Steps
     it = Steps("v", "a", ask="http://127.0.0.1:1/decide", fallback="/nowhere/{}.json", slate=None)
@@ -328,6 +328,20 @@ def test_a_question_says_how_much_of_each_rendition_pods_have_replaced(room):
         for one in {one.id for asked in it.asked for one in asked.known}:
             it.take(AskedInVain(one))
     assert [[one.replaced[f"news-{name}"] for name in ("v", "a")] for one in it.asked] == [[0, 0], [12 * 10**9, 11_989_333 * 10**3], [24 * 10**9, 24 * 10**9]], [one.replaced for one in it.asked]
+    # sound has come to 12.010667, 32 and 52.010667 s by then
+    for asked, owed in zip(it.asked, (10_666_667, 0, 10_666_667), strict=True):
+        found = asked.cuts[asked.known[0].id]
+        assert found["news-v"] == 0 and abs(found["news-a"] - owed) <= 1_000_000, found
+
+
+def test_where_a_rendition_is_cut_near_an_instant(room):
+    """The list's end counts, for a segment will begin there; what is over half a segment away doesn't."""
+    from adsplice_plant.packaged import PackagedSegment
+    from adsplice_plant.traits import cut_near
+    its = [PackagedSegment("", n, 400, begins=400 * n + 7) for n in range(3)]
+    for instant, owed in ((0, 7), (400, 7), (410, -3), (206, -199), (208, 199), (1200, 7), (1207, 0), (1407, -200), (1408, None), (-193, 200), (-194, None)):
+        assert cut_near(its, instant) == owed, (instant, cut_near(its, instant))
+    assert cut_near([], 5) is cut_near([PackagedSegment("", 0, 400)], 5) is None
 
 
 def test_subtitles_beside_fragmented_mp4_get_no_initialisation_section(room):
