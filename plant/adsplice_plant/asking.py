@@ -125,13 +125,14 @@ class Asker:
     without a name for a channel by itself). A list waits for `hold` seconds at most. `tell`: prints a line. `is_decided`: whether there is a
     decision on a break in each folder. `answered` is called with the ID of a break once its answer is in the folders, and `given_up` if none
     comes any more. `traits`: those of the renditions, by their names. `note` is called with the ID of a break, what became of its question (one of
-    ANSWERS), and why it has no decision by that."""
+    ANSWERS), and why it has no decision by that. `has_begun`: whether a break has begun in a rendition, so that its answer is late."""
 
     def __init__(self, name: str, ask: str, hold: float, client: Client, folders: Mapping[str, Path], tell: Tell, is_decided: Callable[[str], bool],
                  answered: Callable[[str], None], given_up: Callable[[str], None], traits: Mapping[str, Traits] | None = None,
-                 note: Callable[[str, str, str], None] = lambda *_: None) -> None:
+                 note: Callable[[str, str, str], None] = lambda *_: None, has_begun: Callable[[str], bool] = lambda _: False) -> None:
         self.name, self.ask_at, self.hold, self.client, self.folders, self.tell = name, ask, hold, client, folders, tell
         self.is_decided, self.answered, self.given_up, self.traits, self.note = is_decided, answered, given_up, traits or {}, note
+        self.has_begun = has_begun
         self.open: list[Question] = []
         self.begun: list[float] = []  # when those of the last minute were begun
         self.told_at = float("-inf")  # when it was told last that there are too many
@@ -286,7 +287,7 @@ class Asker:
         took = time.monotonic() - question.asked
         who, status = f"ask/{shown(question.id)}", str(answer.status or "-")
         if answer.status == 204:
-            self.tell(who, status, "Late" if time.monotonic() > question.until else "-", f"no ads, after {took:.2f} s")
+            self.tell(who, status, "-", f"no ads, after {took:.2f} s")
             self.note(question.id, "NoAds", "the ad server has no ads for it")
             return False
         if answer.status != 200:
@@ -299,26 +300,27 @@ class Asker:
             self.tell(who, status, "Wrong", f"the answer isn't taken: {text}")
             self.note(question.id, "Wrong", f"the ad server's answer isn't taken: {text}")
             return False
-        if why := self.put(question, decision):
+        why, is_late = self.put(question, decision)
+        if why:
             self.tell(who, status, "Unkept", f"{why}; the answer is lost")
             self.note(question.id, "Unkept", f"its decision couldn't be written ({why})")
             return False
-        is_late = time.monotonic() > question.until
         self.tell(who, status, "Late" if is_late else "-", f"answered after {took:.2f} s{text}")
         self.note(question.id, "Late" if is_late else "Answered", "")
         return True
 
-    def put(self, question: Question, decision: dict[str, Any]) -> str:
+    def put(self, question: Question, decision: dict[str, Any]) -> tuple[str, bool]:
         """Writes the `decision` that answers the `question` into the folders, as soon as there is room for it; why it couldn't be within LASTS, empty if
-        it could."""
-        pauses, is_told = Pauses(0.2, 2.0), False
+        it could, and whether its break had begun before."""
+        pauses, is_told, is_late = Pauses(0.2, 2.0), False, self.has_begun(question.id)
         while why := self.write(question, decision):
             if not is_told:
                 self.tell(f"ask/{shown(question.id)}", "200", "Unkept", f"{why}; the answer waits until it can be written")
             is_told, pause = True, pauses.next()
             if time.monotonic() + pause > question.until + LASTS or self.ending.wait(pause):
                 break
-        return why
+            is_late = self.has_begun(question.id)
+        return why, is_late
 
     def write(self, question: Question, decision: dict[str, Any]) -> str:
         """Writes the `decision` that answers the `question` into the folders; why it couldn't, empty if it could."""

@@ -111,11 +111,12 @@ class AskedInVain(NamedTuple):
 
 class Looked(NamedTuple):
     """The ads of the decision file `name`, which had these `stamps`, were looked at: those URIs that are `absent` aren't there, each as its ad, the URI
-    and why."""
+    and why. `was_there`: the look goes on, and all of them were there when they were looked at earlier."""
 
     name: str
     stamps: Mapping[str, Stamp]
     absent: tuple[tuple[str, str, str], ...] = ()
+    was_there: bool = False
 
 
 class Ticked(NamedTuple):

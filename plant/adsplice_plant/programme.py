@@ -229,6 +229,7 @@ def take_lists(turn: Turn) -> None:
     learn(turn, found)
     pass_over(turn, translator, found)
     listed = listed_ids(turn) | {name for it in found.values() for name in ranges.ids_in(it.found().date_ranges())}
+    presence.keep_earlier(turn, translator.breaks.known, max(end_of(it.found()) for it in found.values()))
     decided.give_files(turn, listed, False)
     if waits(turn, translator, found):
         for channel in found:
@@ -476,7 +477,7 @@ def waits(turn: Turn, translator: Translator, found: dict[str, Taken]) -> bool:
     first = next(iter(turn.state.renditions.values())).settings
     end = max((end_of(it.found()) for it in found.values()), default=0)
     known = translator.breaks.known
-    awaited = presence.awaited(turn, known, end) if first.verify else []
+    awaited = [it for it in presence.awaited(turn, known, end).values() if it > turn.at] if first.verify else []
     if first.ask:
         ask(turn, translator, found, end)
         awaited += [turn.state.asked[it.id] for it in known if it.start < end and turn.at < turn.state.asked.get(it.id, 0.0)

@@ -161,6 +161,17 @@ def test_a_slow_server_is_waited_for_as_long_as_a_list_may_wait(room):
     assert os.path.exists(f"{room.path}/1001.json") and len(server.questions) == 1
 
 
+def test_an_answer_is_late_only_once_its_break_has_begun(room):
+    """The break is signalled with the segment before it, so the list that begins it comes later than the question's list would have waited."""
+    from dataclasses import replace
+    early = replace(STYLE, ranges=tuple(replace(one, shown=11) for one in STYLE.ranges))
+    it = Asking(room, room.server(Decider(pause=1.0)).url, hold=0.3, keep=Path(room.path) / "kept")
+    it.give(11, early)
+    it.sees("ask/1001 200 ")
+    it.give(12, early)
+    assert b"1001-0.ts" in it.controller.puts("decisions")[-1] and not [line for line in it.told if "Late" in line], it.told
+
+
 def test_a_list_waits_for_less_than_half_its_target_duration(room):
     it = Asking(room, room.server(Decider(pause=8)).url, hold=60, timeout=10)
     assert 0.8 <= it.give(12) < 7
