@@ -21,6 +21,7 @@ from .breaks import Break, shown
 from .decisions import DAY, over_bound
 from .events import Ask
 from .pauses import Pauses
+from .reckoning import Sums
 from .settings import FOLDER, PLACE
 from .traits import Traits
 from .web import Answer, Client
@@ -81,12 +82,12 @@ def question_of(channel: str, renditions: list[str], target: int, one: Break, la
             "name": one.name, "upid": one.upid, "number": one.part or None, "of": one.parts or None, "target": target, "renditions": renditions, "ladder": ladder}
 
 
-def rendition_of(name: str, traits: Traits, piece: int, replaced: int | None, cut: int | None) -> dict[str, Any]:
-    """What a question says of the rendition called `name`: its `traits`, how long a `piece` is, how much of it was `replaced`, and how long after the break's
-    start it is `cut`, in nanoseconds; null what isn't known."""
-    seconds = {"replaced": replaced, "cut": cut}
+def rendition_of(name: str, traits: Traits, piece: int, sums: Sums | None, cut: int | None) -> dict[str, Any]:
+    """What a question says of the rendition called `name`: its `traits`, how long a `piece` is, the `sums` of its breaks that are over, and how long after the
+    break's start it is `cut`, in nanoseconds; null what isn't known."""
+    seconds = {"segment": piece or None, "replaced": sums and sums.replaced, "shown": sums and sums.shown, "cut": cut}
     return {"name": name, "kind": traits.kind or None, "codecs": traits.codecs or None, "size": traits.size or None,
-            "segment": piece / playlist.SECOND if piece else None, **{key: it / playlist.SECOND if it is not None else None for key, it in seconds.items()}}
+            **{key: it / playlist.SECOND if it is not None else None for key, it in seconds.items()}, "decided": sums and sums.decided}
 
 
 def decision_of(body: bytes, name: str) -> tuple[dict[str, Any] | None, str]:
@@ -147,7 +148,7 @@ class Asker:
     def ladder(self, it: Ask, one: Break) -> list[dict[str, Any]]:
         """What a question about the break `one` says of each rendition, as `it` has that of their channels."""
         channels, cuts = {name: f"{self.name}-{name}" if name else self.name for name in self.folders}, it.cuts.get(one.id, {})
-        return [rendition_of(name, self.traits.get(name, Traits()), it.pieces.get(channel, 0), it.replaced.get(channel), cuts.get(channel)) for name, channel in channels.items()]
+        return [rendition_of(name, self.traits.get(name, Traits()), it.pieces.get(channel, 0), it.sums.get(channel), cuts.get(channel)) for name, channel in channels.items()]
 
     def longest(self, target: int | None) -> float:
         """The seconds that a list of this `target` duration may wait: below half of it."""

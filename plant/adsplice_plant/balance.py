@@ -20,17 +20,18 @@ LONG = 60 * SECOND  # after its end a break's run is over in all playlists, also
 
 class Last(NamedTuple):
     """The pod that was given last: by how many nanoseconds its sound was longer (`over`), the instant at which its break ends, in nanoseconds from 1970,
-    and how many nanoseconds of the pictures pods had `replaced` before."""
+    and how many pods were shown before of those that were decided (`number`)."""
 
     over: int
     end: int
-    replaced: int
+    number: int
 
 
 @dataclass
 class Balance:
     """By how many nanoseconds a channel's sound has become longer than its pictures at all breaks together (`over`). `cut_before`: by how many pods had
-    taken more of the sound, as the last question said that counts; `cut_last`: the same of the last question. `last`: the pod that was given last."""
+    taken more of the sound, and shown less, as the last question said that counts; `cut_last`: the same of the last question. `last`: the pod that was
+    given last."""
 
     over: int = 0
     cut_before: int | None = None
@@ -38,7 +39,7 @@ class Balance:
     last: Last | None = None
 
     def cut(self, now: int | None, most: int) -> None:
-        """Pods have taken more of the sound than of the pictures by `now`; none if that isn't known. A step of over `most` counts for nothing: a rendition
+        """Pods have taken more of the sound than of the pictures by `now`, and shown less by their files; none if that isn't known. A step of over `most` counts for nothing: a rendition
         lags behind within a break. If the next question is near it, it begins to count from there: the feed has begun anew."""
         if now is None:
             return
@@ -49,15 +50,15 @@ class Balance:
             self.cut_before = now
         self.cut_last = now
 
-    def give(self, pod: Pod, start: int, replaced: int | None, cut: int | None, frame: int) -> Pod:
-        """The `pod` for a break that begins at `start` with those makings by which sound stays nearest to pictures; pods have `replaced` so much of the pictures,
-        and sound is `cut` so much later than they are, if that is known. If that is more than a `frame` of the sound, it is cut so where the break ends, too. If no
-        more is replaced than when the last pod was given, whose break is long over, nobody has seen that one: it doesn't count."""
-        if self.last is not None and self.last.replaced == replaced and start - self.last.end >= LONG:
+    def give(self, pod: Pod, start: int, count: int | None, cut: int | None, frame: int) -> Pod:
+        """The `pod` for a break that begins at `start` with those makings by which sound stays nearest to pictures. A `count` of pods that were decided were shown
+        before it, and sound is `cut` so much later than pictures, if that is known. If that is more than a `frame` of the sound, it is cut so where the break ends, too.
+        If no more were shown than when the last pod was given, whose break is long over, nobody has seen that one: it doesn't count."""
+        if self.last is not None and self.last.number == count and start - self.last.end >= LONG:
             self.over -= self.last.over
         by = self.over + (cut if cut is not None and abs(cut) <= frame else 0)
         found, over = balanced(pod, by)
-        self.last = Last(over - by, start + pod.length(), replaced) if replaced is not None else None
+        self.last = Last(over - by, start + pod.length(), count) if count is not None else None
         self.over += over - by
         return found
 
@@ -67,8 +68,8 @@ def read(path: Path) -> Balance:
     try:
         said = json.loads(path.read_bytes())
         before, newest = (None if said[name] is None else int(said[name]) for name in ("cut_before", "cut_last"))
-        over, end, replaced = said["last"] or (0, 0, 0)
-        return Balance(int(said["over"]), before, newest, Last(int(over), int(end), int(replaced)) if said["last"] else None)
+        over, end, number = said["last"] or (0, 0, 0)
+        return Balance(int(said["over"]), before, newest, Last(int(over), int(end), int(number)) if said["last"] else None)
     except (OSError, ValueError, TypeError, KeyError, RecursionError):
         return Balance()
 

@@ -95,15 +95,15 @@ class Ladder:
         sound = self.sound_apart()
         return 0 if sound is None else SOUND[sound.codec] * SECOND // sound.rate
 
-    def pictures_replaced(self, replaced: Mapping[str, int]) -> int | None:
-        """How many nanoseconds of the pictures pods took, if so much was `replaced` of each rendition; none if there are no pictures, or that isn't known."""
-        return next((replaced.get(name) for name, it in self.renditions.items() if it.picture), None)
+    def of_pictures(self, said: Mapping[str, int]) -> int | None:
+        """What is `said` of the pictures, as it is of each rendition; none if there are no pictures, or that isn't known."""
+        return next((said.get(name) for name, it in self.renditions.items() if it.picture), None)
 
-    def cut_apart(self, replaced: Mapping[str, int]) -> int | None:
-        """By how many nanoseconds pods took more of the sound than of the pictures, if so much was `replaced` of each rendition; or how much later sound is cut,
-        if these are the cuts. None if there is no sound apart from pictures, or one of both isn't known."""
-        sound = next((replaced.get(name) for name, it in self.renditions.items() if it.is_sound()), None)
-        picture = self.pictures_replaced(replaced)
+    def cut_apart(self, said: Mapping[str, int]) -> int | None:
+        """By how much what is `said` of the sound is more than what is said of the pictures. None if there is no sound apart from pictures, or one of both
+        isn't known."""
+        sound = next((said.get(name) for name, it in self.renditions.items() if it.is_sound()), None)
+        picture = self.of_pictures(said)
         return None if sound is None or picture is None else sound - picture
 
     def rate(self) -> Fraction:

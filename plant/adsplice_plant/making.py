@@ -131,8 +131,8 @@ def name_also(source: str | Path, to: str | Path) -> None:
 
 
 def finish(folder: Path, it: Rendition, cut: Cut, ending: str, name: str, more: int) -> tuple[int, ...]:
-    """Holds what was made for the rendition `it`, called `name`, in the `folder` against the `cut`, and writes its list. Its pieces' names have this `ending`,
-    and its sound so many frames `more` than come nearest. Answers where its pieces end, in nanoseconds. Raises Fault."""
+    """Holds what was made for the rendition `it`, called `name`, in the `folder` against the `cut`, and writes its list, which says how long sound apart is.
+    Its pieces' names have this `ending`, and its sound so many frames `more` than come nearest. Answers where its pieces end, in nanoseconds. Raises Fault."""
     ends = cut.ends
     if it.container == TEXT:
         for n in range(len(cut.ends)):
@@ -140,7 +140,7 @@ def finish(folder: Path, it: Rendition, cut: Cut, ending: str, name: str, more: 
             name_also(folder / f"{PIECE.format(n=n)}.vtt", folder / f"{PIECE.format(n=n)}.{ending}")  # (one answer names the pieces of all renditions)
     else:
         ends = hold(folder, it, cut, ending, name, more)
-    (folder / LIST).write_text(conditioning.list_of(cut, "vtt" if it.container == TEXT else ending, it.container == FMP4), encoding="ascii")
+    (folder / LIST).write_text(conditioning.list_of(Cut(ends) if it.is_sound() else cut, "vtt" if it.container == TEXT else ending, it.container == FMP4), encoding="ascii")
     return ends
 
 

@@ -497,9 +497,9 @@ def ask(turn: Turn, translator: Translator, found: dict[str, Taken], end: int) -
     if new:
         listed = {name: found[name].found().segments if name in found else it.stands.repairer.last for name, it in turn.renditions()}
         bare = frozenset(name for name, segments in listed.items() if segments and segments[-1].section is None)
-        replaced = {name: reckoned.replaced for name, it in turn.renditions() if (reckoned := it.stands.viewed.reckoned) is not None}
+        sums = {name: reckoned.sums for name, it in turn.renditions() if (reckoned := it.stands.viewed.reckoned) is not None}
         cuts = {one.id: {name: cut for name, it in listed.items() if (cut := cut_near(it, one.start)) is not None} for one in new}
-        turn.actions.append(Ask(tuple(new), target, end, {name: usual_length(it) for name, it in listed.items()}, bare, replaced, cuts))
+        turn.actions.append(Ask(tuple(new), target, end, {name: usual_length(it) for name, it in listed.items()}, bare, sums, cuts))
 
 
 def is_decided(turn: Turn, name: str) -> bool:

@@ -131,7 +131,7 @@ def test_a_break_is_asked_for_once_and_its_list_waits_for_the_answer(room):
     until(lambda: os.path.exists(f"{room.path}/1001.json"), 20, "the answer")
     assert server.questions == [{"channel": "news", "id": "1001", "start": instant(24), "planned": 10, "event": 1001, "type": 0x34,
                                  "name": "Provider Placement Opportunity Start", "upid": "000000002CA0A18A", "number": 1, "of": 1, "target": 2, "renditions": [],
-                                 "ladder": [{"name": "", "kind": None, "codecs": None, "size": None, "segment": 2, "replaced": 0, "cut": 0}]}]
+                                 "ladder": [{"name": "", "kind": None, "codecs": None, "size": None, "segment": 2, "replaced": 0, "shown": 0, "decided": 0, "cut": 0}]}]
     with open(f"{room.path}/1001.json", encoding="utf-8") as file:
         assert file.read() == json.dumps(json.loads(decided(("1001", 5))))
     for newest in range(13, 20):
@@ -309,8 +309,8 @@ def test_a_question_has_what_each_rendition_is_like(room):
     it.channels = [replace(it.channels[0], traits=Traits("VIDEO", "avc1.640028", "1920x1080")), replace(it.channels[1], traits=Traits("AUDIO", "mp4a.40.2"))]
     it.begin()
     it.give(12)
-    assert server.questions[0]["ladder"] == [{"name": "hd", "kind": "VIDEO", "codecs": "avc1.640028", "size": "1920x1080", "segment": 2, "replaced": 0, "cut": 0},
-                                             {"name": "en", "kind": "AUDIO", "codecs": "mp4a.40.2", "size": None, "segment": 2, "replaced": 0, "cut": 0}]
+    assert server.questions[0]["ladder"] == [{"name": "hd", "kind": "VIDEO", "codecs": "avc1.640028", "size": "1920x1080", "segment": 2, "replaced": 0, "shown": 0, "decided": 0, "cut": 0},
+                                             {"name": "en", "kind": "AUDIO", "codecs": "mp4a.40.2", "size": None, "segment": 2, "replaced": 0, "shown": 0, "decided": 0, "cut": 0}]
 
 
 def long_sound(now):
@@ -330,15 +330,20 @@ def test_a_question_says_how_much_of_each_rendition_pods_have_replaced_and_where
     from of_slate import Steps
     it = Steps("v", "a", ask="http://127.0.0.1:1/decide", fallback="/nowhere/{}.json", slate=None)
     it.take(Began())
-    pod = json.dumps({"fallback": {"ads": [{"segments": [{"uri": f"http://ads.example/{n}.ts", "duration": "2"} for n in range(6)]}]}})
+    ads = {name: [{"segments": [{"uri": f"http://ads.example/{n}.ts", "duration": lasts} for n in range(6)]}] for name, lasts in (("v", "2"), ("a", "2.001"))}
     for name in ("v", "a"):
-        it.take(FallbackRead(f"news-{name}", pod.encode()))
+        it.take(FallbackRead(f"news-{name}", json.dumps({"fallback": {"ads": ads[name]}}).encode()))
     for now in range(8, 76, 2):
         for name, text in long_sound(now).items():
             it.take(ListRead(f"news-{name}", text.encode()))
-        for one in {one.id for asked in it.asked for one in asked.known}:
+        names = [one.id for asked in it.asked for one in asked.known]
+        for one in names[:1]:
             it.take(AskedInVain(one))
-    assert [[one.replaced[f"news-{name}"] for name in ("v", "a")] for one in it.asked] == [[0, 0], [12 * 10**9, 11_989_333 * 10**3], [24 * 10**9, 24 * 10**9]], [one.replaced for one in it.asked]
+        for one in names[1:]:  # (the later ones have pods of their own)
+            it.decide(json.dumps({"breaks": [{"id": one, "ads": ads["v"]}]}))
+    assert [[one.sums[f"news-{name}"].replaced for name in ("v", "a")] for one in it.asked] == [[0, 0], [12 * 10**9, 11_989_333 * 10**3], [24 * 10**9, 24 * 10**9]], [one.sums for one in it.asked]
+    # the fallback's sound is 6 ms longer, and the later pods are decided
+    assert [[[one.sums[f"news-{name}"].shown // 10**6, one.sums[f"news-{name}"].decided] for name in ("v", "a")] for one in it.asked] == [[[0, 0], [0, 0]], [[12_000, 0], [12_006, 0]], [[24_000, 1], [24_006, 1]]]
     # sound has come to 12.010667, 32 and 52.010667 s by then
     for asked, owed in zip(it.asked, (10_666_667, 0, 10_666_667), strict=True):
         found = asked.cuts[asked.known[0].id]

@@ -169,7 +169,7 @@ def farthest(cuts, count=300, is_lost=False, lengths=(10 * SECOND, 10 * SECOND),
         late = 20 * SECOND if is_lost and number % 10 == 9 and number != 99 else 0
         begin, end = cuts(off)
         balance.cut(one.cut_apart({**taken, "a": taken["a"] - late}), one.piece // 2)
-        pod = balance.give(Pod(list(ads), [None] * len(ads)), 300 * SECOND * number, one.pictures_replaced(taken), one.cut_apart({"v": 0, "a": begin} if is_told else {}), one.frame())
+        pod = balance.give(Pod(list(ads), [None] * len(ads)), 300 * SECOND * number, number, one.cut_apart({"v": 0, "a": begin} if is_told else {}), one.frame())
         taken = {"v": taken["v"] + 20 * SECOND, "a": taken["a"] + 20 * SECOND + end - begin}
         off += begin
         for ad in pod.ready:
@@ -213,20 +213,24 @@ def test_sound_that_is_cut_a_fraction_of_a_segment_away_is_cut_so_at_both_ends(r
 
 @pure
 def test_a_pod_that_nobody_saw_does_not_count(room):
-    """Each third answer comes too late, so its break stays empty: the pictures' sum of what pods replaced stays as it is. Kept on disk, the balance is the same."""
+    """Each third answer comes too late, so its break stays empty, or the fallback fills it, whose sound is a frame longer: the number of decided pods stays as it is. Kept on disk,
+    the balance is the same."""
     from adsplice_plant import balance
     from adsplice_plant.filling import Pod
-    one, it, off, most, taken = aac_apart(), balance.Balance(), 0, 0, {"v": 0, "a": 0}
+    one, it, off, most, seen, taken, shown = aac_apart(), balance.Balance(), 0, 0, 0, {"v": 0, "a": 0}, {"v": 0, "a": 0}
     for number in range(300):
         balance.keep(Path(f"{room.path}/balance/film.json"), it)
         it = balance.read(Path(f"{room.path}/balance/film.json"))
-        it.cut(one.cut_apart(taken), one.piece // 2)
-        pod = it.give(Pod([ready(9_960_000_000, one), ready(10 * SECOND, one)], [None, None]), 300 * SECOND * number, one.pictures_replaced(taken), 0, one.frame())
-        if number % 3 != 2:
+        it.cut(one.cut_apart(taken) - one.cut_apart(shown), one.piece // 2)
+        pod = it.give(Pod([ready(9_960_000_000, one), ready(10 * SECOND, one)], [None, None]), 300 * SECOND * number, seen, 0, one.frame())
+        if number % 3 != 2 or number % 2:
+            own = number % 3 != 2
             taken = {"v": taken["v"] + 20 * SECOND, "a": taken["a"] + 20 * SECOND + 10_666_667}
-            off += sum(ad.over() for ad in pod.ready) - 10_666_667
+            shown = {"v": shown["v"] + 20 * SECOND, "a": shown["a"] + 20 * SECOND + (0 if own else one.frame())}
+            off += (sum(ad.over() for ad in pod.ready) if own else one.frame()) - 10_666_667
+            seen += own
         most = max(most, abs(off))
-    assert most <= 32_000_000, most
+    assert most <= 7 * one.frame() // 4 + 1000, most
     for number, owed in ((10, 1), (100, 0)):  # (a break right after the last one is asked for while that one's run goes on; a minute after it the run is over)
         it = balance.Balance(5, last=balance.Last(5, 20 * SECOND, 7))
         it.give(Pod(), 20 * SECOND + number * SECOND, 7, None, 3)
@@ -299,7 +303,9 @@ def test_an_ad_for_a_ladder_of_mpeg_ts(room):
         assert Path(f"{made}/sub/s{n}.vtt").read_text() == Path(f"{made}/sub/s{n}.ts").read_text() == "WEBVTT\n"
     lists = {it: Path(f"{made}/{it}/index.m3u8").read_text() for it in RENDITIONS}
     assert [line for line in lists["v0"].splitlines() if line.startswith("#EXTINF")] == ["#EXTINF:2,"] * 3 + ["#EXTINF:1.52,"]
-    assert lists["v0"] == lists["v1"] == lists["en"] == lists["sub"].replace(".vtt", ".ts")
+    assert lists["v0"] == lists["v1"] == lists["sub"].replace(".vtt", ".ts")
+    lasts = [float(line[8:-1]) for line in lists["en"].splitlines() if line.startswith("#EXTINF")]  # (whole frames, as many as there are)
+    assert len(lasts) == 4 and abs(sum(lasts) - frames_of_sound(f"{made}/en", 4) * 1024 / 48_000) < 1e-4 and all(abs(it - owed) < 0.04 for it, owed in zip(lasts, (2, 2, 2, 1.52)))
     assert sorted(os.listdir(f"{room.path}/out")) == ["ad"] and json.loads(Path(f"{made}/ad.json").read_text())["pieces"] == ["2", "2", "2", "1.52"]
 
 
@@ -337,7 +343,9 @@ def test_sound_apart_is_made_in_all_its_makings(room):
             assert frames_of_sound(to / name / "en", 10, to / name / "en" / section if section else None) == frames, (container, name)
             assert abs(made[name][-1] - (frames * 1024 / 48_000 - 20)) < 1e-6 and all(abs(it) < 0.08 for it in made[name]), (name, made)
             assert abs(json.loads((to / "ad.json").read_text())["lates"][name] - (frames - 938) * 1024 / 48_000) < 1e-6
-            assert all(os.path.samefile(to / name / one, to / one) for one in (f"v/s9.{ending}", "sub/s0.vtt")) and (to / name / "en" / "index.m3u8").read_text() == (to / "en" / "index.m3u8").read_text()
+            assert all(os.path.samefile(to / name / one, to / one) for one in (f"v/s9.{ending}", "sub/s0.vtt"))
+            lasts = [float(line[8:-1]) for line in (to / name / "en" / "index.m3u8").read_text().splitlines() if line.startswith("#EXTINF")]
+            assert len(lasts) == 10 and abs(sum(lasts) - frames * 1024 / 48_000) < 1e-4, (name, lasts)
         for name, frames in (("", 0), ("less-1", -1), ("more-1", 1), ("less-2", -2), ("more-2", 2)):  # (more frames are before the pictures by their timestamps)
             begins = [seen(to / name / one / f"s0.{ending}", to / name / one / section if section else None)[0][kind][0][0] for one, kind in (("v", "video"), ("en", "audio"))]
             assert abs(begins[0] - begins[1] - frames * 1024 / 48_000) < 0.001, (name, begins)
