@@ -92,7 +92,7 @@ def awaited(turn: Turn, known: Iterable[Break], end: int) -> dict[str, float]:
 
 def keep_earlier(turn: Turn, known: Iterable[Break], end: int) -> None:
     """Ads that were there earlier are taken for there once lists wait no longer for their look; the rest as in `awaited`."""
-    for name, until in awaited(turn, known, end).items():
+    for name, until in awaited(turn, known, end).items() if is_verified(turn) else ():
         it = turn.state.files[name]
         if it.was_there and turn.at >= until:
             turn.set(files={**turn.state.files, name: replace(it, is_there=True)})
