@@ -204,9 +204,9 @@ class Channel:
             if question.start is None:  # (a question by hand is of no break, and its pod isn't shown)
                 pod, _ = filling.balanced(pod, self.balance.over)
             else:
-                taken = ladder.cut_apart(question.replaced)
+                taken, cut = ladder.cut_apart(question.replaced), ladder.cut_apart(question.cuts)
                 self.balance.cut(taken - (ladder.cut_apart(question.shown) or 0) if taken is not None else None, ladder.piece // 2)
-                pod = self.balance.give(pod, question.start, ladder.of_pictures(question.counts), ladder.cut_apart(question.cuts), ladder.frame())
+                pod = self.balance.give(pod, question.start, ladder.of_pictures(question.counts), cut + ladder.shift if cut is not None else None, ladder.frame())
         return Pod(pod.ready, pod.ads, found.lacks + pod.lacks)
 
     def search(self, client: Asking, planned: int | None, until: float) -> Found:

@@ -405,6 +405,27 @@ def test_a_ladder_is_profiled(room):
     assert "rendition v: " in condition(room, "--profile", f"v={room.path}/none.m3u8", "w=x")[2]
 
 
+def test_a_ladder_has_how_much_later_sound_is_than_its_list_says(room):
+    """A coder of AAC puts a frame of 1,024 samples before the sound, and both lists say that their first segment begins at one instant. So sound is that much earlier."""
+    ffmpeg("-f", "lavfi", "-i", "testsrc2=s=96x54:r=25", "-f", "lavfi", "-i", "sine=r=48000", "-t", "9", "-c:v", "libx264", "-preset", "veryfast", "-g", "50", "-sc_threshold", "0", "-pix_fmt", "yuv420p", "-bf", "0", "-c:a", "aac",
+           f"{room.path}/film.mp4")
+    wraps = (1 << 33) / 90_000
+    for container, offset, earlier in (("mpegts", 100, 1024 / 48_000), ("mpegts", wraps - 1.41, 1024 / 48_000), ("fmp4", 100, 1024 / 48_000)):
+        for name in "va":
+            ffmpeg("-i", f"{room.path}/film.mp4", "-map", f"0:{name}", "-c", "copy", "-output_ts_offset", f"{offset:.6f}", "-f", "hls", "-hls_time", "2", "-hls_list_size", "0", "-hls_segment_type", container,
+                   "-hls_segment_options", "movflags=+frag_discont" if container == "fmp4" else "mpegts_copyts=0", "-hls_fmp4_init_filename", f"{name}.mp4", f"{room.path}/{name}.m3u8")
+            for number, time in ((0, 0), (1, 2)):  # (the second instant is that of a packager that rounds)
+                text = Path(f"{room.path}/{name}.m3u8").read_text()
+                room.write(f"{name}{number}.m3u8", text.replace("#EXTINF", f"#EXT-X-PROGRAM-DATE-TIME:2026-12-01T12:00:0{time}.000Z\n#EXTINF", 1))
+        status, out, err = condition(room, "--profile", f"v={room.path}/v0.m3u8", f"a={room.path}/a0.m3u8")
+        assert status == 0 and abs(json.loads(out)["shift"] + earlier) < 0.0015, (container, offset, out, err)
+        assert abs(ladders.ladder_of(json.loads(out)).shift / SECOND + earlier) < 0.0015
+        none = condition(room, "--profile", f"v={room.path}/v0.m3u8", f"a={room.path}/a1.m3u8"), condition(room, "--profile", f"v={room.path}/v.m3u8", f"a={room.path}/a0.m3u8")
+        assert [json.loads(it[1])["shift"] for it in none] == [0, 0], none  # (2 s are no coder's, and without instants nobody knows)
+    same = [ladders.ladder_of({**json.loads(out), "shift": it}) for it in (0, -0.02)]
+    assert same[0].key() == same[1].key() and same[0].is_like(same[1])
+
+
 def encrypted(room, name, seconds=8, vector="00000000000000000000000000000005"):
     """A programme of segments of 2 s under AES-128, and its key: its list."""
     Path(f"{room.path}/{name}.key").write_bytes(bytes(range(16)))
