@@ -52,12 +52,13 @@ class Balance:
 
     def give(self, pod: Pod, start: int, count: int | None, cut: int | None, frame: int) -> Pod:
         """The `pod` for a break that begins at `start` with those makings by which sound stays nearest to pictures. A `count` of pods that were decided were shown
-        before it, and sound is `cut` so much later than pictures, if that is known. If that is more than a `frame` of the sound, it is cut so where the break ends, too.
-        If no more were shown than when the last pod was given, whose break is long over, nobody has seen that one: it doesn't count."""
+        before it, and sound is `cut` so much later than pictures, if that is known. Where the break ends, half as much is expected: anything from there to a frame away may
+        be. If it is over 5/4 of a `frame` of the sound (a list's instants are rounded), it is cut so where the break ends, too. If no more were shown than when the last pod was given, whose break is long over, nobody has seen that one: it doesn't count."""
         if self.last is not None and self.last.number == count and start - self.last.end >= LONG:
             self.over -= self.last.over
-        by = self.over + (cut if cut is not None and abs(cut) <= frame else 0)
-        found, over = balanced(pod, by)
+        begin = cut if cut is not None and 4 * abs(cut) <= 5 * frame else 0
+        by = self.over + begin
+        found, over = balanced(pod, by, begin // 2)
         self.last = Last(over - by, start + pod.length(), count) if count is not None else None
         self.over += over - by
         return found

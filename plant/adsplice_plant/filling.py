@@ -132,12 +132,14 @@ def fill(found: Found, planned: int | None, ready_of: Callable[[Ad], Ready | str
     return it.pod
 
 
-def balanced(pod: Pod, by: int) -> tuple[Pod, int]:
+def balanced(pod: Pod, by: int, end: int = 0) -> tuple[Pod, int]:
     """The `pod` with that making of each ad by which sound stays nearest to pictures, within it and after it, and by how many nanoseconds sound comes later
-    than pictures after the pod. It would come later by `by` where the pod begins, in players that join each stream end to end."""
+    than pictures after the pod. It would come later by `by` where the pod begins, in players that join each stream end to end. Where the pod ends, the
+    programme's sound is expected to be cut later than its pictures by so much (`end`)."""
     found = []
-    for it in pod.ready:
-        one = min((it, *it.others), key=lambda that: (max(abs(by + that.late), abs(by + that.over())), abs(by + that.over())))
+    for place, it in enumerate(pod.ready, 1):
+        aim = by - (end if place == len(pod.ready) else 0)
+        one = min((it, *it.others), key=lambda that: (max(abs(by + that.late), abs(aim + that.over())), abs(aim + that.over())))
         found.append(one)
         by += one.over()
     return Pod(found, pod.ads, pod.lacks), by

@@ -149,7 +149,7 @@ def test_sound_is_within_45_ms_in_ads_and_after_them(room):
             for off in range(-7 * frame // 4, 7 * frame // 4 + 1, frame // 8):
                 for cut in range(-frame, frame + 1, frame // 4):
                     for told, most in ((cut, frame), (0, 7 * frame // 4)):
-                        pod, found = balanced(Pod([ad], [None]), off + told)
+                        pod, found = balanced(Pod([ad], [None]), off + told, told // 2)
                         within, after = off + cut + pod.ready[0].late, found - told + cut
                         assert abs(within) <= most + 2, (rate, length, off, cut, told, within)
                         for end in range(max(-frame, cut - frame), min(frame, cut + frame) + 1, frame // 4):

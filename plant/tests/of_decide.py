@@ -619,9 +619,9 @@ def test_the_makings_of_an_ad_are_given_by_what_breaks_take(room):
         rows = {} if more is None else {"ladder": [{"name": "v", "replaced": 4.0 * number, "cut": 0}, {"name": "en", "replaced": 4.0 * number + more, "cut": cut}, {"name": 3, "replaced": "x"}, 4]}
         uri = decide.ask(f"t{number}", planned=4.0, **rows)[1]["breaks"][0]["ads"][0]["segments"][0]["uri"]
         return uri.partition("-4000/")[2].removesuffix("{}/s0.ts")
-    frame = 1024 / 48_000
-    # the ad so far left a half frame over; if sound is cut a frame later than the pictures, two frames less bring it where they are
-    assert (folder(90, 0, frame), folder(91, -frame)) == ("less-2/", "")
+    more = 1.2 * 1024 / 48_000
+    # the ad so far left a half frame over; if sound is cut 1.2 frames later than the pictures, two frames less bring it nearest
+    assert (folder(90, 0, more), folder(91, -more)) == ("less-2/", "")
     seen = [folder(n) for n in range(12)]
     for n in range(9):
         decide.ask(f"hand{n}", planned=4.0, start=None)
