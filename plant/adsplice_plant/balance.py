@@ -39,8 +39,8 @@ class Balance:
     last: Last | None = None
 
     def cut(self, now: int | None, most: int) -> None:
-        """Pods have taken more of the sound than of the pictures by `now`, and shown less by their files; none if that isn't known. A step of over `most` counts for nothing: a rendition
-        lags behind within a break. If the next question is near it, it begins to count from there: the feed has begun anew."""
+        """Pods have taken more of the sound than of the pictures by `now`, and shown less by their files; none if that isn't known. A step of over `most`
+        counts for nothing: a rendition lags behind within a break. If the next question is near it, it begins to count from there: the feed has begun anew."""
         if now is None:
             return
         if self.cut_before is not None and abs(now - self.cut_before) <= most:
@@ -51,9 +51,10 @@ class Balance:
         self.cut_last = now
 
     def give(self, pod: Pod, start: int, count: int | None, cut: int | None, frame: int) -> Pod:
-        """The `pod` for a break that begins at `start` with those makings by which sound stays nearest to pictures. A `count` of pods that were decided were shown
-        before it, and sound is `cut` so much later than pictures, if that is known. Where the break ends, half as much is expected: anything from there to a frame away may
-        be. If it is over 5/4 of a `frame` of the sound (a list's instants are rounded), it is cut so where the break ends, too. If no more were shown than when the last pod was given, whose break is long over, nobody has seen that one: it doesn't count."""
+        """The `pod` for a break that begins at `start` with those makings by which sound stays nearest to pictures. A `count` of pods that were decided were
+        shown before it, and sound is `cut` so much later than pictures, if that is known. Where the break ends, half as much is expected: it may be a frame
+        more or less. If it is over 5/4 of a `frame` of the sound (a list's instants are rounded), it is cut so where the break ends, too. If no more were
+        shown than when the last pod was given, whose break is long over, nobody has seen that one: it doesn't count."""
         if self.last is not None and self.last.number == count and start - self.last.end >= LONG:
             self.over -= self.last.over
         begin = cut if cut is not None and 4 * abs(cut) <= 5 * frame else 0
