@@ -21,6 +21,7 @@ from .breaks import Break, shown
 from .decisions import DAY, over_bound
 from .events import Ask
 from .pauses import Pauses
+from .reckoning import Sums
 from .settings import FOLDER, PLACE
 from .traits import Traits
 from .web import Answer, Client
@@ -81,11 +82,12 @@ def question_of(channel: str, renditions: list[str], target: int, one: Break, la
             "name": one.name, "upid": one.upid, "number": one.part or None, "of": one.parts or None, "target": target, "renditions": renditions, "ladder": ladder}
 
 
-def rendition_of(name: str, traits: Traits, piece: int, replaced: int | None) -> dict[str, Any]:
-    """What a question says of the rendition called `name`: its `traits`, how long a `piece` is, and how much of it was `replaced`, in nanoseconds; null
-    what isn't known."""
+def rendition_of(name: str, traits: Traits, piece: int, sums: Sums | None, cut: int | None) -> dict[str, Any]:
+    """What a question says of the rendition called `name`: its `traits`, how long a `piece` is, the `sums` of its breaks that are over, and how long after the
+    break's start it is `cut`, in nanoseconds; null what isn't known."""
+    seconds = {"segment": piece or None, "replaced": sums and sums.replaced, "shown": sums and sums.shown, "cut": cut}
     return {"name": name, "kind": traits.kind or None, "codecs": traits.codecs or None, "size": traits.size or None,
-            "segment": piece / playlist.SECOND if piece else None, "replaced": replaced / playlist.SECOND if replaced is not None else None}
+            **{key: it / playlist.SECOND if it is not None else None for key, it in seconds.items()}, "decided": sums and sums.decided}
 
 
 def decision_of(body: bytes, name: str) -> tuple[dict[str, Any] | None, str]:
@@ -124,13 +126,14 @@ class Asker:
     without a name for a channel by itself). A list waits for `hold` seconds at most. `tell`: prints a line. `is_decided`: whether there is a
     decision on a break in each folder. `answered` is called with the ID of a break once its answer is in the folders, and `given_up` if none
     comes any more. `traits`: those of the renditions, by their names. `note` is called with the ID of a break, what became of its question (one of
-    ANSWERS), and why it has no decision by that."""
+    ANSWERS), and why it has no decision by that. `has_begun`: whether a break has begun in a rendition, so that its answer is late."""
 
     def __init__(self, name: str, ask: str, hold: float, client: Client, folders: Mapping[str, Path], tell: Tell, is_decided: Callable[[str], bool],
                  answered: Callable[[str], None], given_up: Callable[[str], None], traits: Mapping[str, Traits] | None = None,
-                 note: Callable[[str, str, str], None] = lambda *_: None) -> None:
+                 note: Callable[[str, str, str], None] = lambda *_: None, has_begun: Callable[[str], bool] = lambda _: False) -> None:
         self.name, self.ask_at, self.hold, self.client, self.folders, self.tell = name, ask, hold, client, folders, tell
         self.is_decided, self.answered, self.given_up, self.traits, self.note = is_decided, answered, given_up, traits or {}, note
+        self.has_begun = has_begun
         self.open: list[Question] = []
         self.begun: list[float] = []  # when those of the last minute were begun
         self.told_at = float("-inf")  # when it was told last that there are too many
@@ -142,10 +145,10 @@ class Asker:
         """The names of the programme's renditions; none for a channel by itself."""
         return [it for it in self.folders if it]
 
-    def ladder(self, it: Ask) -> list[dict[str, Any]]:
-        """What a question says of each rendition, as `it` has that of their channels."""
-        channels = {name: f"{self.name}-{name}" if name else self.name for name in self.folders}
-        return [rendition_of(name, self.traits.get(name, Traits()), it.pieces.get(channel, 0), it.replaced.get(channel)) for name, channel in channels.items()]
+    def ladder(self, it: Ask, one: Break) -> list[dict[str, Any]]:
+        """What a question about the break `one` says of each rendition, as `it` has that of their channels."""
+        channels, cuts = {name: f"{self.name}-{name}" if name else self.name for name in self.folders}, it.cuts.get(one.id, {})
+        return [rendition_of(name, self.traits.get(name, Traits()), it.pieces.get(channel, 0), it.sums.get(channel), cuts.get(channel)) for name, channel in channels.items()]
 
     def longest(self, target: int | None) -> float:
         """The seconds that a list of this `target` duration may wait: below half of it."""
@@ -192,7 +195,7 @@ class Asker:
     def begin(self, one: Break, it: Ask, now: float, is_again: bool) -> None:
         """Asks for the break `one`. `is_again`: the feed ended while its question was open."""
         lead = max(0.0, (one.start - it.end) / playlist.SECOND)
-        said = question_of(self.name, self.renditions(), it.target or 0, one, self.ladder(it))
+        said = question_of(self.name, self.renditions(), it.target or 0, one, self.ladder(it, one))
         bare = frozenset(name for name in self.folders if name and f"{self.name}-{name}" in it.bare)
         question = Question(one.id, one.start, said, now, now + max(self.longest(it.target), lead), bare)
         self.open.append(question)
@@ -285,7 +288,7 @@ class Asker:
         took = time.monotonic() - question.asked
         who, status = f"ask/{shown(question.id)}", str(answer.status or "-")
         if answer.status == 204:
-            self.tell(who, status, "Late" if time.monotonic() > question.until else "-", f"no ads, after {took:.2f} s")
+            self.tell(who, status, "-", f"no ads, after {took:.2f} s")
             self.note(question.id, "NoAds", "the ad server has no ads for it")
             return False
         if answer.status != 200:
@@ -298,26 +301,27 @@ class Asker:
             self.tell(who, status, "Wrong", f"the answer isn't taken: {text}")
             self.note(question.id, "Wrong", f"the ad server's answer isn't taken: {text}")
             return False
-        if why := self.put(question, decision):
+        why, is_late = self.put(question, decision)
+        if why:
             self.tell(who, status, "Unkept", f"{why}; the answer is lost")
             self.note(question.id, "Unkept", f"its decision couldn't be written ({why})")
             return False
-        is_late = time.monotonic() > question.until
         self.tell(who, status, "Late" if is_late else "-", f"answered after {took:.2f} s{text}")
         self.note(question.id, "Late" if is_late else "Answered", "")
         return True
 
-    def put(self, question: Question, decision: dict[str, Any]) -> str:
+    def put(self, question: Question, decision: dict[str, Any]) -> tuple[str, bool]:
         """Writes the `decision` that answers the `question` into the folders, as soon as there is room for it; why it couldn't be within LASTS, empty if
-        it could."""
-        pauses, is_told = Pauses(0.2, 2.0), False
+        it could, and whether its break had begun before."""
+        pauses, is_told, is_late = Pauses(0.2, 2.0), False, self.has_begun(question.id)
         while why := self.write(question, decision):
             if not is_told:
                 self.tell(f"ask/{shown(question.id)}", "200", "Unkept", f"{why}; the answer waits until it can be written")
             is_told, pause = True, pauses.next()
             if time.monotonic() + pause > question.until + LASTS or self.ending.wait(pause):
                 break
-        return why
+            is_late = self.has_begun(question.id)
+        return why, is_late
 
     def write(self, question: Question, decision: dict[str, Any]) -> str:
         """Writes the `decision` that answers the `question` into the folders; why it couldn't, empty if it could."""

@@ -1,8 +1,8 @@
 """By how much a channel's sound has become longer than its pictures at all its breaks: players that join each stream end to end are off by so much.
 
-A break takes up to a frame more of the programme's sound than of its pictures, or less, which is known afterwards. What the last breaks took on average
-is expected of it, up to a quarter of a frame. A pod brings what is off then within half a frame. So it is off by at most that, the quarter, and
-the frame that the break takes, together: whatever breaks take, by a frame and three quarters.
+Where a break begins, sound may be cut up to a frame beside the pictures, which the question says. Where it ends, too, which is known afterwards. The makings
+of a pod's ads bring what is off by then within three quarters of a frame, in the ads and at their end. So after the break it is off by at most a frame and
+three quarters. In its ads it is off by a frame at most, and by as much as after it if the question doesn't say where sound is cut.
 """
 from __future__ import annotations
 
@@ -15,59 +15,53 @@ from .filling import Pod, balanced
 from .playlist import SECOND
 from .whole_files import write_aside
 
-MOST_CUTS = 8  # breaks of which the average counts
 LONG = 60 * SECOND  # after its end a break's run is over in all playlists, also if the next break is asked for before it begins
 
 
 class Last(NamedTuple):
     """The pod that was given last: by how many nanoseconds its sound was longer (`over`), the instant at which its break ends, in nanoseconds from 1970,
-    and how many nanoseconds of the pictures pods had `replaced` before."""
+    and how many pods were shown before of those that were decided (`number`)."""
 
     over: int
     end: int
-    replaced: int
+    number: int
 
 
 @dataclass
 class Balance:
     """By how many nanoseconds a channel's sound has become longer than its pictures at all breaks together (`over`). `cut_before`: by how many pods had
-    taken more of the sound, as the last question said that counts; `cut_last`: the same of the last question. `last`: the pod that was given last.
-    `cuts`: how much more of the sound the last breaks took, the newest one last."""
+    taken more of the sound, and shown less, as the last question said that counts; `cut_last`: the same of the last question. `last`: the pod that was
+    given last."""
 
     over: int = 0
     cut_before: int | None = None
     cut_last: int | None = None
     last: Last | None = None
-    cuts: tuple[int, ...] = ()
 
     def cut(self, now: int | None, most: int) -> None:
-        """Pods have taken more of the sound than of the pictures by `now`; none if that isn't known. A step of over `most` counts for nothing: a rendition
-        lags behind within a break. If the next question is near it, it begins to count from there: the feed has begun anew."""
+        """Pods have taken more of the sound than of the pictures by `now`, and shown less by their files; none if that isn't known. A step of over `most`
+        counts for nothing: a rendition lags behind within a break. If the next question is near it, it begins to count from there: the feed has begun anew."""
         if now is None:
             return
         if self.cut_before is not None and abs(now - self.cut_before) <= most:
             self.over -= now - self.cut_before
-            self.cuts = (*self.cuts, now - self.cut_before)[-MOST_CUTS:]
             self.cut_before = now
         elif self.cut_before is None or self.cut_last is not None and abs(now - self.cut_last) <= most:
             self.cut_before = now
         self.cut_last = now
 
-    def expected(self, frame: int) -> int:
-        """How much more of the sound the next break is to take by what the last ones did, in nanoseconds, of which a `frame` lasts so many."""
-        return max(-frame // 4, min(frame // 4, sum(self.cuts) // max(1, len(self.cuts))))
-
-    def give(self, pod: Pod, start: int, replaced: int | None, frame: int) -> Pod:
-        """The `pod` for a break that begins at `start` with those makings by which sound stays nearest to pictures; pods have `replaced` so much of the pictures,
-        if that is known. A `frame` of the sound lasts so many nanoseconds. If no more is replaced than when the last pod was given, whose break is long over, nobody has seen that
-        one: it doesn't count."""
-        if self.last is not None and self.last.replaced == replaced and start - self.last.end >= LONG:
+    def give(self, pod: Pod, start: int, count: int | None, cut: int | None, frame: int) -> Pod:
+        """The `pod` for a break that begins at `start` with those makings by which sound stays nearest to pictures. A `count` of pods that were decided were
+        shown before it, and sound is `cut` so much later than pictures, if that is known. Where the break ends, half as much is expected: it may be a frame
+        more or less. If it is over 5/4 of a `frame` of the sound (a list's instants are rounded), it is cut so where the break ends, too. If no more were
+        shown than when the last pod was given, whose break is long over, nobody has seen that one: it doesn't count."""
+        if self.last is not None and self.last.number == count and start - self.last.end >= LONG:
             self.over -= self.last.over
-        expected = self.expected(frame)
-        found, over = balanced(pod, self.over - expected)
-        over += expected
-        self.last = Last(over - self.over, start + pod.length(), replaced) if replaced is not None else None
-        self.over = over
+        begin = cut if cut is not None and 4 * abs(cut) <= 5 * frame else 0
+        by = self.over + begin
+        found, over = balanced(pod, by, begin // 2)
+        self.last = Last(over - by, start + pod.length(), count) if count is not None else None
+        self.over += over - by
         return found
 
 
@@ -76,8 +70,8 @@ def read(path: Path) -> Balance:
     try:
         said = json.loads(path.read_bytes())
         before, newest = (None if said[name] is None else int(said[name]) for name in ("cut_before", "cut_last"))
-        over, end, replaced = said["last"] or (0, 0, 0)
-        return Balance(int(said["over"]), before, newest, Last(int(over), int(end), int(replaced)) if said["last"] else None, tuple(int(it) for it in said["cuts"])[-MOST_CUTS:])
+        over, end, number = said["last"] or (0, 0, 0)
+        return Balance(int(said["over"]), before, newest, Last(int(over), int(end), int(number)) if said["last"] else None)
     except (OSError, ValueError, TypeError, KeyError, RecursionError):
         return Balance()
 

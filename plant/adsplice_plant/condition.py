@@ -88,7 +88,7 @@ def profile(children: Children, said: argparse.Namespace) -> int:
     """Prints the ladder that the words `said` name, at which `children` look; answers the exit status."""
     from .web import Client  # (the one use of it: a file needs no library)
     prober = probing.Prober(children, Client(10, said.redirects), said.redirects)
-    words.write_out(json.dumps(ladders.said_of(prober.ladder(places_of(prober, said.profile, said.names), {})), indent=1) + "\n")
+    words.write_out(json.dumps(ladders.file_of(prober.ladder(places_of(prober, said.profile, said.names), {})), indent=1) + "\n")
     return 0
 
 

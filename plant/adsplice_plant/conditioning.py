@@ -3,6 +3,7 @@ from __future__ import annotations
 
 from dataclasses import dataclass
 from fractions import Fraction
+from math import ceil
 from pathlib import Path
 
 from .ladders import FMP4, SOUND, TEXT, VIDEO, Ladder, Picture, Rendition, Sound
@@ -14,6 +15,7 @@ NEAR = SECOND // 2  # how far a file's length may be from the stated one, which 
 FORMATS = "mov,mp4,m4a,3gp,3g2,mj2,matroska,webm,mpegts,mpeg,avi,mxf,flv,asf"
 READS = ("-protocol_whitelist", "file", "-format_whitelist", FORMATS)
 DELAYED = {"aac": 1}  # frames that an encoder puts before the sound: so many of an ad's own go, and the rest is where it was
+LEAD = 1  # seconds at which an ad's timestamps begin: sound of a making with more frames begins before its pictures
 FRAMES = 2  # that a making's sound has more or less than come nearest to the pictures
 LIST, PIECE, SECTION = "index.m3u8", "s{n}", "init.mp4"
 
@@ -59,6 +61,12 @@ def cut_of(length: int, piece: int, rate: Fraction) -> Cut:
 def frames_of(length: int, sound: Sound, more: int = 0) -> int:
     """How many frames of `sound` an ad of `length` nanoseconds gets: as many as come nearest to it, and so many `more`."""
     return max(2, round(Fraction(length * sound.rate, SECOND * SOUND[sound.codec])) + more)
+
+
+def frames_over(length: int, sound: Sound) -> int:
+    """How many frames of `sound` an ad of `length` nanoseconds gets within its pictures' segments: as many as last at least as long. (Chromium passes over the gap
+    after sound that ends before its pictures, so all of the sound after it would come earlier.)"""
+    return max(2, ceil(Fraction(length * sound.rate, SECOND * SOUND[sound.codec])))
 
 
 def over_of(length: int, sound: Sound, more: int = 0) -> int:
@@ -108,12 +116,13 @@ def output_of(it: Rendition, has_sound: bool, cut: Cut, to: Path, ending: str, l
     if it.picture:
         found += ["-map", "0:v:0", *picture_words(it.picture, cut, threads)]
     if it.sound:
-        found += ["-map", "0:a:0" if has_sound else "1:a:0", *sound_words(it.sound, cut, loudness if has_sound else None, more)]
+        frames = frames_of(cut.length(), it.sound) if it.is_sound() else frames_over(cut.length(), it.sound)
+        found += ["-map", "0:a:0" if has_sound else "1:a:0", *sound_words(it.sound, frames, loudness if has_sound else None, more)]
     time = spacing_of(it, cut, more) / SECOND
-    found += ["-map_metadata", "-1", "-map_chapters", "-1", "-sn", "-dn", "-f", "hls", "-hls_time", f"{float(time):.6f}", "-hls_list_size", "0",
+    found += ["-map_metadata", "-1", "-map_chapters", "-1", "-sn", "-dn", "-output_ts_offset", str(LEAD), "-f", "hls", "-hls_time", f"{float(time):.6f}", "-hls_list_size", "0",
               "-hls_playlist_type", "vod"]
     if it.container == FMP4:
-        found += ["-hls_segment_type", "fmp4", "-hls_fmp4_init_filename", SECTION]
+        found += ["-hls_segment_type", "fmp4", "-hls_fmp4_init_filename", SECTION, "-hls_segment_options", "movflags=+frag_discont"]  # (timestamps are in each piece, not in an edit list)
     else:
         found += ["-muxdelay", "0", "-muxpreload", "0"]
     return [*found, "-hls_segment_filename", f"{to}/s%d.{ending}", f"{to}/{LIST}"]
@@ -146,13 +155,12 @@ def picture_words(it: Picture, cut: Cut, threads: int) -> list[str]:
     return [*found, "-sc_threshold", "0", "-forced-idr", "1"]
 
 
-def sound_words(it: Sound, cut: Cut, loudness: float | None, more: int) -> list[str]:
-    """The words for sound like `it` of the length of `cut`, of the `loudness` in LUFS if there is one (EBU R 128), with so many frames `more` than come
-    nearest."""
+def sound_words(it: Sound, frames: int, loudness: float | None, more: int) -> list[str]:
+    """The words for sound like `it` of so many `frames`, of the `loudness` in LUFS if there is one (EBU R 128), with so many frames `more` before them."""
     louder = f"loudnorm=I={loudness:g}:TP=-1:LRA=11," if loudness is not None else ""
     layout = {1: "mono", 2: "stereo", 6: "5.1", 8: "7.1"}.get(it.channels, f"{it.channels}c")
-    begin, end = (count * SOUND[it.codec] for count in (DELAYED.get(it.codec, 0), frames_of(cut.length(), it, more)))
-    chain = f"{louder}aresample={it.rate}:async=1:first_pts=0,aformat=channel_layouts={layout},apad,atrim=start_sample={begin}:end_sample={end}"
+    begin, end = (LEAD * it.rate + count * SOUND[it.codec] for count in (DELAYED.get(it.codec, 0) - more, frames))
+    chain = f"{louder}aresample={it.rate}:async=1:first_pts=0,aformat=channel_layouts={layout},adelay={LEAD * it.rate}S:all=1,apad,atrim=start_sample={begin}:end_sample={end},asetpts=PTS-{LEAD}/TB"
     return ["-af", chain, "-ar", str(it.rate), "-ac", str(it.channels), "-c:a", it.codec, "-b:a", str(it.bits)]
 
 

@@ -92,9 +92,9 @@ class Decider:
         """What looks at the ladder of `section`."""
         channel, before = self.channels[section.name], [""]
 
-        def changed(ladder: object) -> None:
+        def changed(is_other: bool) -> None:
             channel.ladder = watch.ladder
-            if watch.ladder is not None:
+            if is_other and watch.ladder is not None:
                 self.tell(section.name, "ladder", "-", "-", text_of(watch.ladder))
 
         def trouble(text: str) -> None:

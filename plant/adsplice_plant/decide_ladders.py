@@ -4,6 +4,7 @@ from __future__ import annotations
 import json
 import threading
 from collections.abc import Callable, Mapping
+from dataclasses import replace
 from pathlib import Path
 
 from . import config_file, ladders, masters, probing
@@ -44,11 +45,11 @@ def seen_by(name: str, feed: Path, prober: probing.Prober) -> Ladder:
 
 
 class Watch:
-    """Looks at the ladder of the channel of `section` now and then. `changed` is called with it if it is another one than before; what was seen is
+    """Looks at the ladder of the channel of `section` now and then. `changed` is called once one was seen, with whether it is another one than before; what was seen is
     kept in a folder of the `shop`, so that a program that is started anew knows it at once. ffprobe runs as one of `children`. `tell` is called with what
     keeps it from that, or with an empty text."""
 
-    def __init__(self, section: Section, shop: Shop, children: Children, changed: Callable[[Ladder], None], tell: Callable[[str], None]) -> None:
+    def __init__(self, section: Section, shop: Shop, children: Children, changed: Callable[[bool], None], tell: Callable[[str], None]) -> None:
         self.section, self.shop, self.changed, self.tell = section, shop, changed, tell
         self.prober = probing.Prober(children, Client(ASKED, True), True)
         self.path = shop.keep / "ladders" / f"{section.name}.json"
@@ -67,17 +68,17 @@ class Watch:
             return
 
     def take(self, found: Ladder) -> None:
-        """The ladder is `found`; the channel is told if that is another one than before."""
-        if self.ladder is None or not self.ladder.is_like(found):
-            self.ladder = found
-            self.changed(found)
+        """The ladder is `found`; the channel is told whether that is another one than before."""
+        before = self.ladder if self.ladder is not None and self.ladder.is_like(found) else None
+        self.ladder = found if before is None else replace(before, shift=found.shift)
+        self.changed(before is None)
 
     def look(self, feed: Path) -> None:
         """Looks at the lists that the feed's settings in the file `feed` name; raises Fault, or OSError if what was seen can't be kept."""
         found = seen_by(self.section.name, feed, self.prober)
         if self.ladder is None or not self.ladder.is_like(found):
             self.path.parent.mkdir(parents=True, exist_ok=True)
-            write_aside(self.path, json.dumps(ladders.said_of(found)).encode() + b"\n")
+            write_aside(self.path, json.dumps(ladders.file_of(found)).encode() + b"\n")
         self.take(found)
 
     def run(self, ending: threading.Event) -> None:

@@ -40,8 +40,8 @@ Tell = Callable[[str, str, str, str], None]  # who, status, word, text
 @dataclass(frozen=True)
 class Question:
     """A question of the feed: the `channel`, the break's `id`, its `start` in nanoseconds from 1970 (none if it isn't said), how long it is `planned`
-    in nanoseconds, the longest segment (`target`, in seconds), the names of the renditions, and how many nanoseconds of each one pods have `replaced`, as
-    far as that is said."""
+    in nanoseconds, the longest segment (`target`, in seconds), the names of the renditions; and of each one, as far as that is said, how many nanoseconds
+    pods have `replaced`, how many they have `shown`, how many of them were decided (`counts`), and how many nanoseconds after its start it is cut (`cuts`)."""
 
     channel: str
     id: str
@@ -50,6 +50,9 @@ class Question:
     target: int
     renditions: tuple[str, ...]
     replaced: Mapping[str, int] = field(default_factory=dict)
+    shown: Mapping[str, int] = field(default_factory=dict)
+    counts: Mapping[str, int] = field(default_factory=dict)
+    cuts: Mapping[str, int] = field(default_factory=dict)
 
     def key(self) -> str:
         """By what it is known if it comes again."""
@@ -66,16 +69,17 @@ def question_of(body: bytes) -> Question:
         if not is_right or not isinstance(renditions, list) or not all(isinstance(it, str) for it in renditions):
             raise ValueError("a member has another type")
         start = playlist.read_instant(str(said.get("start") or ""))
-        return Question(channel, id_, start, filling.planned_of(said.get("planned")), target, tuple(renditions), replaced_of(said.get("ladder")))
+        return Question(channel, id_, start, filling.planned_of(said.get("planned")), target, tuple(renditions), *(said_of(said.get("ladder"), it) for it in ("replaced", "shown", "decided", "cut")))
     except (ValueError, KeyError, TypeError, AttributeError, RecursionError) as fault:
         raise ValueError(f"it isn't a question of adsplice-feed: {type(fault).__name__} {str(fault)[:80]}") from None
 
 
-def replaced_of(ladder: object) -> dict[str, int]:
-    """How many nanoseconds of each rendition pods have replaced, by what a question says of its `ladder`; of a rendition of which it says none nothing."""
+def said_of(ladder: object, member: str) -> dict[str, int]:
+    """What a question's `ladder` says of each rendition by this `member`, in thousand millionths of it, as nanoseconds are of seconds; of a rendition of
+    which it says none nothing."""
     rows = [it for it in ladder if isinstance(it, dict)] if isinstance(ladder, list) else []
-    said = [(it.get("name"), it.get("replaced")) for it in rows]
-    return {name: round(it * SECOND) for name, it in said if isinstance(name, str) and isinstance(it, (int, float)) and 0 <= it < 1e9}
+    said = [(it.get("name"), it.get(member)) for it in rows]
+    return {name: round(it * SECOND) for name, it in said if isinstance(name, str) and isinstance(it, (int, float)) and abs(it) < 1e9}
 
 
 @dataclass
@@ -200,8 +204,9 @@ class Channel:
             if question.start is None:  # (a question by hand is of no break, and its pod isn't shown)
                 pod, _ = filling.balanced(pod, self.balance.over)
             else:
-                self.balance.cut(ladder.cut_apart(question.replaced), ladder.piece // 2)
-                pod = self.balance.give(pod, question.start, ladder.pictures_replaced(question.replaced), ladder.frame())
+                taken, cut = ladder.cut_apart(question.replaced), ladder.cut_apart(question.cuts)
+                self.balance.cut(taken - (ladder.cut_apart(question.shown) or 0) if taken is not None else None, ladder.piece // 2)
+                pod = self.balance.give(pod, question.start, ladder.of_pictures(question.counts), cut + ladder.shift if cut is not None else None, ladder.frame())
         return Pod(pod.ready, pod.ads, found.lacks + pod.lacks)
 
     def search(self, client: Asking, planned: int | None, until: float) -> Found:

@@ -11,6 +11,7 @@ from typing import TYPE_CHECKING, NamedTuple
 
 from .breaks import Break
 from .packaged import PackagedList
+from .reckoning import Sums
 
 if TYPE_CHECKING:
     from .presence import Named
@@ -112,11 +113,12 @@ class AskedInVain(NamedTuple):
 
 class Looked(NamedTuple):
     """The ads of the decision file `name`, which had these `stamps`, were looked at: those URIs that are `absent` aren't there, each as its ad, the URI
-    and why."""
+    and why. `was_there`: the look goes on, and all of them were there when they were looked at earlier."""
 
     name: str
     stamps: Mapping[str, Stamp]
     absent: tuple[tuple[str, str, str], ...] = ()
+    was_there: bool = False
 
 
 class Ticked(NamedTuple):
@@ -159,14 +161,16 @@ class Send(NamedTuple):
 class Ask(NamedTuple):
     """The decisions of the breaks `known` are to be asked for, once each. `target`: the target duration in seconds; `end`: the instant at
     which the newest list ends; `pieces`: how long the segments of each channel are as a rule, in nanoseconds, by the channels' names; `bare`: the
-    channels whose segments have no initialisation section; `replaced`: the nanoseconds of each channel in whose place pods came, where that is known."""
+    channels whose segments have no initialisation section; `sums`: those of each channel's breaks that are over, where that is known;
+    `cuts`: of each break, by its ID, how many nanoseconds after its start each channel is cut, where that is known."""
 
     known: tuple[Break, ...]
     target: int
     end: int
     pieces: Mapping[str, int] = {}
     bare: frozenset[str] = frozenset()
-    replaced: Mapping[str, int] = {}
+    sums: Mapping[str, Sums] = {}
+    cuts: Mapping[str, Mapping[str, int]] = {}
 
 
 class Look(NamedTuple):

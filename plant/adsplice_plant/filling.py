@@ -18,7 +18,8 @@ MOST_SEGMENTS = 500  # of a pod: adsplice takes no more
 class Ready:
     """An ad that is made for the ladder: its `id`, the durations of its pieces in nanoseconds, the `uri` of a piece with {} for the rendition and
     {n} for its number, and the URI of its initialisation section, if it has one (`map`). `overs` says by how many nanoseconds its sound has become longer
-    than its pictures at the end of each piece; nothing if that isn't known. Its `others` are the other makings of it, which have other overs."""
+    than its pictures at the end of each piece; nothing if that isn't known. So many nanoseconds `late` is its sound within it, joined end to end. Its `others`
+    are the other makings of it, which have other overs."""
 
     id: str
     pieces: tuple[int, ...]
@@ -26,6 +27,7 @@ class Ready:
     map: str = ""
     overs: tuple[int, ...] = ()
     others: tuple[Ready, ...] = ()
+    late: int = 0
 
     def over(self) -> int:
         """By how many nanoseconds its sound lasts longer than its pictures."""
@@ -45,7 +47,7 @@ class Ready:
 
     def begin(self, count: int) -> Ready:
         """Its first pieces, `count` of them."""
-        return self if count == len(self.pieces) else Ready(self.id, self.pieces[:count], self.uri, self.map, self.overs[:count])
+        return self if count == len(self.pieces) else Ready(self.id, self.pieces[:count], self.uri, self.map, self.overs[:count], late=self.late)
 
     def said(self) -> dict[str, Any]:
         """It as a decision file has it."""
@@ -57,7 +59,7 @@ def ready_of(name: str, made: Made, at: str, rendition: str, has_section: bool) 
     """The ad called `name` that is `made`, and published `at` a URL, for the `rendition`, which `has_section` if it has an initialisation section: its nearest
     making, with the others."""
     places = {folder: "/".join(filter(None, (at, folder, rendition))) for folder in made.makings}
-    first, *others = [Ready(name, made.pieces, f"{place}/s{{n}}.{made.ending}", f"{place}/{SECTION}" if has_section else "", made.makings[folder])
+    first, *others = [Ready(name, made.pieces, f"{place}/s{{n}}.{made.ending}", f"{place}/{SECTION}" if has_section else "", made.makings[folder], late=made.lates.get(folder, 0))
                       for folder, place in places.items()]
     return replace(first, others=tuple(others))
 
@@ -130,12 +132,14 @@ def fill(found: Found, planned: int | None, ready_of: Callable[[Ad], Ready | str
     return it.pod
 
 
-def balanced(pod: Pod, by: int) -> tuple[Pod, int]:
-    """The `pod` with that making of each ad by which sound stays nearest to pictures, and by how many nanoseconds it is longer after it. Before it sound
-    was longer by `by` in all breaks together: players that join streams end to end would be off by so much."""
+def balanced(pod: Pod, by: int, end: int = 0) -> tuple[Pod, int]:
+    """The `pod` with that making of each ad by which sound stays nearest to pictures, within it and after it, and by how many nanoseconds sound comes later
+    than pictures after the pod. It would come later by `by` where the pod begins, in players that join each stream end to end. Where the pod ends, the
+    programme's sound is expected to be cut later than its pictures by so much (`end`)."""
     found = []
-    for it in pod.ready:
-        one = min((it, *it.others), key=lambda that: abs(by + that.over()))
+    for place, it in enumerate(pod.ready, 1):
+        aim = by - (end if place == len(pod.ready) else 0)
+        one = min((it, *it.others), key=lambda that: (max(abs(by + that.late), abs(aim + that.over())), abs(aim + that.over())))
         found.append(one)
         by += one.over()
     return Pod(found, pod.ads, pod.lacks), by

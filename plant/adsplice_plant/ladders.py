@@ -24,6 +24,7 @@ MOST_RENDITIONS = 64
 LEAST_BITS, USUAL_BITS, SOUND_BITS, CHANNEL_BITS = 50_000, 2_000_000, 128_000, 64_000  # bits in a second
 ALONE = "main"  # the folder of a channel by itself
 TAG = "#EXT-X-MAP:"
+WRAPS = (1 << 33) * SECOND // 90_000  # nanoseconds after which timestamps of MPEG-TS begin anew
 
 
 @dataclass(frozen=True)
@@ -63,10 +64,12 @@ class Rendition:
 
 @dataclass(frozen=True)
 class Ladder:
-    """A ladder: how long a segment lasts in nanoseconds (`piece`), and its renditions by their names."""
+    """A ladder: how long a segment lasts in nanoseconds (`piece`), and its renditions by their names. By its timestamps the sound that is apart is so many
+    nanoseconds later than its playlist says, beside the pictures (`shift`): a coder of AAC puts a frame before it, which many a playlist passes over."""
 
     piece: int
     renditions: Mapping[str, Rendition]
+    shift: int = 0
 
     def key(self) -> str:
         """By what it is known: a hash of all that its ads depend on."""
@@ -95,15 +98,15 @@ class Ladder:
         sound = self.sound_apart()
         return 0 if sound is None else SOUND[sound.codec] * SECOND // sound.rate
 
-    def pictures_replaced(self, replaced: Mapping[str, int]) -> int | None:
-        """How many nanoseconds of the pictures pods took, if so much was `replaced` of each rendition; none if there are no pictures, or that isn't known."""
-        return next((replaced.get(name) for name, it in self.renditions.items() if it.picture), None)
+    def of_pictures(self, said: Mapping[str, int]) -> int | None:
+        """What is `said` of the pictures, as it is of each rendition; none if there are no pictures, or that isn't known."""
+        return next((said.get(name) for name, it in self.renditions.items() if it.picture), None)
 
-    def cut_apart(self, replaced: Mapping[str, int]) -> int | None:
-        """By how many nanoseconds pods took more of the sound than of the pictures, if so much was `replaced` of each rendition. None if there is no
-        sound apart from pictures, or one of both isn't known."""
-        sound = next((replaced.get(name) for name, it in self.renditions.items() if it.is_sound()), None)
-        picture = self.pictures_replaced(replaced)
+    def cut_apart(self, said: Mapping[str, int]) -> int | None:
+        """By how much what is `said` of the sound is more than what is said of the pictures. None if there is no sound apart from pictures, or one of both
+        isn't known."""
+        sound = next((said.get(name) for name, it in self.renditions.items() if it.is_sound()), None)
+        picture = self.of_pictures(said)
         return None if sound is None or picture is None else sound - picture
 
     def rate(self) -> Fraction:
@@ -127,6 +130,17 @@ def said_of(it: Ladder) -> dict[str, Any]:
     return {"piece": seconds_text(it.piece), "renditions": renditions}
 
 
+def file_of(it: Ladder) -> dict[str, Any]:
+    """The ladder `it` as a file has it: with its shift, on which no ad depends."""
+    return {**said_of(it), "shift": it.shift / SECOND}
+
+
+def shift_of(found: int | None) -> int:
+    """By how many nanoseconds sound is later than its playlist says, if that was `found` by its timestamps, which begin anew after WRAPS; 0 if nobody knows."""
+    nearest = None if found is None else (found + WRAPS // 2) % WRAPS - WRAPS // 2
+    return nearest if nearest is not None and abs(nearest) < SECOND // 2 else 0
+
+
 def without_bits(said: Any) -> Any:
     """What JSON has `said` of a ladder, without its members `bits`."""
     return {name: without_bits(it) for name, it in said.items() if name != "bits"} if isinstance(said, dict) else said
@@ -135,11 +149,11 @@ def without_bits(said: Any) -> Any:
 def ladder_of(said: Any) -> Ladder:
     """The ladder that JSON has `said`; raises Fault if it says none that can be made."""
     try:
-        piece = read_duration(str(said["piece"])) or 0
+        piece, shift = read_duration(str(said["piece"])) or 0, float(said.get("shift", 0))
         found = {str(name): rendition_of(str(name), it) for name, it in said["renditions"].items()}
     except (KeyError, TypeError, ValueError, AttributeError, ZeroDivisionError) as fault:
         raise Fault(f"a ladder has `piece` and `renditions`, and this one doesn't read: {type(fault).__name__} {str(fault)[:100]}") from None
-    return checked(Ladder(piece, found))
+    return checked(Ladder(piece, found, round(shift * SECOND) if abs(shift) < 1 else 0))
 
 
 def rendition_of(name: str, said: Any) -> Rendition:

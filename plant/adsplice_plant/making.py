@@ -37,18 +37,21 @@ class Choices:
 class Made:
     """An ad that was made: its `id`, the durations of its pieces in nanoseconds, the ending of their names, whether there is an initialisation
     section, and its `makings` by their folders (conditioning.folder_of), the nearest one first. Of each it says by how many nanoseconds the sound that is
-    apart from pictures has become longer than these at the end of each piece; nothing if there is no such sound."""
+    apart from pictures has become longer than these at the end of each piece; nothing if there is no such sound. Joined end to end sound is so many nanoseconds
+    late within each making (`lates`)."""
 
     id: str
     pieces: tuple[int, ...] = field(default_factory=tuple)
     ending: str = "ts"
     has_map: bool = False
     makings: Mapping[str, tuple[int, ...]] = field(default_factory=lambda: {"": ()})
+    lates: Mapping[str, int] = field(default_factory=dict)
 
     def said(self) -> dict[str, Any]:
         """It as JSON has it."""
         makings = {name: [it / SECOND for it in its] for name, its in self.makings.items()}
-        return {"id": self.id, "seconds": seconds_text(sum(self.pieces)), "pieces": [seconds_text(it) for it in self.pieces], "ending": self.ending, "map": self.has_map, "makings": makings}
+        return {"id": self.id, "seconds": seconds_text(sum(self.pieces)), "pieces": [seconds_text(it) for it in self.pieces], "ending": self.ending, "map": self.has_map, "makings": makings,
+                "lates": {name: it / SECOND for name, it in self.lates.items()}}
 
 
 def read(folder: Path) -> Made | None:
@@ -57,8 +60,9 @@ def read(folder: Path) -> Made | None:
         said = json.loads((folder / FACTS).read_bytes())
         pieces = tuple(playlist.read_duration(str(it)) or 0 for it in said["pieces"])
         makings = {str(name): tuple(round(float(it) * SECOND) for it in its) for name, its in said["makings"].items()}
+        lates = {str(name): round(float(it) * SECOND) for name, it in said.get("lates", {}).items()}
         is_whole = pieces and all(pieces) and "" in makings and all(len(its) in (0, len(pieces)) for its in makings.values())
-        return Made(str(said["id"]), pieces, str(said["ending"]), bool(said["map"]), makings) if is_whole else None
+        return Made(str(said["id"]), pieces, str(said["ending"]), bool(said["map"]), makings, lates) if is_whole else None
     except (OSError, ValueError, KeyError, TypeError, AttributeError, OverflowError):
         return None
 
@@ -84,7 +88,7 @@ def make(children: Children, source: Path, ladder: Ladder, to: Path, name: str, 
         if status:
             raise Fault(f"ffmpeg ended with status {status}: {said.replace(str(source), 'its file').replace(str(aside), 'its folder') or 'it says nothing'}")
         overs = {folder_of(more): finish_making(aside, ladder, cut, more) for more in makings}
-        made = Made(name, cut.pieces(), conditioning.ending_of(ladder), ladder.has_map(), overs)
+        made = Made(name, cut.pieces(), conditioning.ending_of(ladder), ladder.has_map(), overs, {folder_of(more): more * ladder.frame() for more in makings})
         write_aside(aside / FACTS, json.dumps(made.said()).encode() + b"\n")
         put(aside, to)
     finally:
@@ -127,8 +131,8 @@ def name_also(source: str | Path, to: str | Path) -> None:
 
 
 def finish(folder: Path, it: Rendition, cut: Cut, ending: str, name: str, more: int) -> tuple[int, ...]:
-    """Holds what was made for the rendition `it`, called `name`, in the `folder` against the `cut`, and writes its list. Its pieces' names have this `ending`,
-    and its sound so many frames `more` than come nearest. Answers where its pieces end, in nanoseconds. Raises Fault."""
+    """Holds what was made for the rendition `it`, called `name`, in the `folder` against the `cut`, and writes its list, which says how long sound apart is.
+    Its pieces' names have this `ending`, and its sound so many frames `more` than come nearest. Answers where its pieces end, in nanoseconds. Raises Fault."""
     ends = cut.ends
     if it.container == TEXT:
         for n in range(len(cut.ends)):
@@ -136,7 +140,7 @@ def finish(folder: Path, it: Rendition, cut: Cut, ending: str, name: str, more: 
             name_also(folder / f"{PIECE.format(n=n)}.vtt", folder / f"{PIECE.format(n=n)}.{ending}")  # (one answer names the pieces of all renditions)
     else:
         ends = hold(folder, it, cut, ending, name, more)
-    (folder / LIST).write_text(conditioning.list_of(cut, "vtt" if it.container == TEXT else ending, it.container == FMP4), encoding="ascii")
+    (folder / LIST).write_text(conditioning.list_of(Cut(ends) if it.is_sound() else cut, "vtt" if it.container == TEXT else ending, it.container == FMP4), encoding="ascii")
     return ends
 
 

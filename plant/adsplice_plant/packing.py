@@ -17,7 +17,7 @@ from .growing import Growing
 from .numbers import Viewed
 from .packaged import DATE_RANGE, InitSection, Key, Keys, PackagedSegment
 from .pods import Pods, checked
-from .reckoning import Numbers, Reckoned, kept_break
+from .reckoning import Numbers, Reckoned, Sums, kept_break
 from .repair import Head, Lead, Repairer
 from .state import Standing
 
@@ -233,8 +233,8 @@ def reckoned_said(old: Reckoned | None, now: Reckoned | None) -> Said | None:
         return None
     newest, given, media, steps, _, entered = now.kept()
     said: Said = {"at": [newest, given, media, steps, entered, now.is_marked]}
-    if now.replaced != (old.replaced if old is not None else 0):
-        said["replaced"] = now.replaced
+    if now.sums != (old.sums if old is not None else Sums()):
+        said["sums"] = now.sums
     if now.run is not None:
         said["run"] = [now.run.id, now.run.lasted]
         if old is None or old.run is None or old.run.shape != now.run.shape:
@@ -253,8 +253,9 @@ def reckoned_of(old: Reckoned | None, said: Said | None) -> Reckoned | None:
     shape = said.get("shape", before)
     run = [said["run"][0], *shape, said["run"][1]] if "run" in said else None
     breaks = said["breaks"] if "breaks" in said else [kept_break(it) for it in old.breaks] if old is not None else []
-    replaced = int(said.get("replaced", old.replaced if old is not None else 0))
-    return replace(Reckoned.read([newest, given, media, steps, run, entered], breaks), is_marked=bool(is_marked), replaced=replaced)
+    earlier = {"sums": [said["replaced"], 0, 0]} if "replaced" in said else {}  # (an earlier feed kept no more)
+    replaced, shown, decided = (said | earlier).get("sums", old.sums if old is not None else Sums())
+    return replace(Reckoned.read([newest, given, media, steps, run, entered], breaks), is_marked=bool(is_marked), sums=Sums(int(replaced), int(shown), int(decided)))
 
 
 def of_viewed(old: Viewed, now: Viewed) -> Said:

@@ -77,24 +77,43 @@ def waits(turn: Turn, name: str, it: File) -> bool:
     return True
 
 
-def awaited(turn: Turn, known: Iterable[Break], end: int) -> list[float]:
-    """The moments until which lists that end at the instant `end` wait for looks: at the ads of those of the `known` breaks that begin before it."""
+def awaited(turn: Turn, known: Iterable[Break], end: int) -> dict[str, float]:
+    """The moments until which lists that end at the instant `end` wait for looks at decision files, by their names: at the ads of those of the `known` breaks that
+    begin before it."""
     first = next(iter(turn.state.renditions.values())).settings
     begun = {it.id for it in known if it.start < end}
-    found = []
-    for it in turn.state.files.values():
+    found = {}
+    for name, it in turn.state.files.items():
         if it.state is FileState.NEW and it.looked_at is not None and not it.is_there and not begun.isdisjoint(it.ids):
-            asked = [turn.state.asked[name] for name in it.ids if name in turn.state.asked]
-            found.append(max(it.looked_at + LEAST, *asked) if asked else it.looked_at + min(first.hold, SHARE * turn.target()))
-    return [it for it in found if it > turn.at]
+            asked = [turn.state.asked[id_] for id_ in it.ids if id_ in turn.state.asked]
+            found[name] = max(it.looked_at + LEAST, *asked) if asked else it.looked_at + min(first.hold, SHARE * turn.target())
+    return found
+
+
+def keep_earlier(turn: Turn, known: Iterable[Break], end: int) -> None:
+    """Ads that were there earlier are taken for there once lists wait no longer for their look; the rest as in `awaited`."""
+    for name, until in awaited(turn, known, end).items() if is_verified(turn) else ():
+        it = turn.state.files[name]
+        if it.was_there and turn.at >= until:
+            turn.set(files={**turn.state.files, name: replace(it, is_there=True)})
 
 
 def take(turn: Turn, event: Looked) -> None:
     """The ads of a decision file were looked at. One that was written anew since is looked at again."""
-    turn.set(waits_until=0.0)
     it = turn.state.files.get(event.name)
-    if it is None or it.looked_at is None or it.state is not FileState.NEW or dict(it.stamps) != dict(event.stamps):
-        return
+    if it is None or it.looked_at is None or dict(it.stamps) != dict(event.stamps):
+        turn.set(waits_until=0.0)
+    elif event.was_there:
+        turn.set(files={**turn.state.files, event.name: replace(it, was_there=True)})
+    elif it.state is FileState.GIVEN and it.was_there and event.absent:
+        turn.tell_decision(f"decisions/{event.name}", 0, "Absent", f"{told(event.absent)}; its breaks have it, since it was there before", is_again=True)
+    elif it.state is FileState.NEW:
+        end_look(turn, event, it)
+
+
+def end_look(turn: Turn, event: Looked, it: File) -> None:
+    """The look at the ads of the decision file `it`, which waits for it, has ended by the `event`."""
+    turn.set(waits_until=0.0)
     if event.absent:
         refuse(turn, event.name, it, event.absent)
     else:

@@ -6,7 +6,7 @@ import os
 import tempfile
 import urllib.parse
 from collections.abc import Mapping
-from dataclasses import dataclass
+from dataclasses import dataclass, replace
 from fractions import Fraction
 from pathlib import Path
 from typing import Any
@@ -111,6 +111,7 @@ class Prober:
         Raises Fault with the rendition that can't be looked at."""
         found: dict[str, Rendition] = {}
         pieces: dict[str, int] = {}
+        leads: dict[str, int] = {}
         for name, place in places.items():
             try:
                 body = self.body(place)
@@ -118,18 +119,22 @@ class Prober:
                     raise Fault(f"{place} is a master playlist; name its renditions, or let it be the one place")
                 listed = playlist.read(body)
                 pieces[name] = ladders.piece_of(listed)
-                found[name] = self.rendition(bases.get(name, place), body.decode("utf-8", "replace"), listed)
+                found[name], begins = self.rendition(bases.get(name, place), body.decode("utf-8", "replace"), listed)
+                if begins is not None and listed.segments[-1].begins is not None:
+                    leads[name] = begins - listed.segments[-1].begins
             except Fault as fault:
                 raise Fault(f"rendition {name}: {fault}") from None
         seen = [pieces[name] for name, it in found.items() if it.picture] or list(pieces.values())
-        return ladders.checked(Ladder(seen[0], found))
+        it = Ladder(seen[0], found)
+        return ladders.checked(replace(it, shift=ladders.shift_of(it.cut_apart(leads))))
 
-    def rendition(self, place: str, text: str, listed: Listed) -> Rendition:
-        """What the rendition is like whose list, by the file or the URL `place`, is `text`, and says `listed`; raises Fault."""
+    def rendition(self, place: str, text: str, listed: Listed) -> tuple[Rendition, int | None]:
+        """What the rendition is like whose list, by the file or the URL `place`, is `text`, and says `listed`; and at how many nanoseconds its newest segment begins by its
+        timestamps, if they say that. Raises Fault."""
         newest = listed.segments[-1]
         parts = urls.parts_of(newest.uri)
         if parts is not None and parts.path.lower().endswith(TEXTS):
-            return Rendition(TEXT)
+            return Rendition(TEXT), None
         section = [line for line in text.splitlines() if line.startswith(ladders.TAG)]
         key = self.key(place, text, newest.number, bool(section))
         data = b""
@@ -140,7 +145,9 @@ class Prober:
         begin, length = last_range(text)
         segment, size = self.part(place, newest.uri, begin, min(length or download.PIECE, download.PIECE))
         bits = int(Fraction((length or size) * 8 * SECOND, max(newest.duration, 1)))
-        return ladders.probed(self.streams(data + segment, key), FMP4 if section else TS, bits)
+        streams = self.streams(data + segment, key)
+        begins = next((it.get("start_time") for kind in ("video", "audio") for it in streams if it.get("codec_type") == kind), None)
+        return ladders.probed(streams, FMP4 if section else TS, bits), round(number(begins) * SECOND) if begins is not None else None
 
     def key(self, place: str, text: str, number: int, has_section: bool) -> Key | None:
         """What decrypts the newest segment of the list `text` at `place`, which has the media `number`; none if it is clear. `has_section`: it has an

@@ -23,7 +23,7 @@ from .repair import Repaired, Repairer, count_on
 from .replay import as_elsewhere, as_it_runs
 from .siblings import Reach, Sibling, Siblings, is_alike, number_after, numbering_of, pace_of, reach_of
 from .state import FileState, Rendition, Standing, State, Way
-from .traits import usual_length
+from .traits import cut_near, usual_length
 from .translator import Translator
 from .turn import Turn, history_of, window_of
 from .values import changed
@@ -237,6 +237,7 @@ def take_lists(turn: Turn) -> None:
     learn(turn, found)
     pass_over(turn, translator, found)
     listed = listed_ids(turn) | {name for it in found.values() for name in ranges.ids_in(it.found().date_ranges())}
+    presence.keep_earlier(turn, translator.breaks.known, max(end_of(it.found()) for it in found.values()))
     decided.give_files(turn, listed, False)
     if waits(turn, translator, found):
         for channel in found:
@@ -492,7 +493,7 @@ def waits(turn: Turn, translator: Translator, found: dict[str, Taken]) -> bool:
     first = next(iter(turn.state.renditions.values())).settings
     end = max((end_of(it.found()) for it in found.values()), default=0)
     known = translator.breaks.known
-    awaited = presence.awaited(turn, known, end) if first.verify else []
+    awaited = [it for it in presence.awaited(turn, known, end).values() if it > turn.at] if first.verify else []
     if first.ask:
         ask(turn, translator, found, end)
         awaited += [turn.state.asked[it.id] for it in known if it.start < end and turn.at < turn.state.asked.get(it.id, 0.0)
@@ -512,10 +513,11 @@ def ask(turn: Turn, translator: Translator, found: dict[str, Taken], end: int) -
     if new:
         listed = {name: found[name].found().segments if name in found else it.stands.repairer.last for name, it in turn.renditions()}
         bare = frozenset(name for name, segments in listed.items() if segments and segments[-1].section is None)
-        replaced = {name: reckoned.replaced for name, it in turn.renditions() if (reckoned := it.stands.viewed.reckoned) is not None}
+        sums = {name: reckoned.sums for name, it in turn.renditions() if (reckoned := it.stands.viewed.reckoned) is not None}
+        cuts = {one.id: {name: cut for name, it in listed.items() if (cut := cut_near(it, one.start)) is not None} for one in new}
         shift = turn.state.shift()  # (by the clock that viewers have)
         known = tuple(changed(it, start=it.start + shift, until=None if it.until is None else it.until + shift) for it in new)
-        turn.actions.append(Ask(known, target, end + shift, {name: usual_length(it) for name, it in listed.items()}, bare, replaced))
+        turn.actions.append(Ask(known, target, end + shift, {name: usual_length(it) for name, it in listed.items()}, bare, sums, cuts))
 
 
 def is_decided(turn: Turn, name: str) -> bool:

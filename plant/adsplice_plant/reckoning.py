@@ -8,7 +8,7 @@ from __future__ import annotations
 from collections.abc import Iterable, Mapping, Sequence
 from dataclasses import dataclass, replace
 from functools import lru_cache
-from typing import Any
+from typing import Any, NamedTuple
 
 from adsplice_rules import breaks as rules
 from adsplice_rules.breaks import Break
@@ -90,12 +90,25 @@ class Store:
         return None if ads is None else shape_of(ads)
 
 
+class Sums(NamedTuple):
+    """Of the runs that are over: the nanoseconds of the programme that were `replaced`, those of the pods that were `shown` in their place, and how many
+    of these pods were `decided`, and not the fallback."""
+
+    replaced: int = 0
+    shown: int = 0
+    decided: int = 0
+
+    def after(self, run: Run, is_decided: bool) -> Sums:
+        """The same once the `run` is over, too, whose pod `is_decided`."""
+        return Sums(self.replaced + run.lasted, self.shown + run.shape.total(), self.decided + is_decided)
+
+
 @dataclass(frozen=True)
 class Reckoned:
     """What adsplice has after the lists that it was given: the newest segment's media number (`newest`; none before the first list) and
     discontinuity number (`given`), as they were given; the numbers of the last segment that was written before the open run; that
     `run`; the known `breaks`, each with the first value of its attributes; the one that was `entered` last; whether one began or ended
-    in the newest list, or passed without a pod (`is_marked`); and the nanoseconds of the runs that are over (`replaced`)."""
+    in the newest list, or passed without a pod (`is_marked`); and the `sums` of the runs that are over."""
 
     newest: int | None = None
     given: int = 0
@@ -105,7 +118,7 @@ class Reckoned:
     breaks: tuple[Break, ...] = ()
     entered: str | None = None
     is_marked: bool = False
-    replaced: int = 0
+    sums: Sums = Sums()
 
     def end(self) -> Numbers:
         """The numbers of the last segment that was written."""
@@ -198,7 +211,7 @@ def known_after(before: Reckoned, lines: Iterable[str]) -> tuple[Break, ...]:
 def reckoned(before: Reckoned, new: Sequence[PackagedSegment], moment: Moment) -> tuple[Reckoned, dict[int, Numbers]]:
     """What adsplice has after a list whose segments `new` it wasn't given before; and for each of these that is written, or begins a run, the
     numbers with which a new channel has to begin there to go on, by its media number."""
-    run, entered, is_marked, over = before.run, before.entered, False, before.replaced
+    run, entered, is_marked, sums = before.run, before.entered, False, before.sums
     media, discontinuity, given = before.media, before.discontinuity, before.given
     begins: dict[int, Numbers] = {}
     if before.newest is None and new:
@@ -206,7 +219,8 @@ def reckoned(before: Reckoned, new: Sequence[PackagedSegment], moment: Moment) -
     for it in new:
         mark = run if moment.goes_on(run, it.begins) else moment.entered(it.begins, entered)
         if run is not None and mark is not run:  # (it is over, and its pod is written as a whole)
-            media, discontinuity, is_marked, over = media + run.shape.size(), discontinuity + len(run.shape.ads), True, over + run.lasted
+            media, discontinuity, is_marked = media + run.shape.size(), discontinuity + len(run.shape.ads), True
+            sums = sums.after(run, run.id in moment.store.pods)
         is_marked = is_marked or mark is not run or moment.begins(it.begins)
         if mark is None:
             media, discontinuity = media + 1, discontinuity + (it.discontinuity - given if run is None else 1)
@@ -215,4 +229,4 @@ def reckoned(before: Reckoned, new: Sequence[PackagedSegment], moment: Moment) -
             entered, begins[it.number] = mark.id, (media + 1, discontinuity)
         run, given = None if mark is None else replace(mark, lasted=mark.lasted + it.duration), it.discontinuity
     newest = new[-1].number if new else before.newest
-    return Reckoned(newest, given, media, discontinuity, run, moment.breaks, entered, is_marked, over), begins
+    return Reckoned(newest, given, media, discontinuity, run, moment.breaks, entered, is_marked, sums), begins

@@ -14,6 +14,7 @@ from collections.abc import Callable
 from . import following, playlist, programme, state
 from .asking import Asker
 from .breaks import TOLERANCE
+from .decided import begun_of
 from .events import Action, Answered, Ask, AskedInVain, Began, Event, FallbackRead, Find, Finish, FolderRead, Found, ListRead, Look, Note, Repaired, Send, SlateRead, Tell, Ticked
 from .events import Store as Keep
 from .fed import BETWEEN, Around, Fed, Limits
@@ -31,6 +32,7 @@ from .shared_log import Outrun
 from .state import FileState, State
 from .store import FolderStore, Store
 from .telling import Say, Telling, place_of
+from .turn import Turn
 from .web import Client
 
 LOOKS = 0.02  # seconds between two looks at the files while lists wait for an answer
@@ -105,7 +107,7 @@ class Feeding:
         subtitles_first = sorted(self.settings, key=lambda it: not it.empty_subtitles)  # (the others wait for no file of theirs)
         folders = {it.rendition(): it.decisions for it in subtitles_first if it.decisions is not None}
         return Asker(self.name, first.ask, first.hold, Client(self.limits.timeout, reach=Reach(frozenset({Url(first.ask).host()}))), folders, self.tell_asked, self.is_decided,
-                     self.look_soon, self.asked_in_vain, {it.rendition(): it.traits for it in self.settings}, self.note_asked)
+                     self.look_soon, self.asked_in_vain, {it.rendition(): it.traits for it in self.settings}, self.note_asked, self.is_begun)
 
     def looker_of(self, first: Settings) -> Looker:
         """Who looks whether ads are there, by the settings of the `first` channel: at public addresses, those of `networks`, and those of the hosts that a
@@ -130,6 +132,10 @@ class Feeding:
         """Whether every rendition, but for subtitles, has a decision file on the break `name` that wasn't refused."""
         files = [it for it in self.state.files.values() if name in it.ids and it.state in (FileState.NEW, FileState.GIVEN)]
         return all(any(channel in it.stamps for it in files) for channel, fed in self.channels.items() if not fed.settings.empty_subtitles)
+
+    def is_begun(self, name: str) -> bool:
+        """Whether the break `name` has begun in a list that was given."""
+        return bool(begun_of(Turn(self.state, 0.0, 0), [name]))
 
     # ---- its threads
 

@@ -118,7 +118,7 @@ class File:
     """The decision that the renditions have in files of one name: each channel's stamp and bytes, its `kind` (breaks, withdraw, fallback; empty
     if it doesn't say) and the IDs of its breaks. `listed` are those of them that were seen in a list, and `late` those that had begun when they
     were decided. `since`: when the first rendition had it; `entry`: of the log, by which it was given. `looked_at`: when a look at its ads was begun, if
-    one was; `is_there`: whether they are there by that."""
+    one was; `is_there`: whether they are there by that; `was_there`: whether they were by an earlier one."""
 
     stamps: Mapping[str, Stamp]
     bodies: Mapping[str, bytes]
@@ -131,6 +131,7 @@ class File:
     entry: int = 0
     looked_at: float | None = None
     is_there: bool = False
+    was_there: bool = False
 
 
 class Telling(NamedTuple):

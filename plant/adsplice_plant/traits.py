@@ -3,7 +3,7 @@ from __future__ import annotations
 
 import re
 from collections import Counter
-from collections.abc import Iterable
+from collections.abc import Iterable, Sequence
 from typing import NamedTuple
 
 from .packaged import PackagedSegment, attributes_of
@@ -64,6 +64,16 @@ def traits_of(lines: Iterable[tuple[str, str]]) -> dict[str, Traits]:
         for uri in uris:
             found[uri] = found[uri]._replace(codecs=found[uri].codecs or sounds.get(group, ""))
     return found
+
+
+def cut_near(segments: Sequence[PackagedSegment], instant: int) -> int | None:
+    """How many nanoseconds after the `instant` that one of the `segments` begins that is nearest to it, or the one that will come after them; none if that
+    is more than half a segment, or isn't known."""
+    begins = [it.begins for it in segments if it.begins is not None]
+    if segments and segments[-1].begins is not None:
+        begins.append(segments[-1].begins + segments[-1].duration)
+    found = min((it - instant for it in begins), key=abs, default=None)
+    return found if found is not None and 2 * abs(found) <= usual_length(segments) else None
 
 
 def usual_length(segments: Iterable[PackagedSegment]) -> int:

@@ -131,7 +131,7 @@ def test_a_break_is_asked_for_once_and_its_list_waits_for_the_answer(room):
     until(lambda: os.path.exists(f"{room.path}/1001.json"), 20, "the answer")
     assert server.questions == [{"channel": "news", "id": "1001", "start": instant(24), "planned": 10, "event": 1001, "type": 0x34,
                                  "name": "Provider Placement Opportunity Start", "upid": "000000002CA0A18A", "number": 1, "of": 1, "target": 2, "renditions": [],
-                                 "ladder": [{"name": "", "kind": None, "codecs": None, "size": None, "segment": 2, "replaced": 0}]}]
+                                 "ladder": [{"name": "", "kind": None, "codecs": None, "size": None, "segment": 2, "replaced": 0, "shown": 0, "decided": 0, "cut": 0}]}]
     with open(f"{room.path}/1001.json", encoding="utf-8") as file:
         assert file.read() == json.dumps(json.loads(decided(("1001", 5))))
     for newest in range(13, 20):
@@ -159,6 +159,17 @@ def test_a_slow_server_is_waited_for_as_long_as_a_list_may_wait(room):
     it.sees("ask/1001 200 Late: answered after ")
     it.sees("decisions/1001.json 204 ")
     assert os.path.exists(f"{room.path}/1001.json") and len(server.questions) == 1
+
+
+def test_an_answer_is_late_only_once_its_break_has_begun(room):
+    """The break is signalled with the segment before it, so the list that begins it comes later than the question's list would have waited."""
+    from dataclasses import replace
+    early = replace(STYLE, ranges=tuple(replace(one, shown=11) for one in STYLE.ranges))
+    it = Asking(room, room.server(Decider(pause=1.0)).url, hold=0.3, keep=Path(room.path) / "kept")
+    it.give(11, early)
+    it.sees("ask/1001 200 ")
+    it.give(12, early)
+    assert b"1001-0.ts" in it.controller.puts("decisions")[-1] and not [line for line in it.told if "Late" in line], it.told
 
 
 def test_a_list_waits_for_less_than_half_its_target_duration(room):
@@ -298,8 +309,8 @@ def test_a_question_has_what_each_rendition_is_like(room):
     it.channels = [replace(it.channels[0], traits=Traits("VIDEO", "avc1.640028", "1920x1080")), replace(it.channels[1], traits=Traits("AUDIO", "mp4a.40.2"))]
     it.begin()
     it.give(12)
-    assert server.questions[0]["ladder"] == [{"name": "hd", "kind": "VIDEO", "codecs": "avc1.640028", "size": "1920x1080", "segment": 2, "replaced": 0},
-                                             {"name": "en", "kind": "AUDIO", "codecs": "mp4a.40.2", "size": None, "segment": 2, "replaced": 0}]
+    assert server.questions[0]["ladder"] == [{"name": "hd", "kind": "VIDEO", "codecs": "avc1.640028", "size": "1920x1080", "segment": 2, "replaced": 0, "shown": 0, "decided": 0, "cut": 0},
+                                             {"name": "en", "kind": "AUDIO", "codecs": "mp4a.40.2", "size": None, "segment": 2, "replaced": 0, "shown": 0, "decided": 0, "cut": 0}]
 
 
 def long_sound(now):
@@ -314,20 +325,39 @@ def long_sound(now):
     return found
 
 
-def test_a_question_says_how_much_of_each_rendition_pods_have_replaced(room):
+def test_a_question_says_how_much_of_each_rendition_pods_have_replaced_and_where_it_is_cut(room):
     from adsplice_plant.events import AskedInVain, Began, FallbackRead, ListRead
     from of_slate import Steps
     it = Steps("v", "a", ask="http://127.0.0.1:1/decide", fallback="/nowhere/{}.json", slate=None)
     it.take(Began())
-    pod = json.dumps({"fallback": {"ads": [{"segments": [{"uri": f"http://ads.example/{n}.ts", "duration": "2"} for n in range(6)]}]}})
+    ads = {name: [{"segments": [{"uri": f"http://ads.example/{n}.ts", "duration": lasts} for n in range(6)]}] for name, lasts in (("v", "2"), ("a", "2.001"))}
     for name in ("v", "a"):
-        it.take(FallbackRead(f"news-{name}", pod.encode()))
+        it.take(FallbackRead(f"news-{name}", json.dumps({"fallback": {"ads": ads[name]}}).encode()))
     for now in range(8, 76, 2):
         for name, text in long_sound(now).items():
             it.take(ListRead(f"news-{name}", text.encode()))
-        for one in {one.id for asked in it.asked for one in asked.known}:
+        names = [one.id for asked in it.asked for one in asked.known]
+        for one in names[:1]:
             it.take(AskedInVain(one))
-    assert [[one.replaced[f"news-{name}"] for name in ("v", "a")] for one in it.asked] == [[0, 0], [12 * 10**9, 11_989_333 * 10**3], [24 * 10**9, 24 * 10**9]], [one.replaced for one in it.asked]
+        for one in names[1:]:  # (the later ones have pods of their own)
+            it.decide(json.dumps({"breaks": [{"id": one, "ads": ads["v"]}]}))
+    assert [[one.sums[f"news-{name}"].replaced for name in ("v", "a")] for one in it.asked] == [[0, 0], [12 * 10**9, 11_989_333 * 10**3], [24 * 10**9, 24 * 10**9]], [one.sums for one in it.asked]
+    # the fallback's sound is 6 ms longer, and the later pods are decided
+    assert [[[one.sums[f"news-{name}"].shown // 10**6, one.sums[f"news-{name}"].decided] for name in ("v", "a")] for one in it.asked] == [[[0, 0], [0, 0]], [[12_000, 0], [12_006, 0]], [[24_000, 1], [24_006, 1]]]
+    # sound has come to 12.010667, 32 and 52.010667 s by then
+    for asked, owed in zip(it.asked, (10_666_667, 0, 10_666_667), strict=True):
+        found = asked.cuts[asked.known[0].id]
+        assert found["news-v"] == 0 and abs(found["news-a"] - owed) <= 1_000_000, found
+
+
+def test_where_a_rendition_is_cut_near_an_instant(room):
+    """The list's end counts, for a segment will begin there; what is over half a segment away doesn't."""
+    from adsplice_plant.packaged import PackagedSegment
+    from adsplice_plant.traits import cut_near
+    its = [PackagedSegment("", n, 400, begins=400 * n + 7) for n in range(3)]
+    for instant, owed in ((0, 7), (400, 7), (410, -3), (206, -199), (208, 199), (1200, 7), (1207, 0), (1407, -200), (1408, None), (-193, 200), (-194, None)):
+        assert cut_near(its, instant) == owed, (instant, cut_near(its, instant))
+    assert cut_near([], 5) is cut_near([PackagedSegment("", 0, 400)], 5) is None
 
 
 def test_subtitles_beside_fragmented_mp4_get_no_initialisation_section(room):

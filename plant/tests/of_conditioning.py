@@ -91,6 +91,8 @@ def test_frames_and_makings_by_hand(room):
     for codec, rate, seconds, more, owed in (("aac", 48_000, 10, 0, 469), ("aac", 48_000, 10, -2, 467), ("aac", 44_100, 10, 0, 431), ("ac3", 48_000, 9, 0, 281)):  # (468.75, 430.66 and 281.25)
         sound = ladders.Sound(codec, rate, 2, 64_000)
         assert conditioning.frames_of(seconds * SECOND, sound, more) == owed, codec
+    for seconds, owed in ((10, 469), (5, 235), (8, 375), (15, 704)):  # (468.75, 234.375, 375 and 703.125: within the pictures' segments no gap is left)
+        assert conditioning.frames_over(seconds * SECOND, ladders.Sound("aac", 48_000, 2, 64_000)) == owed, seconds
     one = aac_apart()
     sound = one.sound_apart()
     # of 468.75 frames for 10 s, of 703.125 for 15 s, of 375 for 8 s, and of 187.5 for 4 s
@@ -107,7 +109,8 @@ def ready(length, one, name="ad"):
     from adsplice_plant.filling import ready_of
     from adsplice_plant.making import Made
     makings = {conditioning.folder_of(more): (conditioning.over_of(length, one.sound_apart(), more),) for more in conditioning.makings_of(length, one)}
-    return ready_of(name, Made(name, (length,), makings=makings), "http://ads.example", "{}", False)
+    lates = {conditioning.folder_of(more): more * one.frame() for more in conditioning.makings_of(length, one)}
+    return ready_of(name, Made(name, (length,), makings=makings, lates=lates), "http://ads.example", "{}", False)
 
 
 LENGTHS = (10 * SECOND, 15 * SECOND, 20 * SECOND, 30 * SECOND, 7_520_000_000, 8 * SECOND, 3_920_000_000, 4 * SECOND, 9_960_000_000, 6_006_000_000)
@@ -124,86 +127,117 @@ def test_sound_stays_with_pictures_over_a_thousand_breaks(room):
         before = by
         pod, by = balanced(Pod(list(its), [None] * len(its)), by)
         assert by - before == sum(it.over() for it in pod.ready) and [it.length() for it in pod.ready] == [it.length() for it in its]
-        assert abs(by) <= frame // 2 + 2, (number, by)  # (so much of rounding)
+        for it in pod.ready:
+            assert max(abs(before + it.late), abs(before + it.over())) <= 3 * frame // 4 + 2, (number, before, it.late, it.over())  # (so much of rounding)
+            before += it.over()
     from adsplice_plant.filling import Ready
     alone = Ready("alone", (10 * SECOND,), "u", "", (5_333_333,))
     assert balanced(Pod([alone], [None]), 0)[0].ready == [alone]
 
 
 @pure
-def test_sound_is_never_off_by_more_than_two_frames(room):
-    """A break takes up to a frame more of the sound than of the pictures, or less, and up to a quarter of one is expected. If sound is off by 7/4 of a frame at most,
-    the pod brings it within half a frame of what is expected. So it is off by 1/2 + 1/4 + 1 of a frame at most after the break, which is as much: 37.3 ms of 48 kHz,
-    and 40.6 ms of 44.1 kHz."""
+def test_sound_is_within_45_ms_in_ads_and_after_them(room):
+    """Where a break begins and ends, sound is cut up to a frame beside the pictures, and these two cuts are up to a frame apart. If sound was off by 7/4 of a frame
+    at most, it is so after the break, whatever the ad's length: 37.3 ms of 48 kHz, and 40.6 ms of 44.1 kHz. Within the ad it is off by a frame at most if the
+    question says where sound is cut, and else by 7/4."""
     from adsplice_plant.filling import Pod, balanced
     for rate in (48_000, 44_100):
         frame, one = 1024 * SECOND // rate, aac_apart(rate)
         assert 7 * frame // 4 < 45_000_000
         for length in (*LENGTHS, *(n * SECOND // 25 for n in range(25, 1000, 7)), *(n * 1001 * SECOND // 30_000 for n in range(30, 900, 7))):
-            for by in range(-2 * frame, 2 * frame, frame // 16):  # (7/4 and the quarter)
-                _, found = balanced(Pod([ready(length, one)], [None]), by)
-                assert abs(found) <= frame // 2 + 2, (rate, length, by, found)
+            ad = ready(length, one)
+            for off in range(-7 * frame // 4, 7 * frame // 4 + 1, frame // 8):
+                for cut in range(-frame, frame + 1, frame // 4):
+                    for told, most in ((cut, frame), (0, 7 * frame // 4)):
+                        pod, found = balanced(Pod([ad], [None]), off + told, told // 2)
+                        within, after = off + cut + pod.ready[0].late, found - told + cut
+                        assert abs(within) <= most + 2, (rate, length, off, cut, told, within)
+                        for end in range(max(-frame, cut - frame), min(frame, cut + frame) + 1, frame // 4):
+                            assert abs(after - end) <= 7 * frame // 4 + 2, (rate, length, off, cut, told, after, end)
 
 
-def farthest(cut, count=300, is_lost=False, lengths=(10 * SECOND, 10 * SECOND), rate=48_000):
-    """How far sound comes from pictures in so many breaks, of which `cut` says how much more of the sound each takes by how far sound is off. Questions tell of that
-    once the next break comes. `is_lost`: each tenth question comes while the sound's run isn't over, and once the feed has begun anew."""
+def farthest(cuts, count=300, is_lost=False, lengths=(10 * SECOND, 10 * SECOND), rate=48_000, is_told=True):
+    """How far sound comes from pictures within the ads of so many breaks, and after them. `cuts` says by how far sound is off where it is cut later than the
+    pictures as each break begins and ends. Questions tell of the first if `is_told`, and of both once the next break comes. `is_lost`: each tenth question comes while the
+    sound's run isn't over, and once the feed has begun anew."""
     from adsplice_plant.balance import Balance
     from adsplice_plant.filling import Pod
     one = aac_apart(rate)
     ads = [ready(it, one) for it in lengths]
-    balance, off, most, taken = Balance(), 0, 0, {"v": 500 * SECOND, "a": 480 * SECOND}
+    balance, off, within, after, taken = Balance(), 0, 0, 0, {"v": 500 * SECOND, "a": 480 * SECOND}
     for number in range(count):
         if is_lost and number == 100:
             taken = {"v": 0, "a": 0}
         late = 20 * SECOND if is_lost and number % 10 == 9 and number != 99 else 0
+        begin, end = cuts(off)
         balance.cut(one.cut_apart({**taken, "a": taken["a"] - late}), one.piece // 2)
-        pod = balance.give(Pod(list(ads), [None] * len(ads)), 300 * SECOND * number, one.pictures_replaced(taken), one.frame())
-        by = cut(off)
-        taken = {"v": taken["v"] + 20 * SECOND, "a": taken["a"] + 20 * SECOND + by}
-        off += sum(it.over() for it in pod.ready) - by
-        most = max(most, abs(off))
-    return most
+        pod = balance.give(Pod(list(ads), [None] * len(ads)), 300 * SECOND * number, number, one.cut_apart({"v": 0, "a": begin} if is_told else {}), one.frame())
+        taken = {"v": taken["v"] + 20 * SECOND, "a": taken["a"] + 20 * SECOND + end - begin}
+        off += begin
+        for ad in pod.ready:
+            within, off = max(within, abs(off + ad.late)), off + ad.over()
+        off -= end
+        after = max(after, abs(off))
+    return within, after
+
+
+def cut_in_frames(rng, frame):
+    """What cuts may be like: always the same, any, as packagers cut that take the first frame, the last or the nearest one, and what brings sound furthest from pictures."""
+    found = [lambda off, begin=begin, end=end: (begin * frame // 4, end * frame // 4) for begin in range(-4, 5) for end in range(-4, 5) if abs(begin - end) <= 4]
+    for low, high in ((0, frame), (-frame, 0), (-frame // 2, frame // 2)):
+        found.append(lambda off, low=low, high=high: (rng.randrange(low, high), rng.randrange(low, high)))
+    return [*found, lambda off: (0, -frame if off > 0 else frame), lambda off: (frame, 0) if off > 0 else (-frame, 0), lambda off: (frame, frame) if off > 0 else (-frame, -frame)]
 
 
 @pure
 def test_sound_that_is_cut_elsewhere_than_pictures_stays_with_them(room):
-    """Breaks take any part of a frame of the sound more than of the pictures, always the same or not, or what brings them furthest apart: these stay within 45 ms.
-    What the questions don't tell stays beside that: two breaks, and two that a new start of the feed loses."""
+    """Pods of one ad or of more stay within 45 ms over 300 breaks, in the ads and after them, and within a frame in the ads of questions that tell the cuts. A frame stays
+    beside that of what the questions don't tell: two breaks, and two that a new start of the feed loses."""
     import random
     rng, one = random.Random(6), aac_apart()
     for rate in (48_000, 44_100):
         frame = 1024 * SECOND // rate
-        for lengths in ((10 * SECOND, 10 * SECOND), (9_960_000_000, 10 * SECOND), (4 * SECOND,), (8 * SECOND,), (15 * SECOND,)):
-            cuts = [*(lambda off, n=n: n * frame // 8 for n in range(-8, 9)), *(lambda off, most=most: rng.randrange(-most, most) for most in (frame // 2, frame)), lambda off: -frame if off > 0 else frame]
-            found = [farthest(it, lengths=lengths, rate=rate) for it in cuts]
-            assert max(found) <= 7 * frame // 4 + 1000 < 45_000_000, (lengths, found)
-            assert max(found[4:13]) <= frame + 1000, (lengths, found)  # (each takes the same, up to a half frame)
-    assert farthest(lambda off: rng.randrange(-frame, frame), is_lost=True, rate=44_100) <= 5 * frame
+        for lengths in ((10 * SECOND, 10 * SECOND), (9_960_000_000, 10 * SECOND), (4 * SECOND,), (8 * SECOND,), (15 * SECOND,), (4 * SECOND, 6_006_000_000, 7_520_000_000)):
+            for cuts in cut_in_frames(rng, frame):
+                for is_told in (True, False):
+                    within, after = farthest(cuts, 100, lengths=lengths, rate=rate, is_told=is_told)
+                    assert after <= 7 * frame // 4 + 1000 < 45_000_000 and within <= (frame if is_told else 7 * frame // 4) + 1000, (rate, lengths, within, after, is_told)
+    assert max(farthest(lambda off: (rng.randrange(-frame // 2, frame // 2), rng.randrange(-frame // 2, frame // 2)), is_lost=True, rate=44_100)) <= 5 * frame
     assert one.cut_apart({"v": 0}) is one.cut_apart({}) is ladders.Ladder(2 * SECOND, {"v": one.renditions["v"]}).cut_apart({"v": 5}) is None
 
 
 @pure
+def test_sound_that_is_cut_a_fraction_of_a_segment_away_is_cut_so_at_both_ends(room):
+    """Sound whose segments begin 0.3 s after the pictures' is 0.3 s late in each break, and no making brings it nearer: after the breaks it is where it was."""
+    within, after = farthest(lambda off: (300_000_000, 300_000_000))
+    assert 270_000_000 < within < 330_000_000 and after <= 32_000_000, (within, after)
+
+
+@pure
 def test_a_pod_that_nobody_saw_does_not_count(room):
-    """Each third answer comes too late, so its break stays empty: the pictures' sum of what pods replaced stays as it is. Kept on disk, the balance is the same."""
+    """Each third answer comes too late, so its break stays empty, or the fallback fills it, whose sound is a frame longer: the number of decided pods stays as it is. Kept on disk,
+    the balance is the same."""
     from adsplice_plant import balance
     from adsplice_plant.filling import Pod
-    one, it, off, most, taken = aac_apart(), balance.Balance(), 0, 0, {"v": 0, "a": 0}
+    one, it, off, most, seen, taken, shown = aac_apart(), balance.Balance(), 0, 0, 0, {"v": 0, "a": 0}, {"v": 0, "a": 0}
     for number in range(300):
         balance.keep(Path(f"{room.path}/balance/film.json"), it)
         it = balance.read(Path(f"{room.path}/balance/film.json"))
-        it.cut(one.cut_apart(taken), one.piece // 2)
-        pod = it.give(Pod([ready(9_960_000_000, one), ready(10 * SECOND, one)], [None, None]), 300 * SECOND * number, one.pictures_replaced(taken), one.frame())
-        if number % 3 != 2:
+        it.cut(one.cut_apart(taken) - one.cut_apart(shown), one.piece // 2)
+        pod = it.give(Pod([ready(9_960_000_000, one), ready(10 * SECOND, one)], [None, None]), 300 * SECOND * number, seen, 0, one.frame())
+        if number % 3 != 2 or number % 2:
+            own = number % 3 != 2
             taken = {"v": taken["v"] + 20 * SECOND, "a": taken["a"] + 20 * SECOND + 10_666_667}
-            off += sum(ad.over() for ad in pod.ready) - 10_666_667
+            shown = {"v": shown["v"] + 20 * SECOND, "a": shown["a"] + 20 * SECOND + (0 if own else one.frame())}
+            off += (sum(ad.over() for ad in pod.ready) if own else one.frame()) - 10_666_667
+            seen += own
         most = max(most, abs(off))
-    assert most <= 32_000_000, most
+    assert most <= 7 * one.frame() // 4 + 1000, most
     for number, owed in ((10, 1), (100, 0)):  # (a break right after the last one is asked for while that one's run goes on; a minute after it the run is over)
         it = balance.Balance(5, last=balance.Last(5, 20 * SECOND, 7))
-        it.give(Pod(), 20 * SECOND + number * SECOND, 7, 3)
+        it.give(Pod(), 20 * SECOND + number * SECOND, 7, None, 3)
         assert it.over == 5 * owed, (number, it)
-    for text in ("", "[]", "{", '{"over": "x"}', '{"over": 1, "cut_before": [], "cut_last": 2, "last": 3}', '{"over": 1, "cut_before": 1, "cut_last": 2, "last": null, "cuts": 7}', "[" * 100_000):
+    for text in ("", "[]", "{", '{"over": "x"}', '{"over": 1, "cut_before": [], "cut_last": 2, "last": 3}', "[" * 100_000):
         Path(f"{room.path}/balance/film.json").write_text(text)
         assert balance.read(Path(f"{room.path}/balance/film.json")) == balance.Balance() == balance.read(Path(f"{room.path}/none")), text
 
@@ -264,14 +298,16 @@ def test_an_ad_for_a_ladder_of_mpeg_ts(room):
     pieces_of(f"{made}/v0", 4, [50, 50, 50, 38], "25/1")
     pieces_of(f"{made}/v1", 4, [100, 100, 100, 76], "50/1")
     # 7.52 s of 48 kHz are 352.5 frames of 1,024 samples
-    assert frames_of_sound(f"{made}/v0", 4) in (352, 353) and frames_of_sound(f"{made}/en", 4) in (352, 353)
+    assert frames_of_sound(f"{made}/v0", 4) == 353 and frames_of_sound(f"{made}/en", 4) in (352, 353)
     for n, begin in enumerate((0, 2, 4, 6)):
         first = seen(f"{made}/en/s{n}.ts")[0]["audio"][0][0] - seen(f"{made}/en/s0.ts")[0]["audio"][0][0]
         assert abs(first - begin) <= 1024 / 48_000, (n, first)
         assert Path(f"{made}/sub/s{n}.vtt").read_text() == Path(f"{made}/sub/s{n}.ts").read_text() == "WEBVTT\n"
     lists = {it: Path(f"{made}/{it}/index.m3u8").read_text() for it in RENDITIONS}
     assert [line for line in lists["v0"].splitlines() if line.startswith("#EXTINF")] == ["#EXTINF:2,"] * 3 + ["#EXTINF:1.52,"]
-    assert lists["v0"] == lists["v1"] == lists["en"] == lists["sub"].replace(".vtt", ".ts")
+    assert lists["v0"] == lists["v1"] == lists["sub"].replace(".vtt", ".ts")
+    lasts = [float(line[8:-1]) for line in lists["en"].splitlines() if line.startswith("#EXTINF")]  # (whole frames, as many as there are)
+    assert len(lasts) == 4 and abs(sum(lasts) - frames_of_sound(f"{made}/en", 4) * 1024 / 48_000) < 1e-4 and all(abs(it - owed) < 0.04 for it, owed in zip(lasts, (2, 2, 2, 1.52)))
     assert sorted(os.listdir(f"{room.path}/out")) == ["ad"] and json.loads(Path(f"{made}/ad.json").read_text())["pieces"] == ["2", "2", "2", "1.52"]
 
 
@@ -308,20 +344,26 @@ def test_sound_apart_is_made_in_all_its_makings(room):
         for name, frames in (("", 938), ("less-1", 937), ("more-1", 939), ("less-2", 936), ("more-2", 940)):
             assert frames_of_sound(to / name / "en", 10, to / name / "en" / section if section else None) == frames, (container, name)
             assert abs(made[name][-1] - (frames * 1024 / 48_000 - 20)) < 1e-6 and all(abs(it) < 0.08 for it in made[name]), (name, made)
-            assert all(os.path.samefile(to / name / one, to / one) for one in (f"v/s9.{ending}", "sub/s0.vtt")) and (to / name / "en" / "index.m3u8").read_text() == (to / "en" / "index.m3u8").read_text()
-        begins = [seen(to / one / f"s0.{ending}", to / one / section if section else None)[0][kind][0][0] for one, kind in (("v", "video"), ("en", "audio"))]
-        assert abs(begins[0] - begins[1]) < 0.001, begins
+            assert abs(json.loads((to / "ad.json").read_text())["lates"][name] - (frames - 938) * 1024 / 48_000) < 1e-6
+            assert all(os.path.samefile(to / name / one, to / one) for one in (f"v/s9.{ending}", "sub/s0.vtt"))
+            lasts = [float(line[8:-1]) for line in (to / name / "en" / "index.m3u8").read_text().splitlines() if line.startswith("#EXTINF")]
+            assert len(lasts) == 10 and abs(sum(lasts) - frames * 1024 / 48_000) < 1e-4, (name, lasts)
+        for name, frames in (("", 0), ("less-1", -1), ("more-1", 1), ("less-2", -2), ("more-2", 2)):  # (more frames are before the pictures by their timestamps)
+            begins = [seen(to / name / one / f"s0.{ending}", to / name / one / section if section else None)[0][kind][0][0] for one, kind in (("v", "video"), ("en", "audio"))]
+            assert abs(begins[0] - begins[1] - frames * 1024 / 48_000) < 0.001, (name, begins)
 
 
 def test_an_ad_s_sound_is_where_its_pictures_are(room):
-    """The coder's own frame stands in place of the first one of the ad: a tone that begins after 1 s is heard after 1 s."""
+    """The coder's own frame stands in place of the first one of the ad: a tone that begins after 1 s is heard after 1 s. In a making with frames more or less it is
+    heard so much later or earlier by a player that joins streams end to end."""
     path = f"{room.path}/ad.mp4"
     ffmpeg("-f", "lavfi", "-i", "testsrc2=s=64x36:r=25", "-f", "lavfi", "-i", "aevalsrc='if(gte(t,1),sin(2*PI*880*t),0)':s=48000", "-t", "4", "-c:v", "libx264", "-preset", "ultrafast", "-c:a", "pcm_s16le", "-f", "mov", path)
     assert condition(room, path, "--ladder", ladder(room, {"v": RENDITIONS["v1"], "en": RENDITIONS["en"]}), "--to", f"{room.path}/ad")[0] == 0
-    sound = subprocess.run(["ffmpeg", "-nostdin", "-v", "error", "-i", f"{room.path}/ad/en/s0.ts", "-ac", "1", "-f", "s16le", "-"], capture_output=True, check=True).stdout
-    samples = memoryview(sound).cast("h")
-    first = next(n for n, it in enumerate(samples) if abs(it) > 3000)
-    assert abs(first - 48_000) < 240, first  # (5 ms)
+    for name, frames in (("", 0), ("less-2", -2), ("less-1", -1), ("more-1", 1), ("more-2", 2)):
+        sound = subprocess.run(["ffmpeg", "-nostdin", "-v", "error", "-i", f"{room.path}/ad/{name}/en/s0.ts", "-ac", "1", "-f", "s16le", "-"], capture_output=True, check=True).stdout
+        samples = memoryview(sound).cast("h")
+        first = next(n for n, it in enumerate(samples) if abs(it) > 3000)
+        assert abs(first - 48_000 - 1024 * frames) < 240, (name, first)  # (5 ms)
 
 
 def test_an_ad_without_sound_is_silent_and_one_without_pictures_is_refused(room):
@@ -363,6 +405,27 @@ def test_a_ladder_is_profiled(room):
     one = json.loads(out)["renditions"]["main"]
     assert (status, one["container"], one["picture"]["rate"], one["picture"]["profile"]) == (0, "fmp4", "30000/1001", "main"), (err, one)
     assert "rendition v: " in condition(room, "--profile", f"v={room.path}/none.m3u8", "w=x")[2]
+
+
+def test_a_ladder_has_how_much_later_sound_is_than_its_list_says(room):
+    """A coder of AAC puts a frame of 1,024 samples before the sound, and both lists say that their first segment begins at one instant. So sound is that much earlier."""
+    ffmpeg("-f", "lavfi", "-i", "testsrc2=s=96x54:r=25", "-f", "lavfi", "-i", "sine=r=48000", "-t", "9", "-c:v", "libx264", "-preset", "veryfast", "-g", "50", "-sc_threshold", "0", "-pix_fmt", "yuv420p", "-bf", "0", "-c:a", "aac",
+           f"{room.path}/film.mp4")
+    wraps = (1 << 33) / 90_000
+    for container, offset, earlier in (("mpegts", 100, 1024 / 48_000), ("mpegts", wraps - 1.41, 1024 / 48_000), ("fmp4", 100, 1024 / 48_000)):
+        for name in "va":
+            ffmpeg("-i", f"{room.path}/film.mp4", "-map", f"0:{name}", "-c", "copy", "-output_ts_offset", f"{offset:.6f}", "-f", "hls", "-hls_time", "2", "-hls_list_size", "0", "-hls_segment_type", container,
+                   "-hls_segment_options", "movflags=+frag_discont" if container == "fmp4" else "mpegts_copyts=0", "-hls_fmp4_init_filename", f"{name}.mp4", f"{room.path}/{name}.m3u8")
+            for number, time in ((0, 0), (1, 2)):  # (the second instant is that of a packager that rounds)
+                text = Path(f"{room.path}/{name}.m3u8").read_text()
+                room.write(f"{name}{number}.m3u8", text.replace("#EXTINF", f"#EXT-X-PROGRAM-DATE-TIME:2026-12-01T12:00:0{time}.000Z\n#EXTINF", 1))
+        status, out, err = condition(room, "--profile", f"v={room.path}/v0.m3u8", f"a={room.path}/a0.m3u8")
+        assert status == 0 and abs(json.loads(out)["shift"] + earlier) < 0.0015, (container, offset, out, err)
+        assert abs(ladders.ladder_of(json.loads(out)).shift / SECOND + earlier) < 0.0015
+        none = condition(room, "--profile", f"v={room.path}/v0.m3u8", f"a={room.path}/a1.m3u8"), condition(room, "--profile", f"v={room.path}/v.m3u8", f"a={room.path}/a0.m3u8")
+        assert [json.loads(it[1])["shift"] for it in none] == [0, 0], none  # (2 s are no coder's, and without instants nobody knows)
+    same = [ladders.ladder_of({**json.loads(out), "shift": it}) for it in (0, -0.02)]
+    assert same[0].key() == same[1].key() and same[0].is_like(same[1])
 
 
 def encrypted(room, name, seconds=8, vector="00000000000000000000000000000005"):

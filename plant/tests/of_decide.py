@@ -615,10 +615,13 @@ def test_the_makings_of_an_ad_are_given_by_what_breaks_take(room):
     decide = Decide(room, settings(room, server))
     until(lambda: decide.pod(planned=4.0) == [("car", 2)], 90, "the ad")
 
-    def folder(number, more=None):
-        rows = {} if more is None else {"ladder": [{"name": "v", "replaced": 4.0 * number}, {"name": "en", "replaced": 4.0 * number + more}, {"name": 3, "replaced": "x"}, 4]}
+    def folder(number, more=None, cut=None):
+        rows = {} if more is None else {"ladder": [{"name": "v", "replaced": 4.0 * number, "cut": 0}, {"name": "en", "replaced": 4.0 * number + more, "cut": cut}, {"name": 3, "replaced": "x"}, 4]}
         uri = decide.ask(f"t{number}", planned=4.0, **rows)[1]["breaks"][0]["ads"][0]["segments"][0]["uri"]
         return uri.partition("-4000/")[2].removesuffix("{}/s0.ts")
+    more = 1.2 * 1024 / 48_000
+    # the ad so far left a half frame over; if sound is cut 1.2 frames later than the pictures, two frames less bring it nearest
+    assert (folder(90, 0, more), folder(91, -more)) == ("less-2/", "")
     seen = [folder(n) for n in range(12)]
     for n in range(9):
         decide.ask(f"hand{n}", planned=4.0, start=None)

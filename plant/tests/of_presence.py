@@ -104,6 +104,31 @@ def test_what_was_there_is_not_asked_for_again_for_a_while(room):
     assert seen(it, server.at("z.ts")) == {} and len(it.known) == 10_000
 
 
+def test_ads_that_were_found_earlier_are_told_at_once_and_looked_at_again(room):
+    """Within a day. Whoever gives no answer then is taken for there, and one who says that something is gone isn't. What was looked at just now is there at once,
+    also while two other looks go on."""
+    from adsplice_plant.events import Look
+    from adsplice_plant.presence import Named
+    server, it, posted = room.server(Ads()), looker(1.0), []
+    names = [Named(server.at(f"{n}.ts"), "CAR") for n in range(3)]
+
+    def look(named):
+        del posted[:]
+        it.begin(Look("b.json", {"news": (1, 2, 3)}, tuple(named)), posted.append)
+        until(lambda: posted and not posted[-1].was_there, 20, "the look")
+        return [(one.was_there, [uri.rpartition("/")[2] for _, uri, _ in one.absent]) for one in posted]
+    assert look(names) == [(False, [])]
+    with it.room, it.room:
+        assert look(names[:2]) == [(False, [])]
+    it.known = {uri: at - 400 for uri, at in it.known.items()}
+    server.gone = {"/1.ts"}
+    assert look(names) == [(True, []), (False, ["1.ts"])] and look(names[:2]) == [(False, ["1.ts"])], "what is gone isn't known any more"
+    it.known, server.pause = {uri: at - 400 for uri, at in it.known.items()}, 3.0
+    assert look([names[0], names[2]]) == [(True, []), (False, [])]
+    it.known = {uri: at - 90_000 for uri, at in it.known.items()}
+    assert look(names[:1]) == [(False, ["0.ts"])]
+
+
 def test_a_look_is_bounded_in_time_and_in_requests_at_a_time(room):
     slow = room.server(Ads(pause=0.4))
     begun = time.monotonic()
@@ -183,6 +208,37 @@ def test_a_list_waits_for_a_look_no_longer_than_hold(room):
     assert len(it.pushed) == 2 and not it.decided
     it.run(Looked("b.json", it.looks[0].stamps))
     assert not it.decided and lines(it)[-1][1] == "Late", lines(it)
+
+
+def test_a_decision_whose_ads_were_there_earlier_is_given_once_its_list_waits_no_longer(room):
+    """Its look lasts longer than the list waits. What wasn't there by that look is told, though the break has it."""
+    from adsplice_plant.events import Looked
+    it = stepped()
+    it.read(STYLE.listed(11).encode())
+    it.decide("b.json", pod("1001", "http://ads.example/").encode())
+    stamps = it.looks[0].stamps
+    it.run(Looked("b.json", {**stamps, "news": (1, 1, 1)}, was_there=True))  # (of another file of this name)
+    it.run(Looked("b.json", stamps, was_there=True))
+    assert not it.decided, "it is looked at yet"
+    it.read(STYLE.listed(12).encode())
+    it.wait(0.75)
+    assert len(it.pushed) == 1
+    it.wait(0.5)  # (a target duration of 2 s: 0.9 s)
+    assert len(it.decided) == 1 and len(it.pushed) == 2 and it.order[-2:] == ["decisions", "origin"] and not any(one[1] == "Late" for one in lines(it)), lines(it)
+    it.run(Looked("b.json", stamps, (("CAR", "http://ads.example/CAR-0.ts", "status 404"),)))
+    assert lines(it)[-1] == ("decisions/b.json", "Absent", "CAR: http://ads.example/CAR-0.ts isn't there: status 404; its breaks have it, since it was there before"), lines(it)
+    assert len(it.decided) == 1 and len(it.pushed) == 2
+
+
+def test_ads_that_were_there_earlier_and_are_not_now_are_not_given(room):
+    from adsplice_plant.events import Looked
+    it = stepped()
+    it.read(STYLE.listed(11).encode())
+    it.decide("b.json", pod("1001", "http://ads.example/").encode())
+    it.run(Looked("b.json", it.looks[0].stamps, was_there=True))
+    it.read(STYLE.listed(12).encode())
+    it.run(Looked("b.json", it.looks[0].stamps, (("CAR", "http://ads.example/CAR-0.ts", "status 404"),)))
+    assert len(it.pushed) == 2 and not it.decided and lines(it)[-1][1] == "Absent"
 
 
 def test_a_decision_whose_ads_are_not_there_is_not_given_and_the_fallback_is(room):

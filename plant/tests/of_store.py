@@ -27,7 +27,7 @@ from adsplice_plant.programme import step  # noqa: E402
 from adsplice_plant.ranges import ids_in, ranges_in, starts_in  # noqa: E402
 from adsplice_plant.playlist import SECOND  # noqa: E402
 from adsplice_plant.pods import Pods  # noqa: E402
-from adsplice_plant.reckoning import Reckoned, Run, Shape, Store  # noqa: E402
+from adsplice_plant.reckoning import Reckoned, Run, Shape, Store, Sums  # noqa: E402
 from adsplice_plant.packing import edit_of, edited  # noqa: E402
 from adsplice_plant.clocks import Stated  # noqa: E402
 from adsplice_plant.packaged import Shift  # noqa: E402
@@ -44,7 +44,7 @@ NEEDS = ()
 ENDS = {  # what ends with a process, by the class whose member it is
     "State": {"in_step_since", "waits_until", "longest_pause", "is_behind"}, "Rendition": {"settings", "came", "reach", "older", "came_at", "read_at", "given_at", "behind_since", "is_new", "seen_at", "is_other", "slate"},
     "Controller": {"sent", "trials", "retry_at", "is_unseen", "dropped_at"},
-    "Repairer": {"siblings", "accepted", "held_since", "shifts", "waited", "listed"}, "File": {"since", "looked_at", "is_there"}, "Breaks": {"told", "recent", "shift"}, "Decided": {"tells"}}
+    "Repairer": {"siblings", "accepted", "held_since", "shifts", "waited", "listed"}, "File": {"since", "looked_at", "is_there", "was_there"}, "Breaks": {"told", "recent", "shift"}, "Decided": {"tells"}}
 
 
 # ---- states, as a feed makes them
@@ -287,7 +287,7 @@ def crowded():
     repairer = Repairer(Choices(), Siblings([]))
     repairer.head, repairer.past, repairer.last, repairer.adds, repairer.owed, repairer.lead, repairer.front = Head(3, 2, "EVENT"), segments[:1], segments[1:], True, 2, Lead(107, 2, 9), 1
     repairer.grows, repairer.growing, repairer.clock, repairer.is_guessed, repairer.stated = True, segments[0], 7, True, {"b1": Stated(1, 2, 3, 4, 5, 6)}
-    reckoned = Reckoned(108, 16, 90, 5, Run("b1", Shape(((7, 8), (9,)), (True, False)), 5), (rules.Break("b1", 1, 2, 3, 4, "0x1", "0x2"),), "b1", True, 7)
+    reckoned = Reckoned(108, 16, 90, 5, Run("b1", Shape(((7, 8), (9,)), (True, False)), 5), (rules.Break("b1", 1, 2, 3, 4, "0x1", "0x2"),), "b1", True, Sums(7, 8, 9))
     viewed = Viewed(Growing([(107, (90, 5)), (108, (91, 5))]), (91, 5), True, {"b1": ("#EXT-X-DATERANGE:ID=b1", 108)}, reckoned)
     stands = Standing(repairer, viewed, 8, b"#EXTM3U\n", b"ahead\n", Pods("[]", {"b1": "[1]"}, {"b1": "[2]"}, {"b2"}), {"times": 3}, 7)
     renditions = {name: dataclasses.replace(it, stands=stands, before=dataclasses.replace(stands, entry=7), listed=frozenset({"b1"})) for name, it in one.renditions.items()}
