@@ -73,7 +73,7 @@ def put_right(found: PackagedList, known: dict[str, Stated]) -> dict[str, Stated
             line = line if one.end is not None else line.replace(f',END-DATE="{it.said.get("END-DATE")}"', "", 1)
         rows.append((place, at, line))
     if rows != found.own_ranges():
-        found.own, found.signals = rows, [line for _, _, line in rows]
+        found.own, found.signals, found.is_put_right = rows, [line for _, _, line in rows], True
     return stated
 
 

@@ -133,7 +133,7 @@ class PackagedList:
     that change what the list means, and of instants that don't read. `signals`: the EXT-X-DATERANGE lines in place of its own; none if
     it keeps those. `marked`: the places of the segments before which its own stand, once these were looked for; `pieces`: the text
     of each segment, once it was written; `timed`: when the segments begin, and `own`: its own EXT-X-DATERANGE lines, once that was asked for, or as they
-    are by the programme's clock. `has_clock`: whether its packager has another one. `shifts`: how much later viewers have what
+    are by the programme's clock. `has_clock`: whether its packager has another one; `is_put_right`: whether they are others then. `shifts`: how much later viewers have what
     comes after it."""
 
     version: int | None = None
@@ -153,6 +153,7 @@ class PackagedList:
     timed: Instants | None = None
     own: list[tuple[int, int, str]] | None = None
     has_clock: bool = False
+    is_put_right: bool = False
     shifts: tuple[Shift, ...] = ()
 
     def own_ranges(self) -> list[tuple[int, int, str]]:

@@ -100,7 +100,8 @@ class Translator:
         listed = [it for it in self.breaks.known if self.is_listed(it, line, rendition)]
         is_known = self.passes(ranges, listed, line, rendition)
         others = [it.line for it in ranges if not it.is_translated() and self.breaks.named(it.id) is None]
-        lines = None if is_known else others + [self.written(it, line, rendition) for it in listed]
+        own = found.date_ranges() if found.is_put_right else None
+        lines = own if is_known else others + [self.written(it, line, rendition) for it in listed]
         return Translated(lines, self.tellings(), [it for it in self.breaks.known if it.id not in before])
 
     def restate(self, ranges: list[DateRange], line: Timeline, fresh: int, rendition: str) -> None:
