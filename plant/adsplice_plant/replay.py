@@ -159,9 +159,10 @@ def without(line: str, names: tuple[str, ...]) -> str:
 
 
 def is_past(stands: Standing, line: str, place: int) -> bool:
-    """Whether the break of the EXT-X-DATERANGE `line`, which the newest list hasn't, was over for viewers before the `place` in the history."""
+    """Whether the break of the EXT-X-DATERANGE `line`, which the newest list hasn't, was over for viewers before the segment ahead of the `place` in the
+    history. (If it ended with the one at the place, adsplice may not know that yet.)"""
     run = run_of(stands, history_of(stands), line)
-    return run is not None and run.last is not None and run.last <= place
+    return run is not None and run.last is not None and run.last < place
 
 
 def as_it_began(line: str) -> str:
