@@ -233,7 +233,7 @@ def seen(*lists):
     """The kinds of breaches for viewers who see these lists of (number, URI, discontinuity number)."""
     packager, ads = Packager(CALM, "v"), Ads({("v", "b0", "0"): ["http://ads.example/v/b0/0/0-0.ts", "http://ads.example/v/b0/0/0-1.ts"]}, {("v", "b0", "0"): 12_000})
     packager.go_on(60_000)
-    viewers = Viewers(CALM, packager, {"v": packager}, ads, {uri: 0.0 for uri in packager.truth})
+    viewers = Viewers(CALM, packager, {"v": packager}, ads, {"v": {uri: 0.0 for uri in packager.truth}})
     for one in lists:
         viewers.see([Written(*it) for it in one], 1.0)
     return [it.kind for it in viewers.breaches]
@@ -250,7 +250,7 @@ def test_viewers_see_wrong_keys_and_sections(room):
     packager.go_on(60_000)
 
     def seen_with(*items):
-        viewers = Viewers(plan, packager, {"v": packager}, Ads(), dict.fromkeys(packager.truth, 0.0))
+        viewers = Viewers(plan, packager, {"v": packager}, Ads(), {"v": dict.fromkeys(packager.truth, 0.0)})
         for keys, init_section in items:
             viewers.see([Written(3, f"{BASE}/v/0/3.ts", 0, keys, init_section)], 1.0)
         return [it.kind for it in viewers.breaches]
