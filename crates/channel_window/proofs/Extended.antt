@@ -5,14 +5,13 @@ use Rattle.std.proofs.lemmas.Slice.Eq.{bytes_eq-Decides}
 use Rattle.playlist_model.specs.Segments.{Segment}
 use Rattle.playlist_model.specs.declared.in_common.InCommon.{InCommon}
 use Rattle.playlist_model.specs.LookBack.{or_earlier}
-use Rattle.pod_store.specs.Store.{Store, has_no_pod}
+use Rattle.pod_store.specs.Store.{Store}
 use Rattle.stitcher.specs.declared.marked.MarkedSegment.{MarkedSegment as Held}
 use Rattle.stitcher.specs.Making.{is_same_stitched_run}
 use Rattle.break_finder.specs.Entering.{entered}
 use Rattle.channel_spec.specs.Marking.{Moment, limits}
 use Rattle.channel_window.specs.Marking.{Hint, stays, next_id, mark_on, capped_in, length_before, length_after}
 use Rattle.channel_window.specs.Inner.Terms.{entered_after}
-use Rattle.channel_window.proofs.Marked.{none_entered, none_next}
 use Rattle.channel_window.specs.declared.marking.Run.{Run}
 use Rattle.channel_window.specs.Inner.Terms.{IsExtended, HasItsTerms, window_run_length_capped_at, window_segment_stays_in}
 
@@ -26,17 +25,6 @@ unmarked_on store duration run mark none is =
       entered = sym (ap (λ o. or_earlier o run.entered) here);
       so_far = sym (ap (λ o. capped_in store o (duration + length_before o run.before run.so_far)) here);
     }
-
--- ... where no break has a pod
-pub unmarked_here : (m : Moment) (run : Run) (s : Segment) (instant : Option ℤ) (common : InCommon) (again : ℕ) (mark : Option (List ℕ)) (here : Held) → has_no_pod m.store ≡ true → run.before ≡ None → mark ≡ None
-    → here ≡ record { segment = s; instant = instant; mark = mark; goes_on = false; in_common = common; again = again }
-    → here ≡ record { segment = s; instant = instant; mark = next_id m run.before run.entered instant; goes_on = is_same_stitched_run (next_id m run.before run.entered instant) run.before; in_common = common; again = again }
-unmarked_here m run s instant common again mark here none before unmarked is =
-    let next : next_id m run.before run.entered instant ≡ None = none_next m run.before run.entered instant before (none_entered (limits m run.entered) m.store m.breaks instant none) in
-    is
-    ∙ (ap (λ id. record { segment = s; instant = instant; mark = id; goes_on = false; in_common = common; again = again }) (unmarked ∙ sym next)
-    ∙ ap (λ goes. record { segment = s; instant = instant; mark = next_id m run.before run.entered instant; goes_on = goes; in_common = common; again = again })
-    (sym (ap (λ id. is_same_stitched_run id run.before) next ∙ ap (is_same_stitched_run None) before)))
 
 -- ---- a segment that stays in its run
 

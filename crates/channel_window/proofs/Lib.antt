@@ -14,6 +14,5 @@ pub mod ShownWith
 pub mod Sizes
 pub mod Starting
 pub mod TakenOver
-pub mod Few
 pub mod Since
 pub mod KnownBreaks

@@ -1,5 +1,5 @@
 -- New segments that are marked one after the other, each with what it has in common with the one before it.
-use Rattle.std.proofs.Common.{◌≡◌, ℕ, zero, suc, ◌<◌, ◌-◌, replicate, arith, ℤ, List, [], ◌∷◌, ◌++◌, refl, ap, sym, ◌∙◌, subst, append_assoc, append-nil}
+use Rattle.std.proofs.Common.{◌≡◌, ℕ, ℤ, List, [], ◌∷◌, ◌++◌, refl, ap, sym, ◌∙◌, subst, append_assoc, append-nil}
 use Rattle.std.specs.Prelude.{Option, Some, None}
 use Rattle.playlist_model.specs.Segments.{Segment}
 use Rattle.playlist_model.specs.InCommon.{HaveInCommon}
@@ -110,17 +110,6 @@ module _ (m : Moment) (old now : Run) (segments left : List Segment) (instants l
       none_on : (xs : List Segment) → mark_on m now.before now.entered ((common, 0) ∷ []) xs [] ≡ []
       none_on [] = refl
       none_on (x ∷ xs) = refl
-
--- ---- as many instants as segments, none of which is known
-
-pub one_fewer : (count : ℕ) → 0 < count → replicate {A = Option ℤ} count None ≡ None ∷ replicate (count - 1) None
-one_fewer zero some = absurd (omega (arith, some))
-one_fewer (suc n) some =
-    let same : n ≡ suc n - 1 = omega arith in
-    ap (λ k. None ∷ replicate {A = Option ℤ} k None) same
-
-pub none_left : (count : ℕ) → count ≡ 0 → replicate {A = Option ℤ} count None ≡ []
-none_left count e = ap (λ n. replicate n None) e
 
 -- ---- what comes after the segments that are shown
 

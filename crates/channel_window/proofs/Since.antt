@@ -101,9 +101,6 @@ module _ (n front : ℕ) (read old : List Segment) (t : Segment) (ts : List Segm
       ∙ (filter_parts n (t ∷ ts) (drop front read)
       ∙ ap (λ xs. xs ++ filter (is_after n) (drop front read)) (none_after n (first + length (take front read)) (t ∷ ts) (rise_parts (first + length (take front read)) (t ∷ ts) (drop front read) later).0 reach)))
 
-  pub since_contiguous : AreContiguous (drop front read)
-  since_contiguous = contiguous _ (drop front read) (rise_parts (first + length (take front read)) (t ∷ ts) (drop front read) later).1
-
 -- ---- the same of whatever was taken over
 
 whole_there : (front : ℕ) (read : List Segment) → with_taken front read [] ≡ read

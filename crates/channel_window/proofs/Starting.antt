@@ -43,9 +43,6 @@ place_found store number place list front d f seen is = grind (arith, place_is_c
 -- ---- where the next one starts
 
 module _ (state : ChannelState) (number : ℕ) (list : List Held) where
-  pub start_first : (place : ℕ) → place ≡ item_place number (history_in state.store list) → state.last ≡ None → place ≡ start_on state.last number (kept_in state) (history_in state.store list)
-  start_first place is e = is ∙ sym (ap (λ o. start_on o number (kept_in state) (history_in state.store list)) e)
-
   pub start_later : (last : Heading) (stood start : ℕ) → state.last ≡ Some last → (number == first_number (listed (kept_in state).shown)) ≡ false → stood ≡ length (last_pieces state.last (kept_in state))
       → start ≡ min (item_place number (history_in state.store list) + window_rest_count state.store state.shown.rest) stood → start ≡ start_on state.last number (kept_in state) (history_in state.store list)
   start_later last stood start e other s is =

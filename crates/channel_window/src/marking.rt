@@ -1,10 +1,9 @@
 //! The new segments of a refresh, with the breaks that they are marked with.
-ghost use Rattle.std.specs.Prelude.{◌≡◌, ◌⊎◌, ◌+◌, ◌≤◌, ◌++◌, ◌∷◌, [], length, replicate, vec_capacity, vec_len, ℕ, ℤ, true, false, List, Option, option_map, IfOk, IfSome, OnOk, Some, None, is_some};
+ghost use Rattle.std.specs.Prelude.{◌≡◌, ◌⊎◌, ◌+◌, ◌++◌, ◌∷◌, [], length, ℕ, ℤ, true, false, List, Option, option_map, IfOk, IfSome, OnOk, Some, None, is_some};
 ghost use Rattle.std.specs.List.{All};
 ghost use Rattle.std.specs.Option.{option_copied};
 ghost use Rattle.playlist_model.specs.LookBack.{or_earlier};
 ghost use Rattle.playlist_model.specs.Segments.{Segment};
-ghost use Rattle.pod_store.specs.Store.{has_no_pod};
 ghost use Rattle.break_finder.specs.Entering.{entered};
 ghost use Rattle.break_finder.specs.Places.{IsAt, IsPlaced, IsPlacedAt, entered_id};
 ghost use Rattle.channel_spec.specs.Marking.{Moment, limits};
@@ -540,111 +539,6 @@ impl<'a> Marker<'a> {
         }
     }
 
-    // A segment without a mark after another one.
-    #[inline(always)]
-    fn unmarked_segment(
-        &self,
-        segment: Member,
-        instant: OptionalInstant,
-        in_common: InCommon,
-    ) -> Result<MarkedSegment, AllocError>
-        ensures { IfOk result
-            (λ m. m ≡ record { segment = segment; instant = instant; mark = None; goes_on = false; in_common = in_common; again = 0 }) }
-    {
-        let unmarked = NextMark {
-            mark: self.unmarked.clone()?,
-            goes_on: false,
-            again: 0,
-        };
-        Ok(window_segment_marked_with(segment, instant, unmarked, in_common))
-    }
-
-    // The same if no break is decided, with no fallback, and the segment before has no mark: none of these has one. There is room for
-    // all of them.
-    fn all_unmarked(
-        &self,
-        run: &mut Run,
-        segments: &mut Members<'_>,
-        instants: &mut Beginnings<'_>,
-        done: &mut Vec<MarkedSegment>,
-    ) -> Result<(), AllocError>
-        requires empty { has_no_pod self.now.store ≡ true }
-        requires unmarked { run.old.before ≡ None }
-        requires again { KnowAgainWithin done.old.items }
-        requires room { vec_len done.old + length segments.old ≤ vec_capacity done.old }
-        ensures marked { OnOk result
-            (AreMarked self.now run.old run.new segments.old instants.old done.old.items done.new.items) }
-        ensures again { OnOk result (KnowAgainWithin done.new.items) }
-    {
-        let mut in_common = InCommon::nothing();
-        loop {
-            let next_in_common = segments.second_in_common();
-            let Some(segment) = segments.next()? else {
-                return Ok(());
-            };
-            let Some(begun) = instants.next()? else {
-                return Ok(());
-            };
-            run.so_far = Nanos(0);
-            done.push_reserved(self.unmarked_segment(segment, begun, in_common)?);
-            in_common = next_in_common;
-        }
-    }
-
-    // The same if none of them begins at a known instant, and there are no more than `count` of them to put.
-    fn all_untimed(
-        &self,
-        run: &mut Run,
-        segments: &mut Members<'_>,
-        count: usize,
-        done: &mut Vec<MarkedSegment>,
-    ) -> Result<(), AllocError>
-        requires empty { has_no_pod self.now.store ≡ true }
-        requires unmarked { run.old.before ≡ None }
-        requires again { KnowAgainWithin done.old.items }
-        requires room { vec_len done.old + length segments.old ≤ vec_capacity done.old }
-        ensures marked { OnOk result
-            (AreMarked self.now run.old run.new segments.old (replicate count None) done.old.items done.new.items) }
-        ensures again { OnOk result (KnowAgainWithin done.new.items) }
-    {
-        let mut in_common = InCommon::nothing();
-        let mut left = count;
-        while left > 0 {
-            let next_in_common = segments.second_in_common();
-            let Some(segment) = segments.next()? else {
-                return Ok(());
-            };
-            run.so_far = Nanos(0);
-            let instant = OptionalInstant::from_nanos(None);
-            done.push_reserved(self.unmarked_segment(segment, instant, in_common)?);
-            in_common = next_in_common;
-            left -= 1;
-        }
-        Ok(())
-    }
-
-    // The same, whether their instants are known or not.
-    fn all_without_pods(
-        &self,
-        run: &mut Run,
-        segments: &mut Members<'_>,
-        instants: &mut Beginnings<'_>,
-        done: &mut Vec<MarkedSegment>,
-    ) -> Result<(), AllocError>
-        requires empty { has_no_pod self.now.store ≡ true }
-        requires unmarked { run.old.before ≡ None }
-        requires again { KnowAgainWithin done.old.items }
-        requires room { vec_len done.old + length segments.old ≤ vec_capacity done.old }
-        ensures marked { OnOk result
-            (AreMarked self.now run.old run.new segments.old instants.old done.old.items done.new.items) }
-        ensures again { OnOk result (KnowAgainWithin done.new.items) }
-    {
-        match instants.len_if_unknown() {
-            Some(count) => self.all_untimed(run, segments, count, done),
-            None => self.all_unmarked(run, segments, instants, done),
-        }
-    }
-
     // The place of the break of a mark among those that can be entered, if it is known.
     fn place_of(&self, mark: &Option<Shared<Text>>) -> Option<usize>
         ensures { IsPlacedAt (window_entrances self.now) result mark.now }
@@ -703,11 +597,7 @@ impl<'a> Marker<'a> {
         let (mut marker, mut segments, mut instants) = (self, segments, instants);
         let mut run = marker.run_after(alloc, shown, newest)?;
         let mut list = Vec::with_capacity(alloc, segments.len())?;
-        if marker.store.is_empty() && run.before.is_none() {
-            marker.all_without_pods(&mut run, &mut segments, &mut instants, &mut list)?;
-        } else {
-            marker.all(alloc, &mut run, &mut segments, &mut instants, &mut list)?;
-        }
+        marker.all(alloc, &mut run, &mut segments, &mut instants, &mut list)?;
         Ok(Marks {
             list,
             entered: run.entered,

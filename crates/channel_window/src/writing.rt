@@ -1,10 +1,10 @@
 //! The window, as it is written.
-ghost use Rattle.std.specs.Prelude.{◌≡◌, ◌<◌, ◌≤◌, ◌+◌, ◌-◌, ◌^◌, ◌∷◌, ◌++◌, [], ℕ, IfOk, IfErr, IfSome, OnOk, MatchOption, None, drop, length, map, min, nat_lt, is_some, reverse, false, true};
+ghost use Rattle.std.specs.Prelude.{◌≡◌, ◌<◌, ◌≤◌, ◌+◌, ◌-◌, ◌^◌, ℕ, IfOk, IfErr, IfSome, None, drop, length, map, min, nat_lt, is_some, reverse, false, true};
 ghost use Rattle.std.specs.List.{list_all, list_any};
 ghost use Rattle.stitcher.specs.Stitched.{can_be_numbered};
 ghost use Rattle.pod_store.specs.Store.{Store, pod_for};
 ghost use Rattle.playlist_model.specs.declared.DateRange.{DateRange};
-ghost use Rattle.stitcher.specs.StitchedSegments.{AreDecided, IsDecided, KnowPrevious, KnowRuns, ends_in, item_fits, rest_in, stitched_segments};
+ghost use Rattle.stitcher.specs.StitchedSegments.{AreDecided, IsDecided, KnowPrevious, ends_in, item_fits, rest_in, stitched_segments};
 ghost use Rattle.stitcher.specs.Written.{written_item};
 ghost use Rattle.channel_spec.specs.Kept.{items_on, listed, numbers_on, rest_after, next_rest, start_on, window_on};
 ghost use Rattle.channel_spec.specs.Inner.Kept.{ends_of};
@@ -14,8 +14,7 @@ ghost use Rattle.channel_spec.specs.Successor.{first_number};
 ghost use Rattle.playlist_kept.specs.Kept.{playlist_in};
 ghost use Rattle.channel_window.specs.Marking.{place_on, history_in};
 ghost use Rattle.channel_window.specs.Listed.{AreRising, IsRestDecided, RefusesList, head_of, writes_time};
-ghost use Rattle.channel_window.specs.Inner.Listed.{first_alone, first_numbers_of, pod_keeps, date_range_texts_left_in_window, AreAmong};
-ghost use Rattle.pod_store.specs.Store.{is_one_of};
+ghost use Rattle.channel_window.specs.Inner.Listed.{first_alone, first_numbers_of, pod_keeps, date_range_texts_left_in_window};
 ghost use Rattle.channel_window.specs.Inner.Placing.{window_rest_count};
 ghost use Rattle.channel_window.specs.Inner.Placing.{HasRoom, IsWithin, rest_of_newest_run};
 ghost use Rattle.channel_window.specs.Showing.{kept_before, kept_in};
@@ -415,81 +414,6 @@ fn date_range_texts_left_in_window<'a>(
     Ok(texts)
 }
 
-// What is left of these breaks after the first, if that is this one.
-fn window_break_ids_after<'a>(ids: &'a [Shared<Text>], id: &str) -> Option<&'a [Shared<Text>]>
-    ensures { MatchOption result (Unit {0}) (λ left. ids.now ≡ id.now ∷ left.now) }
-{
-    match ids.split_first() {
-        Some((first, later)) if first.as_str() == id => Some(later),
-        _ => None,
-    }
-}
-
-#[tactic(auto, using(crate::proofs::Few::among_themselves, crate::proofs::Few::among_later, crate::proofs::Few::here, crate::proofs::Few::not_here))]
-// What is left of these breaks after this one, if it is one of them.
-fn window_breaks_left_after_found<'a>(
-    ids: &'a [Shared<Text>],
-    id: &str,
-) -> Option<&'a [Shared<Text>]>
-    ensures { MatchOption result (is_one_of ids.now id.now ≡ false)
-        (λ left. (is_one_of ids.now id.now ≡ true) × AreAmong left.now ids.now) }
-{
-    let mut rest = ids;
-    while let Some((one, later)) = rest.split_first() {
-        if id == one.as_str() {
-            return Some(later);
-        }
-        rest = later;
-    }
-    None
-}
-
-#[tactic(auto, using(crate::proofs::Few::among_later, crate::proofs::Few::first_among, crate::proofs::Few::text_kept, crate::proofs::Few::text_gone))]
-// Puts the text of a date range after others, if it is of none of the breaks `ids`. Of these `left` are looked at first, and
-// the answer is looked at first the next time: breaks mostly come in the order of their date ranges.
-fn push_other_window_date_range<'a, 'b>(
-    texts: &mut Vec<TextRef<'a>>,
-    ids: &'b [Shared<Text>],
-    left: &'b [Shared<Text>],
-    date_range: &'a DateRange,
-) -> Result<&'b [Shared<Text>], AllocError>
-    requires { AreAmong left.now ids.now }
-    ensures texts { OnOk result
-        (texts.new.items ≡ texts.old.items ++ date_range_texts_left_in_window ids.now (date_range.now ∷ [])) }
-    ensures left { IfOk result (λ left. AreAmong left.now ids.now) }
-{
-    if let Some(later) = window_break_ids_after(left, date_range.id.as_str()) {
-        return Ok(later);
-    }
-    if let Some(later) = window_breaks_left_after_found(ids, date_range.id.as_str()) {
-        return Ok(later);
-    }
-    texts.push(TextRef::new(&date_range.attributes))?;
-    Ok(left)
-}
-
-#[tactic(auto, using(crate::proofs::Few::among_themselves, crate::proofs::Few::texts_on))]
-// The texts of the date ranges of other breaks than these few.
-fn other_date_range_texts_in_window<'a>(
-    alloc: Global,
-    ids: &[Shared<Text>],
-    date_ranges: &'a [Shared<DateRange>],
-) -> Result<Vec<TextRef<'a>>, AllocError>
-    ensures { IfOk result (λ v. v.items ≡ date_range_texts_left_in_window ids.now date_ranges.now) }
-{
-    let mut texts = Vec::new(alloc);
-    let mut left = ids;
-    let mut rest = date_ranges;
-    while let Some((date_range, later)) = rest.split_first() {
-        left = push_other_window_date_range(&mut texts, ids, left, date_range)?;
-        rest = later;
-    }
-    Ok(texts)
-}
-
-// So few IDs are looked through, and need no table.
-const FEW_IDS: usize = 64;
-
 /// The texts of those `date_ranges` that are written (RFC 8216, section 4.3.2.7): all but those of the breaks `ids`,
 /// and none if no item of `items` states a time. Fails only if an allocation fails. `hashing`: the keys for a table of the IDs.
 pub fn date_ranges_left<'a>(
@@ -509,9 +433,6 @@ pub fn date_ranges_left<'a>(
     }
     if !is_any_window_item_timed(items) {
         return Ok(Vec::new(alloc));
-    }
-    if ids.len() <= FEW_IDS {
-        return other_date_range_texts_in_window(alloc, ids, date_ranges);
     }
     let set = IdSet::of(alloc, hashing, ids)?;
     date_range_texts_left_in_window(alloc, &set, date_ranges)

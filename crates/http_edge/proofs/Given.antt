@@ -1,5 +1,5 @@
 -- A channel and what it was given, before an event and after it.
-use Rattle.std.proofs.Common.{◌≡◌, ◌≢◌, ℕ, List, ◌∷◌, ◌++◌, ap, sym, ◌∙◌, subst, true, false, refl, arith}
+use Rattle.std.proofs.Common.{◌≡◌, ◌≢◌, ℕ, List, ◌∷◌, ◌++◌, ap, sym, ◌∙◌, subst, false, refl, arith}
 use Rattle.std.specs.Prelude.{Result, Ok, Err, IfOk}
 use Rattle.url.specs.Parts.{Parts}
 use Rattle.playlist_model.specs.Reading.{reading, limited}
@@ -7,13 +7,12 @@ use Rattle.pod_store.specs.Outcome.{no_memory, RefusesByDecisionFault}
 use Rattle.pod_store.specs.declared.fault.DecisionFault.{DecisionFault}
 use Rattle.channel_spec.specs.declared.fault.RefreshFault.{RefreshFault}
 use Rattle.channel_spec.specs.Live.{Event, Told, told}
-use Rattle.channel_spec.specs.Kept.{Kept, kept_of}
+use Rattle.channel_spec.specs.Kept.{kept_of}
 use Rattle.live_channel.specs.declared.channel.Refreshed.{Refreshed}
-use Rattle.live_channel.specs.Channel.{Reading, readable, Channel, Represents, told_by, text_after, events_of, refreshed, decided, answer_read, explained, owed_why, AnswersAs, AnswersUnless, is_out_of_memory, AnswersRefresh, after_bytes, with_store}
+use Rattle.live_channel.specs.Channel.{Reading, readable, Channel, Represents, told_by, text_after, events_of, refreshed, decided, answer_read, explained, owed_why, AnswersAs, AnswersUnless, is_out_of_memory, AnswersRefresh, after_bytes}
 use Rattle.live_channel.specs.Channel as channel
 use Rattle.http_messages.specs.declared.message.Reply.{Reply}
-use Rattle.http_messages.specs.Replies.{bare}
-use Rattle.http_edge.specs.Channels.{GivenChannel, IsGiven, with_event, told_of, owed_playlist_text}
+use Rattle.http_edge.specs.Channels.{GivenChannel, IsGiven, told_of, owed_playlist_text}
 use Rattle.live_channel.proofs.Owed.{explains}
 use Rattle.break_finder.specs.Known.{known}
 use Rattle.channel_api.specs.Replies.{why_text, decisions_reply}
@@ -65,17 +64,6 @@ module _ (old new : Channel) (bytes : List ℕ) (given : GivenChannel) (h : IsGi
   answers : (result : Result Refreshed RefreshFault) → is_out_of_memory result ≡ false → AnswersRefresh old bytes given.events result new → AnswersAs old bytes given.events result new
   answers result e a = subst (λ b. AnswersUnless b old bytes given.events result new) e a
 
-  stands_on : (result : Result Refreshed RefreshFault) → AnswersAs old bytes given.events result new → IsGiven new (with_event (refreshed bytes) given)
-  stands_on result a = record { base = a.base ∙ h.base; tolerance = a.tolerance ∙ h.tolerance; stands = a.stands }
-
-  pub refresh_left : (result : Result Refreshed RefreshFault) → is_out_of_memory result ≡ true → AnswersRefresh old bytes given.events result new → IsGiven new given
-  refresh_left result e a =
-      subst (λ c. IsGiven c given) (sym (subst (λ b. AnswersUnless b old bytes given.events result new) e a)) h
-
-  pub refresh_taken : (E : Type 0) (done : Refreshed) (reply : Reply) → AnswersRefresh old bytes given.events (Ok done) new → reply ≡ bare 204
-      → TakesOne {E = E} (refreshed bytes) (refresh_owed bytes) given (Ok reply) new
-  refresh_taken E done reply a e = grind arith
-
   refused_left : (fault : RefreshFault) → AnswersAs old bytes given.events (Err fault) new → IsGiven new given
   refused_left fault a =
       let owed = sym a.answer in
@@ -92,19 +80,6 @@ module _ (old new : Channel) (bytes : List ℕ) (given : GivenChannel) (h : IsGi
 -- ---- decisions
 
 module _ (old new : Channel) (bytes : List ℕ) (given : GivenChannel) (h : IsGiven old given) where
-  store_is : old.kept.store ≡ (told_of given).store
-  store_is = ap (λ (k : Kept). k.store) (kept_is old given h)
-
-  same_outcome : after_bytes old.kept.store bytes ≡ after_bytes (told_of given).store bytes
-  same_outcome = ap (λ s. after_bytes s bytes) store_is
-
-  pub decisions_left : new ≡ old → IsGiven new given
-  decisions_left e = subst (λ c. IsGiven c given) (sym e) h
-
-  pub decisions_taken : (E : Type 0) (reply : Reply) → (after_bytes old.kept.store bytes ≡ Ok new.kept.store) × (new ≡ with_store old new.kept.store)
-      → Represents new (decided bytes ∷ given.events) → reply ≡ bare 204 → TakesOne {E = E} (decided bytes) (decisions_owed bytes) given (Ok reply) new
-  decisions_taken E reply o s e = grind arith
-
   pub decisions_refused : {E : Type 0} (fault : DecisionFault) (r : Result Reply E) → fault ≢ no_memory → (new ≡ old) × RefusesByDecisionFault fault (after_bytes old.kept.store bytes)
       → (fault ≢ no_memory → Represents new (decided bytes ∷ given.events)) → IfOk r (λ reply. reply ≡ decisions_reply (Err fault))
       → TakesOne (decided bytes) (decisions_owed bytes) given r new

@@ -1,11 +1,10 @@
 -- What a channel's requests are answered in a run.
-use Rattle.std.proofs.Common.{◌≡◌, ℕ, Bool, true, false, cond, List, [], ◌∷◌, refl, sym, ap, subst, ◌∙◌, true≢false, arith}
+use Rattle.std.proofs.Common.{◌≡◌, ℕ, Bool, true, false, cond, List, [], ◌∷◌, refl, sym, ap, subst, ◌∙◌, arith}
 use Rattle.std.specs.Prelude.{Option, Some, None, ◌&&◌, filter}
 use Rattle.pod_store.specs.declared.fault.DecisionKind.TheVariants as decision
 use Rattle.channel_spec.specs.declared.fault.RefreshFault.TheVariants as fault
 use Rattle.live_channel.specs.Channel as channel
 use Rattle.http_messages.specs.declared.message.Request.{Request}
-use Rattle.http_messages.specs.Replies.{bare}
 use Rattle.channel_api.specs.declared.routes.Resource.{Resource}
 use Rattle.channel_api.specs.Routes.{route_path_of, route_of}
 use Rattle.http_edge.specs.Table.{Table, turn_at, routed, turn, table_of}
@@ -51,9 +50,6 @@ module _ (x : List ℕ) (e : Exchange) (served : List Exchange) (old new : List 
   owed_out same s is =
       let out = subst (λ y. (is_on x e.request && was_served y) ≡ false) same is in
       record { requests = e.request ∷ h.requests; stands = s; alike = (entries_left (is_on x e.request) x e.request table refl out ∙ h.alike.0, h.alike.1) }
-
-  refused_in : e.reply ≡ bare 503 → is_served_on x e ≡ true → Follows x (e ∷ served) new
-  refused_in same is = absurd (true≢false (sym (and_parts (is_on x e.request) (was_served e.reply) is).1 ∙ ap was_served same))
 
   either_way : (b : Bool) → is_served_on x e ≡ b → TakesTurn (turn table e.request) table e.reply new → Follows x (cond b (e ∷ served) served) new
   either_way b is h1 = grind (arith, owed_in, owed_out)

@@ -1,11 +1,11 @@
 -- What the map's words do to what it stands for.
-use Rattle.std.proofs.Common.{◌≡◌, ℕ, Bool, cond, List, [], ◌∷◌, ◌++◌, length, map, suc, refl, ap, arith}
-use Rattle.std.specs.Prelude.{Option, Some, None, bytes_eq, String, string_bytes}
+use Rattle.std.proofs.Common.{◌≡◌, ℕ, List, [], ◌∷◌, ◌++◌, length, map, suc, refl, ap, arith}
+use Rattle.std.specs.Prelude.{Option, Some, None, String, string_bytes}
 use Rattle.std.specs.Map.{lookup, set_value, remove_entry}
 use Rattle.live_channel.specs.Channel as channel
 use Rattle.channel_api.specs.Named.{has_this_key}
 use Rattle.http_edge.specs.Channels.{GivenChannel, IsGiven}
-use Rattle.http_edge.specs.Table.{Table, TableEntry, given_at, put_given, without_channel}
+use Rattle.http_edge.specs.Table.{Table, given_at, put_given, without_channel}
 use Rattle.http_edge.specs.Edges.{named_channel, AreGiven}
 
 abbrev pub Entries : Type 0 → Type 0
@@ -27,19 +27,11 @@ some_agrees k None h = absurd h
 some_agrees k (Some g) h = (g, refl, h)
 
 module _ {A : Type 0} (name : List ℕ) where
-  same_test : (key : String A) (entry : List ℕ) → string_bytes key ≡ entry → has_this_key name key ≡ bytes_eq name entry
-  same_test key entry e = ap (bytes_eq name) e
-
   pub found : (es : Entries A) (table : Table) → AreGiven (map named_channel es) table → Agree (lookup (has_this_key name) es) (given_at name table)
   found [] [] s = tt
   found [] (t ∷ ts) s = absurd s
   found (e ∷ es) [] s = absurd s
   found (e ∷ es) (t ∷ ts) s = grind (arith, found es ts s.2)
-
-  set_step : (b c : Bool) (e : String A × channel.Channel) (w : channel.Channel) (g : GivenChannel) (t : TableEntry) (es fs : Entries A) (ts us : Table) → b ≡ c
-      → string_bytes e.0 ≡ t.name → IsGiven e.1 t.given → IsGiven w g → AreGiven (map named_channel es) ts → AreGiven (map named_channel fs) us
-      → AreGiven (map named_channel (cond b ((e.0, w) ∷ es) (e ∷ fs))) (cond c (record t { given = g } ∷ ts) (t ∷ us))
-  set_step b c e w g t es fs ts us q n s h r i = grind arith
 
   pub put : (es : Entries A) (table : Table) (w : channel.Channel) (g : GivenChannel) → AreGiven (map named_channel es) table → IsGiven w g
       → AreGiven (map named_channel (set_value (has_this_key name) es w)) (put_given name g table)
@@ -47,11 +39,6 @@ module _ {A : Type 0} (name : List ℕ) where
   put [] (t ∷ ts) w g s h = absurd s
   put (e ∷ es) [] w g s h = absurd s
   put (e ∷ es) (t ∷ ts) w g s h = grind (arith, put es ts w g s.2 h)
-
-  remove_step : (b c : Bool) (e : String A × channel.Channel) (t : TableEntry) (es fs : Entries A) (ts us : Table) → b ≡ c
-      → string_bytes e.0 ≡ t.name → IsGiven e.1 t.given → AreGiven (map named_channel es) ts → AreGiven (map named_channel fs) us
-      → AreGiven (map named_channel (cond b es (e ∷ fs))) (cond c ts (t ∷ us))
-  remove_step b c e t es fs ts us q n s r i = grind arith
 
   pub taken_out : (es : Entries A) (table : Table) → AreGiven (map named_channel es) table
       → AreGiven (map named_channel (remove_entry (has_this_key name) es)) (without_channel name table)

@@ -1,12 +1,11 @@
 -- What the edge's calls do, as turns.
 use Rattle.std.proofs.Common.{◌≡◌, ℕ, ◌<◌, ◌≤◌, Bool, true, false, List, [], ◌∷◌, ◌++◌, length, map, refl, sym, ap, subst, cond, ◌∙◌, arith, true≢false}
-use Rattle.std.specs.Prelude.{Option, Some, None, Result, Ok, Err, IfOk, IsErr, IsSome, unwrap_or, bytes_eq, is_some, nat_lt, nat_le}
+use Rattle.std.specs.Prelude.{Option, Some, None, Result, Ok, Err, IfOk, IsSome, unwrap_or, bytes_eq, is_some, nat_lt, nat_le}
 use Rattle.std.specs.declared.alloc.AllocError.{AllocError}
 use Rattle.std.specs.Map.{lookup, set_value, remove_entry}
 use Rattle.std.proofs.lemmas.Bool.Decides.{nat_tests}
 use Rattle.url.specs.Parts.{Parts}
 use Rattle.playlist_model.specs.Uri.{base_of}
-use Rattle.live_channel.specs.declared.channel.ChannelFault.{ChannelFault}
 use Rattle.live_channel.specs.declared.channel.ChannelFault.TheVariants as fault
 use Rattle.live_channel.specs.Channel.{explained}
 use Rattle.live_channel.specs.Channel as channel
@@ -20,9 +19,8 @@ use Rattle.channel_api.proofs.Names.{none_is}
 use Rattle.http_edge.specs.Channels.{GivenChannel, IsGiven, with_event}
 use Rattle.channel_api.specs.Replies.{not_found, bad_tolerance, exists, live_reply, why_text, reply_of_text}
 use Rattle.http_edge.specs.Replies.{live_owed, why_owed}
-use Rattle.http_edge.specs.Inner.Replies.{edge_reply_of_channel_fault}
 use Rattle.channel_spec.specs.Limits.{max_tolerance}
-use Rattle.http_edge.specs.Table.{Table, TableEntry, Turn, turn, table_of, unmoved, event_turn, given_at, put_given, without_channel, removed, read_turn, made, tried, added, fresh}
+use Rattle.http_edge.specs.Table.{Table, TableEntry, Turn, turn, table_of, unmoved, event_turn, given_at, put_given, without_channel, removed, read_turn, made, added, fresh}
 use Rattle.http_edge.specs.Inner.Events.{TakesOne, TakesEvent}
 use Rattle.http_edge.specs.Edges.{NamedChannel, named_channel, AreGiven, RepresentsSome, TakenTurn}
 use Rattle.http_edge.proofs.Given.{why_is}
@@ -121,19 +119,8 @@ is_within : (tolerance : ℕ) → tolerance ≤ 10000000000 → nat_lt max_toler
 is_within tolerance h = grind (arith, nat_tests)
 
 module _ (table : Table) (name base : List ℕ) (tolerance : ℕ) (said : Result (List ℕ × ℕ) BodyFault) (e : said ≡ Ok (base, tolerance)) where
-  made_is_tried : made table name said ≡ tried table name tolerance (base_of base)
-  made_is_tried = ap (made table name) e
-
   over : (p : Parts) → base_of base ≡ Some p → 10000000000 < tolerance → made table name said ≡ unmoved table bad_tolerance
   over p b h = grind arith
-
-  pub channel_refused : {E : Type 0} (other : List ℕ) (cause : ChannelFault) (r : Result Reply E) (kept : List NamedChannel) → other ≡ base
-      → (cause ≡ fault.BadBase → base_of other ≡ None) → (cause ≡ fault.BadTolerance → IsSome (base_of other) × (10000000000 < tolerance))
-      → IfOk r (λ y. y ≡ edge_reply_of_channel_fault cause) → (cause ≡ fault.OutOfMemory → IsErr r) → AreGiven kept table → TakenTurn (made table name said) table r kept
-  channel_refused other cause r kept n b t q m s = grind arith
-
-  pub made_is_added : (parts : Parts) → base_of base ≡ Some parts → tolerance ≤ 10000000000 → made table name said ≡ added table name parts tolerance
-  made_is_added parts b within = grind arith
 
 same_some : (o : Option channel.Channel) (q : Option GivenChannel) → Agree o q → is_some o ≡ is_some q
 same_some o q h = grind arith

@@ -5,7 +5,7 @@ use Rattle.playlist_model.specs.declared.DateRange.{DateRange}
 use Rattle.pod_store.specs.Inner.Store.{NameTheSame}
 use Rattle.break_finder.proofs.TagIds.{filter_same}
 use Rattle.std.specs.List.{list_any}
-use Rattle.std.proofs.lemmas.List.{length-map, take_at}
+use Rattle.std.proofs.lemmas.List.{take_at}
 use Rattle.playlist_model.specs.declared.Playlist.{Playlist}
 use Rattle.pod_store.specs.Marks.{Marked}
 use Rattle.stitcher.specs.Stitched.{Numbers, Item}
@@ -31,7 +31,7 @@ use Rattle.owed_is_denoted.specs.Owed.{out_playlist}
 use Rattle.break_finder.specs.Breaks.{Break}
 use Rattle.live_channel.specs.declared.channel.Refreshed.{Refreshed}
 use Rattle.live_channel.specs.declared.next.NextState.{NextState}
-use Rattle.live_channel.specs.Channel.{refreshed_with, fresh_after}
+use Rattle.live_channel.specs.Channel.{fresh_after}
 use Rattle.live_channel.specs.Inner.Accepting.{breaks_after, text_with_window, state_with, accepted_state, Accepts, FollowsLastPlaylist, HasGrown, IsNext, IsReady, IsAccepted}
 use Rattle.live_channel.specs.Inner.LastText.{StoodIn}
 
@@ -70,13 +70,6 @@ module _ (state : ChannelState) (p : Playlist) (held : List Held) (n : ℕ) wher
 
   pub numbers_seen : (items : List OutSegment) (k : Numbers) → items ≡ map written_item window → k ≡ head_of items → k ≡ head_numbers window
   numbers_seen items k w h = h ∙ (ap head_of w ∙ heads window)
-
-  pub refreshed_seen : (items : List OutSegment) (numbers : Numbers) (count fresh : ℕ) (done : Refreshed) → items ≡ map written_item window → numbers ≡ head_of items → count ≡ length items
-      → done ≡ record { media_sequence = numbers.media_sequence; segments = count; fresh = fresh } → done ≡ refreshed_with window fresh
-  refreshed_seen items numbers count fresh done w h e is =
-      is
-      ∙ (ap (λ (k : Numbers). record done { media_sequence = k.media_sequence; segments = count; fresh = fresh }) (numbers_seen items numbers w h)
-      ∙ ap (λ k. record (refreshed_with window fresh) { segments = k }) (e ∙ (ap length w ∙ length-map window written_item)))
 
 -- the segments that stay are decided
 pub decided_later : (count : ℕ) (store : Store) (held : List Held) → AreDecided store held → AreDecided store (drop count held)

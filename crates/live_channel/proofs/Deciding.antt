@@ -10,7 +10,7 @@ use Rattle.pod_store.specs.Store.{Store, Changes, ChangesExactly}
 use Rattle.pod_store.specs.Store as store
 use Rattle.decision_files.specs.Decided.{decisions_of}
 use Rattle.spec_words.specs.Outcomes.{◌>>=◌}
-use Rattle.pod_store.specs.Outcome.{DecisionOutcome, RefusesByDecisionFault}
+use Rattle.pod_store.specs.Outcome.{DecisionOutcome}
 use Rattle.stitcher.specs.declared.marked.MarkedSegment.{MarkedSegment as Held}
 use Rattle.stitcher.specs.StitchedSegments.{rest_in}
 use Rattle.channel_spec.specs.Live.{store_by_outcome}
@@ -19,7 +19,7 @@ use Rattle.channel_spec.proofs.HeldPods.{decide_keeps}
 use Rattle.live_channel.specs.Channel.{Channel, Given, decided, withdrawn, Represents, WasGivenSomething, channel_with, with_store, ChangesStore, ChangesStoreExactly, StandsOn, AlwaysStandsOn, after_bytes}
 use Rattle.channel_window.specs.declared.state.ChannelState.{ChannelState}
 use Rattle.channel_window.specs.Showing.{AreKept}
-use Rattle.live_channel.proofs.Steps.{decide_follows, undecided_follows, withdraw_follows}
+use Rattle.live_channel.proofs.Steps.{decide_follows, withdraw_follows}
 use Rattle.live_channel.proofs.Stores.{Stay, all_stay}
 
 module _ (base : Parts) (tolerance : ℕ) (state : ChannelState) (text : Option (List ℕ)) where
@@ -106,13 +106,3 @@ module _ (base : Parts) (tolerance : ℕ) (state : ChannelState) (text : Option 
   decide_answered old new bytes ds result e h stands d =
       subst (λ o. Answered old new (decided bytes) result (o >>= store.decided old)) (sym e)
       (answered old new (decided bytes) result (store.decided old ds) h stands d (decide_keeps ds old) (λ given s. decide_follows (at old) ds bytes given e s))
-
-  -- the bytes say no decisions
-  pub unread_answered : (old : Store) (bytes : List ℕ) (e : DecisionFault) → RefusesByDecisionFault e (decisions_of bytes) → WasGivenSomething (at old) → kept_by old
-      → Answered old old (decided bytes) (Err e) (after_bytes old bytes)
-  unread_answered old bytes e h stands d = record {
-    stands = stands;
-    decided = d;
-    changes = (refl, λ n. ap (λ o. o >>= store.decided old) (h n));
-    on = λ given s n. undecided_follows (at old) e bytes given (h n) s;
-  }

@@ -1,10 +1,9 @@
 -- A channel after a refresh.
-use Rattle.std.proofs.Common.{◌≡◌, ◌≢◌, ℕ, Bool, true, false, not, cond, ◌&&◌, ◌||◌, List, [], ◌∷◌, map, drop, refl, ap, sym, ◌∙◌, subst, arith}
+use Rattle.std.proofs.Common.{◌≡◌, ℕ, Bool, true, false, not, cond, ◌&&◌, ◌||◌, List, [], ◌∷◌, map, drop, refl, ap, sym, ◌∙◌, subst, arith}
 use Rattle.std.specs.Prelude.{Option, Some, None, Result, Ok, Err, IsErr, IfErr, option_map, filter, find, nat_le, reverse}
 use Rattle.std.specs.List.{list_all, list_any, AllByRecursion}
 use Rattle.std.proofs.lemmas.Bool.{and_from}
 use Rattle.url.specs.Parts.{Parts}
-use Rattle.playlist_model.specs.declared.PlaylistFault.{PlaylistFault}
 use Rattle.playlist_model.specs.declared.Playlist.{Playlist}
 use Rattle.pod_store.specs.Marks.{Marked, mark_in}
 use Rattle.playlist_model.specs.LookBack.{or_earlier}
@@ -18,9 +17,7 @@ use Rattle.stitcher.specs.declared.ends.Rest.{Rest}
 use Rattle.stitcher.specs.StitchedSegments.{meant, rest_in, IsDecided, AreDecided}
 use Rattle.break_finder.specs.Known.{is_this_break}
 use Rattle.channel_spec.specs.declared.fault.RefreshFault.{RefreshFault}
-use Rattle.playlist_model.specs.declared.FaultKind.TheVariants.{OutOfMemory as NoMemory}
-use Rattle.channel_spec.specs.Unread.{is_out_of_memory_kind, fault_of_reading}
-use Rattle.channel_spec.specs.declared.fault.RefreshFault.TheVariants.{Playlist as Unreadable, NumberRange, OutOfMemory}
+use Rattle.channel_spec.specs.declared.fault.RefreshFault.TheVariants.{NumberRange}
 use Rattle.channel_spec.specs.Successor.{first_number, fault_if}
 use Rattle.channel_spec.specs.Live.{is_mark_of, rest_id}
 use Rattle.channel_spec.specs.Marking.{last_entered}
@@ -207,17 +204,6 @@ module _ (base : Parts) (tolerance : ℕ) (state : ChannelState) (text : Option 
       → Refreshes before bytes result before
   stays_next p (Ok answer) h r k = absurd (cc)
   stays_next p (Err e) h r k = steps_refresh before bytes (Err e) before (refused_as p e r k (is_out_of_memory (Err e)) refl)
-
-  unread_as : (fault : PlaylistFault) → (fault.kind ≢ NoMemory → reading limited base bytes ≡ Err fault) → (b : Bool) → is_out_of_memory_kind fault.kind ≡ b
-      → Steps before bytes (Err (cond b OutOfMemory (Unreadable fault))) before
-  unread_as fault h true same = refl
-  unread_as fault h false same =
-      let told : reading limited base bytes ≡ Err fault = h (λ is. let no : is_out_of_memory_kind fault.kind ≡ true = ap is_out_of_memory_kind is in absurd (cc)) in
-      record { says = ap (says_read before) (sym told); comes = ap (step_read before) (sym told) }
-
-  -- one that can't be read
-  pub stays_unread : (fault : PlaylistFault) → (fault.kind ≢ NoMemory → reading limited base bytes ≡ Err fault) → Steps before bytes (Err (fault_of_reading fault)) before
-  stays_unread fault h = unread_as fault h (is_out_of_memory_kind fault.kind) refl
 
 -- what is read has rising numbers
 pub read_rises : (base : Parts) (bytes : List ℕ) (p : Playlist) → reading limited base bytes ≡ Ok p → AreContiguous p.segments

@@ -9,14 +9,10 @@ pub mod SaidLines
 pub mod Machine
 pub mod Groups
 pub mod Whole
-pub mod ZerosInFront
-pub mod HexPairs
+pub mod IvDigits
 pub mod Taken
 pub mod GoesOn
 pub mod SameKeys
 pub mod Changes
 pub mod CommonKeys
 pub mod OnlyKey
-pub mod PaddedTexts
-pub mod PlainLines
-pub mod SameFronts

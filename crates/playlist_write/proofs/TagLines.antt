@@ -5,6 +5,7 @@ use Rattle.std.proofs.lemmas.Bool.{and_parts}
 use Rattle.std.proofs.lemmas.Bool.Decides.{nat_tests}
 use Rattle.attr_list.specs.Attributes.{Pair, pair_spelling}
 use Rattle.date_times.specs.Digits.{fixed_digits}
+use Rattle.fixed_duration.specs.Duration.{duration_text}
 use Rattle.playlist_model.specs.declared.Key.{Key}
 use Rattle.playlist_model.specs.declared.InitSection.{InitSection}
 use Rattle.playlist_model.specs.Said.{duration, byte_range}
@@ -13,7 +14,7 @@ use Rattle.playlist_model.proofs.Carried.{attributes_are, commas_append}
 use Rattle.playlist_write.specs.Spelling.{unquoted_pair, in_quotes, iv_pairs, format_pairs, part_pairs, byte_range_text}
 use Rattle.playlist_write.specs.Owed.{line_saying, with_feed}
 use Rattle.playlist_write.specs.Inner.KeyParts.{HasKeyFront, text_after_uri, text_before_quote, with_iv}
-use Rattle.playlist_write.specs.Inner.Owed.{duration_head, key_line, init_section_line}
+use Rattle.playlist_write.specs.Inner.Owed.{key_line, init_section_line}
 
 assoc6 : (a b c d e f g : List ℕ) → a ++ (b ++ (c ++ (d ++ (e ++ (f ++ g))))) ≡ (a ++ (b ++ (c ++ (d ++ (e ++ f))))) ++ g
 assoc6 a b c d e f g = simp append_assoc
@@ -74,10 +75,10 @@ format_part format h = grind (arith, append-nil)
 assoc2 : (a b c : List ℕ) → a ++ (b ++ c) ≡ (a ++ b) ++ c
 assoc2 a b c = simp append_assoc
 
--- the line of a duration is what stands before the title, and that with its line feed
-pub head_and_title : (n : ℕ) (title : List ℕ) → duration_head n ++ with_feed title ≡ line_saying (duration n title)
+-- the line of a duration in the pieces in which it is written
+pub duration_parts : (n : ℕ) (title : List ℕ) → codes "#EXTINF:" ++ (duration_text n ++ (44 ∷ [] ++ with_feed title)) ≡ line_saying (duration n title)
 unfolding line_saying
-head_and_title n title = grind (arith, append_assoc)
+duration_parts n title = grind (arith, append_assoc)
 
 pub byte_range_parts : (n o : ℕ) → codes "#EXT-X-BYTERANGE:" ++ (byte_range_text n o ++ 10 ∷ []) ≡ line_saying (byte_range n (Some o))
 unfolding line_saying

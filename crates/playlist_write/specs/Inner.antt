@@ -1,5 +1,4 @@
 pub mod Owed
-pub mod Header
 pub mod DateRangeParts
 pub mod KeyParts
 pub mod Taken

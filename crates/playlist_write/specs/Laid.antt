@@ -2,8 +2,7 @@
 use Rattle.std.specs.Prelude.{◌≡◌, ℕ, ◌+◌, ◌≤◌, Bool, true, false, ◌||◌, List, [], ◌∷◌, ◌++◌, length, take, drop, is_some, is_none}
 use Rattle.stitcher.specs.declared.OutSegment.{OutSegment}
 use Rattle.playlist_write.specs.declared.resumed.WrittenText.{WrittenText}
-use Rattle.playlist_write.specs.declared.OutPlaylist.{OutPlaylist}
-use Rattle.playlist_write.specs.Owed.{Current, none_yet, after_segment, segments_owed, said_text, playlist_text}
+use Rattle.playlist_write.specs.Owed.{Current, none_yet, after_segment, segments_owed, said_text}
 
 -- what is in force after these segments
 abbrev pub after_segments : Current → List OutSegment → Current

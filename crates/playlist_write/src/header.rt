@@ -2,8 +2,7 @@
 ghost use Rattle.std.specs.Prelude.{◌≡◌};
 ghost use Rattle.playlist_model.specs.Said as Said;
 ghost use Rattle.playlist_write.specs.Spelling.{written_playlist_type};
-ghost use Rattle.playlist_write.specs.Owed.{line_saying, ended_date_range_line, said_text, type_owed, independent_owed, ended_owed, first_written_media_sequence, written_discontinuity_sequence, date_ranges_text};
-ghost use Rattle.playlist_write.specs.Inner.Header.{header_numbers, header_of, header_said};
+ghost use Rattle.playlist_write.specs.Owed.{line_saying, ended_date_range_line, said_text, type_owed, independent_owed, ended_owed, first_written_media_sequence, written_discontinuity_sequence, numbers_owed, header_owed, date_ranges_text};
 ghost use Rattle.fixed_duration.specs.Appended.{Appends};
 
 use crate::OutPlaylist;
@@ -11,23 +10,6 @@ use crate::lines::{write_line, write_number_line, write_tag_line};
 use playlist_model::PlaylistKind;
 use std::alloc::AllocError;
 use stitcher::{StitchedList, TextRef};
-
-/// What the lines before the date ranges state (RFC 8216, section 4.3.3).
-#[derive(Drop)]
-pub struct WrittenHeader {
-    /// EXT-X-VERSION.
-    pub version: u64,
-    /// EXT-X-TARGETDURATION, in seconds.
-    pub target_duration: u64,
-    /// EXT-X-MEDIA-SEQUENCE.
-    pub media_sequence: u64,
-    /// EXT-X-DISCONTINUITY-SEQUENCE.
-    pub discontinuity_sequence: u64,
-    /// EXT-X-PLAYLIST-TYPE, if it is stated.
-    pub playlist_type: Option<PlaylistKind>,
-    /// Whether EXT-X-INDEPENDENT-SEGMENTS is stated.
-    pub independent_segments: bool,
-}
 
 fn first_written_media_sequence(segments: &StitchedList<'_>) -> u64
     ensures { result ≡ first_written_media_sequence segments.now }
@@ -106,13 +88,13 @@ fn write_discontinuity_sequence_line(out: &mut String, sequence: u64) -> Result<
     write_number_line(out, "#EXT-X-DISCONTINUITY-SEQUENCE:", sequence)
 }
 
-fn write_sequence_lines(out: &mut String, header: &WrittenHeader) -> Result<(), AllocError>
-    ensures { Appends result out.old out.new (said_text (header_numbers header.now)) }
+fn write_sequence_lines(out: &mut String, playlist: &OutPlaylist<'_>) -> Result<(), AllocError>
+    ensures { Appends result out.old out.new (said_text (numbers_owed playlist.now)) }
 {
-    write_version_line(out, header.version)?;
-    write_target_duration_line(out, header.target_duration)?;
-    write_media_sequence_line(out, header.media_sequence)?;
-    write_discontinuity_sequence_line(out, header.discontinuity_sequence)
+    write_version_line(out, playlist.version)?;
+    write_target_duration_line(out, playlist.target_duration)?;
+    write_media_sequence_line(out, first_written_media_sequence(&playlist.segments))?;
+    write_discontinuity_sequence_line(out, written_discontinuity_sequence(&playlist.segments))
 }
 
 // Appends EXT-X-INDEPENDENT-SEGMENTS, if the origin states it (RFC 8216, section 4.3.5.1).
@@ -126,27 +108,14 @@ fn write_independent_segments_line(out: &mut String, independent: bool) -> Resul
     Ok(())
 }
 
-/// What the lines before the date ranges of `playlist` state.
-pub fn header_of(playlist: &OutPlaylist<'_>) -> WrittenHeader
-    ensures { result ≡ header_of playlist.now }
+/// Appends to `out` the lines before the date ranges of `playlist` (RFC 8216, section 4.3.3). Fails only if an allocation
+/// fails.
+pub fn write_header_lines(out: &mut String, playlist: &OutPlaylist<'_>) -> Result<(), AllocError>
+    ensures { Appends result out.old out.new (said_text (header_owed playlist.now)) }
 {
-    WrittenHeader {
-        version: playlist.version,
-        target_duration: playlist.target_duration,
-        media_sequence: first_written_media_sequence(&playlist.segments),
-        discontinuity_sequence: written_discontinuity_sequence(&playlist.segments),
-        playlist_type: playlist.playlist_type,
-        independent_segments: playlist.independent_segments,
-    }
-}
-
-/// Appends to `out` the lines that state `header` (RFC 8216, section 4.3.3). Fails only if an allocation fails.
-pub fn write_header_lines(out: &mut String, header: &WrittenHeader) -> Result<(), AllocError>
-    ensures { Appends result out.old out.new (said_text (header_said header.now)) }
-{
-    write_sequence_lines(out, header)?;
-    write_optional_playlist_type_line(out, header.playlist_type)?;
-    write_independent_segments_line(out, header.independent_segments)
+    write_sequence_lines(out, playlist)?;
+    write_optional_playlist_type_line(out, playlist.playlist_type)?;
+    write_independent_segments_line(out, playlist.independent_segments)
 }
 
 #[tactic(auto, unfolding(crate::specs::Owed::ended_date_range_line))]

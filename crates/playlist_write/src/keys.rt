@@ -1,6 +1,6 @@
 //! Key tags and map tags (RFC 8216, sections 4.3.2.4 and 4.3.2.5).
-ghost use Rattle.std.specs.Prelude.{◌≡◌, ◌==◌, ◌∷◌, ◌++◌, [], Bool, Some, bytes_eq, codes, drop, filter, length, ◌&&◌, not, true};
-ghost use Rattle.spec_words.specs.Bytes.{line_feed, quote};
+ghost use Rattle.std.specs.Prelude.{◌≡◌, ◌==◌, ◌∷◌, ◌++◌, Bool, Some, bytes_eq, codes, drop, filter, length, ◌&&◌, true};
+ghost use Rattle.spec_words.specs.Bytes.{quote};
 ghost use Rattle.attr_list.specs.Attributes.{pair_spelling};
 ghost use Rattle.playlist_write.specs.Spelling.{in_quotes, iv_pairs, format_pairs, part_pairs};
 ghost use Rattle.playlist_model.specs.Carried.{after_commas};
@@ -9,13 +9,13 @@ ghost use Rattle.playlist_write.specs.Inner.KeyParts.{text_after_uri, text_befor
 ghost use Rattle.playlist_model.specs.Said as Said;
 ghost use Rattle.playlist_write.specs.Owed.{line_saying, said_text, keys_owed};
 ghost use Rattle.playlist_write.specs.Inner.Owed.{set_tags, key_line, init_section_line};
-ghost use Rattle.playlist_model.specs.Same.{same_key, same_option, same_number};
+ghost use Rattle.playlist_model.specs.Same.{same_key};
 ghost use Rattle.playlist_model.specs.declared.Key.{Key};
 ghost use Rattle.std.specs.List.{list_any};
 ghost use Rattle.stitcher.specs.KeyTags.{is_new_key};
 ghost use Rattle.fixed_duration.specs.Appended.{Appends};
 
-use crate::digits::{write_last_iv, write_quote_and_iv};
+use crate::digits::write_quote_and_iv;
 use crate::lines::{write_byte_range, write_line, write_line_feed};
 use playlist_model::{
     ByteRange, InitSection, KeyPlaces, KeyRef, KeysIter, KeysRef, are_same_keys_in_common,
@@ -44,17 +44,6 @@ fn write_key_iv(out: &mut String, iv: Option<u128>) -> Result<(), AllocError>
     }
 }
 
-// The same, and ends the line.
-fn write_key_iv_and_line_feed(out: &mut String, iv: Option<u128>) -> Result<(), AllocError>
-    ensures { Appends result out.old out.new
-        (quote ∷ after_commas (iv_pairs iv) ++ line_feed ∷ []) }
-{
-    match iv {
-        Some(iv) => write_last_iv(out, iv),
-        None => out.push_str("\"\n"),
-    }
-}
-
 fn write_key_format(out: &mut String, format: &str) -> Result<(), AllocError>
     ensures { Appends result out.old out.new (after_commas (format_pairs format.now)) }
 {
@@ -70,11 +59,6 @@ fn write_key_method(out: &mut String, method: &str) -> Result<(), AllocError>
     ensures { Appends result out.old out.new (codes "#EXT-X-KEY:METHOD="
         ++ (method.now ++ codes ",URI=\"")) }
 {
-    // Most keys have this method.
-    if method == "AES-128" {
-        out.push_str("#EXT-X-KEY:METHOD=AES-128,URI=\"")?;
-        return Ok(());
-    }
     out.push_str("#EXT-X-KEY:METHOD=")?;
     out.push_str(method)?;
     out.push_str(",URI=\"")?;
@@ -93,8 +77,7 @@ fn write_rest_of_key_line(
     write_key_iv(out, iv)?;
     write_key_format(out, key.format())?;
     out.push_str(key.other_attributes().as_str())?;
-    write_line_feed(out)?;
-    Ok(())
+    write_line_feed(out)
 }
 
 /// Whether nothing stands after the initialisation vector in the tag of `key`, as in most: it has no other attributes, and its
@@ -103,22 +86,6 @@ pub fn is_key_line_ended_by_iv(key: &KeyRef<'_>) -> bool
     ensures { result ≡ ((length key.now.other_attributes == 0) && bytes_eq key.now.format (codes "identity")) }
 {
     key.other_attributes().as_str().is_empty() && key.format() == "identity"
-}
-
-// The same. Most keys have no other attributes.
-fn write_short_rest_of_key_line(
-    out: &mut String,
-    key: &KeyRef<'_>,
-    iv: Option<u128>,
-) -> Result<(), AllocError>
-    requires { iv ≡ key.now.iv }
-    ensures { Appends result out.old out.new (text_after_uri key.now) }
-{
-    if is_key_line_ended_by_iv(key) {
-        write_key_iv_and_line_feed(out, iv)?;
-        return Ok(());
-    }
-    write_rest_of_key_line(out, key, iv)
 }
 
 /// Appends to `out` what stands before the closing quote of the URI in the tag of `key` (RFC 8216, section 4.3.2.4). Fails only if
@@ -141,8 +108,7 @@ pub fn write_key_line(
     ensures { Appends result out.old out.new (key_line key.now) }
 {
     write_key_line_front(out, key)?;
-    write_short_rest_of_key_line(out, key, iv)?;
-    Ok(())
+    write_rest_of_key_line(out, key, iv)
 }
 
 fn write_key_lines(out: &mut String, keys: &KeysRef<'_>) -> Result<(), AllocError>

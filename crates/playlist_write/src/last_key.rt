@@ -7,8 +7,9 @@ ghost use Rattle.playlist_model.specs.InCommon.{key_at, without_iv};
 ghost use Rattle.playlist_write.specs.Inner.KeyParts.{HasKeyFront, IsOnlyKey, LeadsOn};
 ghost use Rattle.playlist_write.specs.Inner.Owed.{key_line};
 
-use crate::digits::write_last_iv;
+use crate::digits::write_quote_and_iv;
 use crate::keys::{is_key_line_ended_by_iv, write_key_line, write_key_line_front};
+use crate::lines::write_line_feed;
 use playlist_model::{KeyRef, KeysRef};
 use std::alloc::{AllocError, Global};
 use std::marker::Model;
@@ -119,7 +120,8 @@ impl<'a> LastKey<'a> {
         if let Some(front) = &self.front {
             if let Some(iv) = iv {
                 out.push_str(front.as_str())?;
-                return write_last_iv(out, iv);
+                write_quote_and_iv(out, iv)?;
+                return write_line_feed(out);
             }
         }
         self.push_whole_line(out, key, iv)

@@ -11,11 +11,10 @@ ghost use Rattle.playlist_write.specs.WellFormed.{well_formed};
 ghost use Rattle.playlist_write.specs.Denoted.{denoted};
 ghost use Rattle.byte_streams.specs.Handed.{TookFront};
 
-use crate::header::{header_of, write_end_line, write_header_lines};
+use crate::header::{write_end_line, write_header_lines};
 use crate::in_force::InForce;
 use crate::lines::write_line;
 use crate::pieces::{PIECE_ROOM, write_pieces_of_date_ranges, write_pieces_of_segments};
-use crate::room::written_text_room_for;
 use byte_streams::{Sink, SinkFailed, hand_out};
 use playlist_model::{Items, Keys, PlaylistKind};
 use std::alloc::{AllocError, Global};
@@ -26,11 +25,9 @@ mod digits;
 mod header;
 mod in_force;
 mod keys;
-mod last_duration;
 mod last_key;
 pub mod laws;
 mod lines;
-mod padded_text;
 mod pieces;
 pub mod resumed;
 mod room;
@@ -97,7 +94,7 @@ fn written_lines_before_date_ranges(
 {
     let mut text = String::with_capacity(alloc, room)?;
     write_line(&mut text, "#EXTM3U")?;
-    write_header_lines(&mut text, &header_of(playlist))?;
+    write_header_lines(&mut text, playlist)?;
     Ok(text)
 }
 

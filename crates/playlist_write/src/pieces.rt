@@ -8,7 +8,6 @@ ghost use Rattle.playlist_write.specs.Inner.Taken.{TookAllBut};
 use crate::WriteFault;
 use crate::header::write_date_range_line;
 use crate::in_force::InForce;
-use crate::last_duration::LastDuration;
 use crate::last_key::LastKey;
 use crate::segments::write_next_segment_lines;
 use byte_streams::{Sink, SinkFailed, hand_out};
@@ -98,14 +97,11 @@ pub fn write_pieces_of_segments<'a, S: Sink>(
 {
     let mut segments = segments;
     let mut times = TimeWriter::new();
-    let mut last = LastDuration::new(alloc);
     let mut key = LastKey::new(alloc);
     let (mut force, mut common) = (before, InCommon::nothing());
     let mut later = force.in_common_after_next(&segments);
     while let Some(next) = segments.next() {
-        force = write_next_segment_lines(
-            held, &mut times, &mut last, &mut key, force, &next, common,
-        )?;
+        force = write_next_segment_lines(held, &mut times, &mut key, force, &next, common)?;
         common = later;
         later = force.in_common_after_next(&segments);
         hand_out_written_piece(held, sink)?;

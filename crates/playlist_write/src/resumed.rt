@@ -1,13 +1,12 @@
 //! The text of a playlist as it is written: made whole, or from the text that was written last. The lines of a segment depend on
 //! the segment before it alone, so those of segments that stood there are copied in one piece.
-ghost use Rattle.std.specs.Prelude.{◌≡◌, ◌++◌, ◌+◌, List, drop, take, length, IfOk, OnOk, IfSome, string_bytes};
+ghost use Rattle.std.specs.Prelude.{◌≡◌, ◌++◌, ◌+◌, drop, take, length, IfOk, OnOk, IfSome, string_bytes};
 ghost use Rattle.playlist_write.specs.Owed.{none_yet, said_text, segments_owed, ended_owed, playlist_text};
 ghost use Rattle.playlist_write.specs.Laid.{after_segments, first_written_segment_states_all, current_of, IsLaid, IsFrontLength, StandsAgain};
 ghost use Rattle.playlist_write.specs.Inner.Laid.{front_text};
 
 use crate::header::{write_date_range_lines, write_end_line};
 use crate::in_force::InForce;
-use crate::last_duration::LastDuration;
 use crate::last_key::LastKey;
 use crate::room::written_text_room_for;
 use crate::segments::write_next_segment_lines;
@@ -50,7 +49,6 @@ fn write_first_segment_lines<'a>(
 {
     let mut segments = segments;
     let mut times = TimeWriter::new();
-    let mut last = LastDuration::new(alloc);
     let mut key = LastKey::new(alloc);
     let mut force = before;
     let mut common = InCommon::nothing();
@@ -60,9 +58,7 @@ fn write_first_segment_lines<'a>(
         let Some(next) = segments.next() else {
             return Ok(force);
         };
-        force = write_next_segment_lines(
-            out, &mut times, &mut last, &mut key, force, &next, common,
-        )?;
+        force = write_next_segment_lines(out, &mut times, &mut key, force, &next, common)?;
         common = later;
         left -= 1;
     }
@@ -83,14 +79,11 @@ fn write_all_segment_lines<'a>(
 {
     let mut segments = segments;
     let mut times = TimeWriter::new();
-    let mut last = LastDuration::new(alloc);
     let mut key = LastKey::new(alloc);
     let (mut force, mut common) = (before, InCommon::nothing());
     let mut later = force.in_common_after_next(&segments);
     while let Some(next) = segments.next() {
-        force = write_next_segment_lines(
-            out, &mut times, &mut last, &mut key, force, &next, common,
-        )?;
+        force = write_next_segment_lines(out, &mut times, &mut key, force, &next, common)?;
         common = later;
         later = force.in_common_after_next(&segments);
     }

@@ -1,7 +1,6 @@
 //! The lines of segments (RFC 8216, section 4.3.2).
-ghost use Rattle.std.specs.Prelude.{◌≡◌, ◌++◌, ◌∷◌, IfOk, List, OnOk, Option, string_bytes, replicate, None, Some, [], false, true};
+ghost use Rattle.std.specs.Prelude.{◌≡◌, ◌++◌, IfOk, List, OnOk, Option, string_bytes, replicate, None, Some, false, true};
 ghost use Rattle.std.specs.Option.{option_copied};
-ghost use Rattle.playlist_write.specs.Inner.Owed.{duration_head};
 ghost use Rattle.playlist_model.specs.InCommon.{AreSameAt, IsInCommon, init_section_keys, is_place_of};
 ghost use Rattle.playlist_model.specs.Said as Said;
 ghost use Rattle.playlist_model.specs.Same.{same_option, same_init_section};
@@ -9,12 +8,11 @@ ghost use Rattle.playlist_model.specs.declared.InitSection.{InitSection};
 ghost use Rattle.playlist_model.specs.declared.Key.{Key};
 ghost use Rattle.playlist_write.specs.Inner.Changes.{HasInCommon, written_segment_changes_nothing, changes_owed, segment_changes_owed};
 ghost use Rattle.playlist_write.specs.Inner.KeyParts.{IsOnlyKey};
-ghost use Rattle.playlist_write.specs.Owed.{line_saying, with_feed, said_text, changed_written_init_section, init_section_owed, written_keys_then, time_owed, byte_range_owed, media_owed, segment_owed, after_segment};
+ghost use Rattle.playlist_write.specs.Owed.{line_saying, said_text, changed_written_init_section, init_section_owed, written_keys_then, time_owed, byte_range_owed, media_owed, segment_owed, after_segment};
 ghost use Rattle.fixed_duration.specs.Appended.{Appends};
 
 use crate::in_force::InForce;
 use crate::keys::{write_init_section_line, write_key_tag_lines};
-use crate::last_duration::LastDuration;
 use crate::last_key::LastKey;
 use crate::lines::{write_byte_range, write_line, write_line_feed, write_tag_line};
 use date_times::TimeWriter;
@@ -169,27 +167,17 @@ fn write_optional_instant_line(
     Ok(())
 }
 
-/// Appends to `out` what stands before the title in the line of EXTINF with `duration` (RFC 8216, section 4.3.2.1). Fails only if
-/// an allocation fails.
-pub fn write_duration_head(out: &mut String, duration: Nanos) -> Result<(), AllocError>
-    ensures { Appends result out.old out.new (duration_head duration) }
-{
-    out.push_str("#EXTINF:")?;
-    duration.write_to(out)?;
-    out.push(',')?;
-    Ok(())
-}
-
-/// Appends to `out` the line of EXTINF with `duration` and `title` (RFC 8216, section 4.3.2.1). Fails only if an
-/// allocation fails.
-pub fn write_segment_duration_line(
+// Appends the line of EXTINF (RFC 8216, section 4.3.2.1).
+fn write_segment_duration_line(
     out: &mut String,
     duration: Nanos,
     title: &str,
 ) -> Result<(), AllocError>
     ensures { Appends result out.old out.new (line_saying (Said.duration duration title.now)) }
 {
-    write_duration_head(out, duration)?;
+    out.push_str("#EXTINF:")?;
+    duration.write_to(out)?;
+    out.push(',')?;
     write_line(out, title)
 }
 
@@ -223,34 +211,14 @@ fn write_segment_uri_line(out: &mut String, front: &str, rest: &str) -> Result<(
     write_tag_line(out, front, rest)
 }
 
-// Whether a segment has neither a title nor a byte range, as most have none.
 #[inline(always)]
-fn is_written_without_title_or_range(segment: &SegmentRef<'_>) -> bool
-    ensures { result ≡ true → (segment.now.title ≡ []) × (segment.now.byte_range ≡ None) }
-{
-    segment.title().is_empty() && segment.byte_range().is_none()
-}
-
-#[inline(always)]
-fn write_segment_media_lines<'a>(
-    out: &mut String,
-    last: &mut LastDuration<'a>,
-    segment: &SegmentRef<'a>,
-) -> Result<(), AllocError>
+fn write_segment_media_lines(out: &mut String, segment: &SegmentRef<'_>) -> Result<(), AllocError>
     ensures { Appends result out.old out.new (said_text (media_owed segment.now)) }
 {
     let (front, rest) = segment.uri().parts();
-    let is_plain = is_written_without_title_or_range(segment);
-    if is_plain && last.push_with_front(out, segment.duration(), front)? {
-        return write_line(out, rest);
-    }
-    last.push(out, segment.duration(), segment.title())?;
+    write_segment_duration_line(out, segment.duration(), segment.title())?;
     write_optional_byte_range_line(out, segment.byte_range())?;
-    write_segment_uri_line(out, front, rest)?;
-    if is_plain {
-        last.keep_front(front);
-    }
-    Ok(())
+    write_segment_uri_line(out, front, rest)
 }
 
 // Appends what a segment changes: so many discontinuities, and the tags of its initialisation section and its keys. It is out
@@ -336,14 +304,12 @@ fn write_changes_before_segment<'a>(
 }
 
 /// Appends to `out` the lines of the segment `next`, after lines with `before` in force (RFC 8216, section 4.3.2), and
-/// answers what is in force then. `times`, `last` and `key` keep the time, the duration and the only key that were written
-/// last, so that equal ones are copied. `common` is what `next` is known to have in common with `before`. Fails only if an
-/// allocation fails.
+/// answers what is in force then. `times` and `key` keep the time and the only key that were written last, so that equal ones
+/// are copied. `common` is what `next` is known to have in common with `before`. Fails only if an allocation fails.
 #[inline(always)]
 pub fn write_next_segment_lines<'a>(
     out: &mut String,
     times: &mut TimeWriter,
-    last: &mut LastDuration<'a>,
     key: &mut LastKey<'a>,
     before: InForce<'a>,
     next: &OutSegment<'a>,
@@ -359,6 +325,6 @@ pub fn write_next_segment_lines<'a>(
 {
     let after = write_changes_before_segment(out, key, before, next, common)?;
     write_optional_instant_line(out, times, next.program_date_time)?;
-    write_segment_media_lines(out, last, &next.segment)?;
+    write_segment_media_lines(out, &next.segment)?;
     Ok(after)
 }

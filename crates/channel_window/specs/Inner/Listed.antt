@@ -34,10 +34,6 @@ is_after number s = nat_lt number s.media_sequence
 abbrev pub date_range_texts_left_in_window : List (List ℕ) → List DateRange → List (List ℕ)
 date_range_texts_left_in_window ids date_ranges = map date_range_text (filter (λ (r : DateRange). not (is_one_of ids r.id)) date_ranges)
 
--- each of these is one of those
-pub record AreAmong (some all : List (List ℕ)) : Type 0 where
-  pub are : (id : List ℕ) → is_one_of some id ≡ true → is_one_of all id ≡ true
-
 -- ---- the numbers of the first item
 
 -- one discontinuity more if a pod stands in front

@@ -1,8 +1,6 @@
 -- What proofs and inner functions say with the definitions of `Owed`.
 use Rattle.playlist_write.specs.Owed.{line_saying}
-use Rattle.std.specs.Prelude.{ℕ, List, [], ◌∷◌, ◌++◌, map, codes}
-use Rattle.spec_words.specs.Bytes.{comma}
-use Rattle.fixed_duration.specs.Duration.{duration_text}
+use Rattle.std.specs.Prelude.{ℕ, List, map}
 use Rattle.playlist_model.specs.declared.Key.{Key}
 use Rattle.playlist_model.specs.declared.InitSection.{InitSection}
 use Rattle.playlist_model.specs.Said.{Said, key, key_tag_said, init_section}
@@ -21,7 +19,3 @@ key_line k = line_saying (key k)
 
 abbrev pub init_section_line : InitSection → List ℕ
 init_section_line s = line_saying (init_section s.uri s.byte_range)
-
--- what stands before the title in the line of a duration
-abbrev pub duration_head : ℕ → List ℕ
-duration_head nanos = codes "#EXTINF:" ++ (duration_text nanos ++ comma ∷ [])
