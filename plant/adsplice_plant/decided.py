@@ -66,12 +66,21 @@ def take_file(turn: Turn, channel: str, name: str, stamp: Stamp, body: bytes) ->
     if old is not None and channel in old.stamps and old.bodies.get(channel) == body and old.state is FileState.GIVEN:
         put_file(turn, name, replace(old, stamps={**old.stamps, channel: stamp}))  # (the same again)
         return
+    if old is not None and comes_after(turn, channel, old, said_by(body)[1]):
+        put_file(turn, name, replace(old, stamps={**old.stamps, channel: stamp}, bodies={**old.bodies, channel: body}))
+        return
     is_going = old is not None and old.state in (FileState.NEW, FileState.GIVEN)
     stamps, bodies = ({**old.stamps, channel: stamp}, {**old.bodies, channel: body}) if old is not None else ({channel: stamp}, {channel: body})
     kind, ids = said_by(body)
     late = old.late if old is not None and is_going and channel not in old.stamps else frozenset[str]()
     put_file(turn, name, None)  # (a changed one comes last)
     put_file(turn, name, File(stamps, bodies, kind, tuple(dict.fromkeys(ids)), late=late, since=turn.at))
+
+
+def comes_after(turn: Turn, channel: str, old: File, ids: Collection[str]) -> bool:
+    """Whether the `channel` is one of subtitles that gets its own part of the file `old` once that was given without it, and its breaks `ids` have begun."""
+    needs_none = bool(turn.state.renditions[channel].settings.empty_subtitles) and channel not in old.stamps
+    return needs_none and old.state is FileState.GIVEN and set(ids) == set(old.ids) == set(begun_of(turn, old.ids)) - old.late
 
 
 def take_away(turn: Turn, channels: list[str], name: str, it: File) -> None:

@@ -94,3 +94,24 @@ def test_subtitles_have_a_pod_of_their_own_if_somebody_decides_it(room):
             it, _ = programme.step(it, FolderRead(name, {"break-1.json": ((2, 2, 2), decided(("break-1", 2)).encode())}), 0.3, 0)
         given = {name: text(body) for name, body in it.decisions[-1].bodies.items()}
         assert is_own or given["film-1"] == text(json.dumps({"breaks": [{"id": "break-1", "ads": [pieces("2", "2")]}]})), given
+
+
+def test_a_file_of_subtitles_that_is_seen_after_the_others_is_not_late(room):
+    """The answer is written into one folder after the other, and a look comes between. The pictures' file is enough, so the break has begun once the subtitles' own is seen."""
+    from dataclasses import replace
+    from adsplice_plant import state
+    from adsplice_plant.events import FolderRead
+    from of_slate import Steps, settings_of
+    it = Steps("s", "v", slate=None)
+    words, pictures = settings_of("s", "v", slate=None)
+    it.state = state.begin([replace(words, empty_subtitles=EMPTY), pictures], 10**8)
+    it.begin()
+    it.list(listed(0, 5))
+    body = decided(("break-1", 3)).encode()
+    it.take(FolderRead("news-v", {"break-1.json": ((1, 1, 1), body)}))
+    it.list(listed(1, 9, [("break-1", 12, 6)]))
+    entered = {name: one.stands.pods.entered for name, one in it.state.renditions.items()}
+    assert all("break-1" in pods for pods in entered.values()), entered
+    it.take(FolderRead("news-s", {"break-1.json": ((1, 1, 2), body)}))
+    assert not [line for line in it.lines if "Late" in line], it.lines
+    assert entered == {name: one.stands.pods.entered for name, one in it.state.renditions.items()}
