@@ -7,15 +7,27 @@ from __future__ import annotations
 from bisect import bisect_left, bisect_right
 from collections.abc import Mapping
 
-from .packaged import PackagedSegment
+from .breaks import Numbering
+from .packaged import PackagedList, PackagedSegment
 from .ranges import starts_in
 from .reckoning import Numbers
-from .siblings import is_alike, pace_of
+from .siblings import is_alike, numbering_of, pace_of
 from .state import Standing
 from .turn import Turn
 from .values import changed
 
 Found = Mapping[str, tuple[int | None, int]]  # by channels: the media number, if it is one that others have, and the discontinuity number
+
+
+def numberings_of(turn: Turn, lists: Mapping[str, PackagedList]) -> dict[str, Numbering]:
+    """The numberings of those channels of the programme whose segments aren't as long as those of the first one of the shortest. Their newest `lists` are
+    looked at beside what was listed before."""
+    if len(turn.state.renditions) == 1:
+        return {}
+    listed = {channel: lists[channel].segments if channel in lists else it.stands.repairer.last for channel, it in turn.renditions()}
+    paces = {channel: pace for channel, it in listed.items() if (pace := pace_of(it))}
+    shortest = next((channel for channel, it in paces.items() if is_alike(it, min(paces.values()))), "")
+    return {channel: numbering_of(listed[channel], listed[shortest]) for channel, it in paces.items() if not is_alike(it, paces[shortest])}
 
 
 def compare(turn: Turn) -> None:

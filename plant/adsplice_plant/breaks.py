@@ -30,7 +30,8 @@ class Break:
     (`is_ended`). What began it: its `name` by the standard, the segmentation `type` (none for a splice_insert and for a tag), the
     `event` and the `upid`, and which of how many breaks it is (`part`, `parts`; 0 if that isn't said). `number`: of its first segment. `latest`: the
     instant of the newest signal that spoke of it. `is_in_step`: its SCTE35-IN came before any segment after it. `others`: further attributes of its tag. `is_told`: its end was
-    told. `slack`: how far from its start it may begin in truth, if only a rendition with longer segments than others has shown that."""
+    told. `slack` and `end_slack`: how far from its start and its end it may begin and end in truth, if only a rendition with longer segments than others
+    has shown that."""
 
     id: str
     start: int
@@ -50,6 +51,7 @@ class Break:
     part: int = 0
     parts: int = 0
     slack: int = 0
+    end_slack: int = 0
 
     def end(self) -> int | None:
         """Where it ends as far as that is known, by a signal or else by its planned duration."""
@@ -67,6 +69,10 @@ class Break:
     def is_extended(self) -> bool:
         """Whether it lasts longer than it was planned to."""
         return self.until is not None and self.is_past_plan(self.until)
+
+    def ended_about(self, instant: int, half: int) -> bool:
+        """Whether it ended about the `instant`, which is known to `half` a segment, as a rendition with longer segments has shown: these say less of it."""
+        return self.is_ended and self.end_slack > 0 and self.until is not None and self.start + half < instant and abs(self.until - instant) <= self.end_slack + half
 
     def extend(self, until: int, least: int) -> None:
         """It lasts `until` then, if that is later than its end by more than `least` and no signal has ended it before that was planned."""
@@ -151,9 +157,11 @@ class Timeline:
         return self.numbering.many == self.numbering.few
 
     def half(self, instant: int) -> int:
-        """Half the duration of the segment in which the `instant` is, or of the one nearest to it."""
+        """Half the duration of the segment in which the `instant` is, or of the one nearest to it. The newest one may be in progress: it counts as long as
+        those before it, at the least."""
         place = min(max(bisect_left(self.begins, instant + 1, self.low) - 1, self.low), len(self.segments) - 1)
-        return self.segments[place].duration // 2
+        first = place if place + 1 < len(self.segments) else max(self.low, place - 2)
+        return max(it.duration for it in self.segments[first:place + 1]) // 2
 
     def nearest(self, instant: int, is_end: bool = False) -> PackagedSegment | None:
         """The listed segment that begins within half a segment of the `instant`; none if there is none, or if the end of the list, where the next segment
@@ -172,9 +180,10 @@ class Timeline:
 
     def begin_from(self, own: int, instant: int, fresh: int) -> int:
         """Where a break begins whose nearest segment to the `instant` begins at `own`: with the segment after that if it is as near, and the first new one, which
-        is at the place `fresh`. Viewers have the one before it without a pod."""
-        is_later = 0 < fresh < len(self.begins) and self.begins[fresh - 1] == own and self.begins[fresh] - instant <= instant - own + TOLERANCE
-        return self.begins[fresh] if is_later else own
+        is at the place `fresh`, or will come after the list. Viewers have the one before it without a pod."""
+        coming = self.begins[fresh] if fresh < len(self.begins) else self.end
+        is_later = fresh > 0 and self.begins[fresh - 1] == own and coming - instant <= instant - own + TOLERANCE
+        return coming if is_later else own
 
     def is_reached(self, instant: int, is_end: bool = False) -> bool:
         """Whether a segment is listed that begins at the `instant` or after it, or within half a segment before it. `is_end` as in `nearest`."""
@@ -395,9 +404,12 @@ class Breaks:
         if own is not None and it.is_stated and not own.is_told:
             own.extend(it.at, half)
         for one in [own] if own else reversed(self.known):
+            is_its = one.type == message.type and (0 in (one.event, message.event) or one.event == message.event)
+            if line.is_shortest() and one.ended_about(at, half) and (own or it.signal.is_cue or is_its):
+                one.until, one.end_slack = at, 0
+                return
             if one.is_ended or at - one.start <= half or one.is_over(at - half):
                 continue
-            is_its = one.type == message.type and (0 in (one.event, message.event) or one.event == message.event)
             if own or it.signal.is_cue or is_its:
                 end = one.end()
                 one.until = at if end is None else min(at, end)
@@ -427,6 +439,7 @@ class Breaks:
                 one.number = found.number if found else one.number
                 one.start, one.is_settled = line.aligned(one.start), True
             if one.until is not None and not one.is_ended and line.is_reached(one.until, True):
+                one.end_slack = 0 if line.is_shortest() else line.half(one.until)
                 one.until, one.is_ended = line.aligned(one.until, True) if line.is_shortest() else one.until, True
             end = one.end()
             if end is not None and not one.is_told and line.is_reached(end, True):

@@ -101,16 +101,22 @@ def stated_of(said: dict[str, list[Any]]) -> dict[str, Stated]:
     return {str(name): Stated(*(None if it is None else int(it) for it in one)) for name, one in said.items()}  # type: ignore[arg-type]
 
 
-def shifts_after(shifts: tuple[Shift, ...], listed: list[list[PackagedSegment]], clocks: list[int], translator: Translator, longest: int) -> tuple[Shift, ...]:
+def shifts_begun(shifts: tuple[Shift, ...], newest: list[PackagedSegment]) -> tuple[Shift, ...]:
+    """Those of the `shifts` by which a segment was given: the `newest` ones are those of all renditions. Whether the last one is to be may be asked again,
+    since a break may have become known that begins before it."""
+    has_begun = any((it.begins or 0) + it.duration // 2 >= shifts[-1].since for it in newest)
+    return shifts if has_begun or len(shifts) == 1 else shifts[:-1]
+
+
+def shifts_after(shifts: tuple[Shift, ...], listed: list[list[PackagedSegment]], clocks: list[int], translator: Translator, lasting: list[int]) -> tuple[Shift, ...]:
     """How viewers' clock goes on after the `shifts`: nearer to the packager's from the end of the `listed` segments of all renditions on, if that was set by all
     of their `clocks`, and no break that the `translator` knows is open or to come then. It goes on at once, and back by half a segment with each new one: so
-    no two segments have one instant. `longest`: the nanoseconds of the longest segment of any rendition."""
-    now, since = shifts[-1], max(map(end_of, listed))
+    no two segments have one instant. `lasting`: the nanoseconds of the newest segments of all renditions."""
+    now, since, longest = shifts[-1], max(map(end_of, listed)), max(lasting)
     by = clocks[0] - now.by
     if abs(by) <= NEAR or max(clocks) - min(clocks) > NEAR or since < now.since + longest - NEAR:
         return shifts
     newest = min(it[-1].begins or 0 for it in listed) - longest  # (a segment that ends a break is to have the break's clock)
     if any((end := it.end()) is None or end > newest for it in translator.breaks.known):
         return shifts
-    least = min(it[-1].duration for it in listed) // 2
-    return (*shifts, Shift(since, now.by + max(by, -least)))[-MOST_SHIFTS:]
+    return (*shifts, Shift(since, now.by + max(by, -min(lasting) // 2)))[-MOST_SHIFTS:]

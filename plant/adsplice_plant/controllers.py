@@ -10,7 +10,7 @@ from collections.abc import Collection, Iterable
 from dataclasses import replace
 
 from . import apart, clocks, decided, faults, numbers, packaged, ranges, replay, spelling
-from .breaks import TOLERANCE
+from .breaks import TOLERANCE, Numbering
 from .decisions import NO_FALLBACK, OVER
 from .events import Answered, Find, Found, Request, Send, What
 from .numbers import Viewed
@@ -403,12 +403,13 @@ def begin_anew(turn: Turn, channel: str, anew: int) -> None:
     translator = turn.state.translator.copy()
     for one in translator.breaks.known:
         one.is_in_step = False  # (it is shown all of a list's segments at once)
-    turn.put(channel, stands=told_at_once(it, stands, translator, turn.state.shifts))
+    turn.put(channel, stands=told_at_once(it, stands, translator, turn.state.shifts, apart.numberings_of(turn, {}).get(channel)))
     turn.set(translator=translator)
 
 
-def told_at_once(it: Rendition, stands: Standing, translator: Translator, shifts: tuple[Shift, ...]) -> Standing:
-    """What stands of the rendition `it`, with the date ranges by which its breaks end where they do in a channel that is shown all segments at once. `shifts` as in `listed_from`."""
+def told_at_once(it: Rendition, stands: Standing, translator: Translator, shifts: tuple[Shift, ...], numbering: Numbering | None) -> Standing:
+    """What stands of the rendition `it`, with the date ranges by which its breaks end where they do in a channel that is shown all segments at once. `shifts` as
+    in `listed_from`, and `numbering` as of a Timeline."""
     head, text = stands.repairer.head, stands.text
     if not it.settings.signals or not it.settings.repair or head is None or not stands.repairer.last:
         return stands
@@ -417,10 +418,10 @@ def told_at_once(it: Rendition, stands: Standing, translator: Translator, shifts
     found.is_independent, found.is_ended = b"#EXT-X-INDEPENDENT-SEGMENTS" in front, text.rstrip().endswith(END)
     found.has_clock = any(abs(one.ahead()) > packaged.NEAR for one in found.segments)
     clocks.put_right(found, stands.repairer.stated)
-    said, told = translator.take(found, it.settings.rendition()), ranges.ids_in(ranges.ranges_in(text))
+    said, told = translator.take(found, it.settings.rendition(), numbering), ranges.ids_in(ranges.ranges_in(text))
     if said.ranges is None:
         return stands
-    lines = [replay.as_it_runs(stands, line) for line in said.ranges if packaged.id_in(line) in told]
+    lines = [replay.as_it_runs(stands, line, stands.repairer.last) for line in said.ranges if packaged.id_in(line) in told]
     viewed = stands.viewed.copy()
     viewed.note(lines, stands.repairer.last[-1].number)
     return replace(stands, viewed=viewed, text=packaged.write(found, lines))

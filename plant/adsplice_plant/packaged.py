@@ -394,16 +394,21 @@ def written_ranges(found: PackagedList, lines: list[str]) -> list[str]:
     """The EXT-X-DATERANGE `lines` of the list `found`, by the clock that viewers have."""
     if not any(it.by for it in found.shifts[-1:]) and not any(it.shift for it in found.segments):
         return lines
-    return [moved_range(line, shift_at(found, instant_of(attributes_of(line.partition(":")[2]).get("START-DATE", "")))) for line in lines]
+    return [moved_range(found, line) for line in lines]
 
 
 def shift_at(found: PackagedList, instant: int | None) -> int:
-    """How much later viewers of the list `found` have the `instant`: as the newest segment that begins by then, or nearly; the first one if none does."""
+    """How much later viewers of the list `found` have the `instant`: as the newest segment that begins by then, or nearly. Of what left the list the shifts say it,
+    as far as they are remembered."""
     last = found.segments[-1]
     if instant is None or last.begins is None or instant >= last.begins + last.duration - NEAR:
         by = later(found.shifts, None if instant is None else instant + last.duration // 2)
         return last.shift if by is None else by
-    return next((it.shift for it in reversed(found.segments) if it.begins is not None and it.begins <= instant + NEAR), found.segments[0].shift)
+    begun = next((it for it in reversed(found.segments) if it.begins is not None and it.begins <= instant + NEAR), None)
+    if begun is not None:
+        return begun.shift
+    by = later(found.shifts, instant + last.duration // 2)
+    return found.segments[0].shift if by is None else by
 
 
 def later(shifts: tuple[Shift, ...], instant: int | None) -> int | None:
@@ -412,10 +417,14 @@ def later(shifts: tuple[Shift, ...], instant: int | None) -> int | None:
     return next((it.by for it in reversed(shifts) if instant is None or it.since <= instant), None)
 
 
-def moved_range(line: str, by: int) -> str:
-    """The EXT-X-DATERANGE `line` with all instants `by` nanoseconds later."""
-    said = attributes_of(line.partition(":")[2]) if by else {}
-    return range_with(line, {name: instant + by for name in INSTANTS if (instant := instant_of(said.get(name, ""))) is not None})
+def moved_range(found: PackagedList, line: str) -> str:
+    """The EXT-X-DATERANGE `line` of the list `found`, by the clock that viewers have: that may be another one where the break ends than where it begins."""
+    said = attributes_of(line.partition(":")[2])
+    instants = {name: instant for name in INSTANTS if (instant := instant_of(said.get(name, ""))) is not None}
+    start, duration = instants.get("START-DATE"), duration_of(said.get("DURATION", ""))
+    if start is not None and duration is not None and (by := shift_at(found, start + duration) - shift_at(found, start)):
+        line = line.replace(f',DURATION={said["DURATION"]}', f",DURATION={playlist.seconds_text(duration + by)}")
+    return range_with(line, {name: instant + shift_at(found, instant) for name, instant in instants.items()})
 
 
 def range_with(line: str, instants: Mapping[str, int | None]) -> str:

@@ -11,17 +11,17 @@ from dataclasses import dataclass, replace
 
 from . import apart, controllers, decided, joining, packaged, presence, ranges, repairs, slates, spelling
 from .edges import by_last, edge_of, note_behind, patience_ends, up_to
-from .breaks import Break, Line, Numbering, shown
-from .clocks import shifts_after
+from .breaks import Break, Line, shown
+from .clocks import shifts_after, shifts_begun
 from .events import Action, Answered, Ask, AskedInVain, Began, Event, FallbackRead, FolderRead, Found, ListRead, Looked, OriginChanged, SlateRead, Tell
 from .events import Repaired as RepairTold
 from .growing import Growing
-from .packaged import PackagedList, PackagedSegment
+from .packaged import PackagedList, PackagedSegment, Shift
 from .playlist import SECOND
 from .reckoning import Numbers, Store
 from .repair import Repaired, Repairer, count_on
 from .replay import as_elsewhere, as_it_runs
-from .siblings import Reach, Sibling, Siblings, is_alike, number_after, numbering_of, pace_of, reach_of
+from .siblings import Reach, Sibling, Siblings, is_alike, number_after, pace_of, reach_of
 from .state import FileState, Rendition, Standing, State, Way
 from .traits import cut_near, usual_length
 from .translator import Translator
@@ -123,7 +123,7 @@ def older_than(it: Rendition, body: bytes) -> tuple[bytes, ...]:
         return ()  # (viewers begin with the newest list)
     if not it.is_new or it.came is None:
         return it.older
-    if has_path(body, it.stands.repairer.last[-1].uri.partition("?")[0].encode()):
+    if has_newest(it, body):
         return ()
     is_left = not has_path(body, newest_of(it.older[-1]) if it.older else oldest_of(it.came))
     return (*it.older, it.came)[-MOST_OLDER:] if is_left else it.older
@@ -133,6 +133,16 @@ def is_older(body: bytes, came: bytes) -> bool:
     """Whether the list `body` is an older one than that which `came` and still waits, as a cache may have it: that has its newest segment, and a newer one."""
     mine, newest = newest_of(body), newest_of(came)
     return bool(mine) and mine != newest and has_path(came, mine) and not has_path(body, newest)
+
+
+def has_newest(it: Rendition, body: bytes) -> bool:
+    """Whether the list `body` has the newest segment of the rendition `it`."""
+    return has_path(body, it.stands.repairer.last[-1].uri.partition("?")[0].encode())
+
+
+def goes_on(it: Rendition) -> bool:
+    """Whether the newest list of the rendition goes on from the last one that was taken in."""
+    return it.stands.repairer.held_since is None and (not it.stands.repairer.last or it.came is None or has_newest(it, it.came))
 
 
 def has_path(body: bytes, path: bytes) -> bool:
@@ -222,11 +232,12 @@ def take_lists(turn: Turn) -> None:
     if not any(it.stands.entry for _, it in turn.renditions()):
         due.sort(key=lambda channel: first_instant(turn.state.renditions[channel].came or b""))
     else:  # (of those that begin again together each has what the others have that begin before it)
-        due.sort(key=lambda channel: 0 if (it := turn.state.renditions[channel]).stands.repairer.held_since is None else first_instant(it.came or b""))
+        due.sort(key=lambda channel: 0 if goes_on(it := turn.state.renditions[channel]) else first_instant(it.came or b""))
     found: dict[str, Taken] = {}
     older = {channel: turn.state.renditions[channel].older for channel in due}
+    coming = coming_together(turn, due)
     for channel in due:
-        if (taken := put_right(turn, channel, found)) is not None:
+        if (taken := put_right(turn, channel, found, coming)) is not None:
             found[channel] = taken
     if not found:
         return
@@ -234,6 +245,7 @@ def take_lists(turn: Turn) -> None:
     translator.breaks.shift = turn.state.shift()
     busy = {channel: righted(turn, channel, found) for channel, it in turn.renditions() if it.is_new and channel not in due}
     told = translate(turn, translator, found, busy) if turn.state.renditions[due[0]].settings.signals else []
+    keep_clock(turn, translator, found)
     learn(turn, found)
     pass_over(turn, translator, found)
     listed = listed_ids(turn) | {name for it in found.values() for name in ranges.ids_in(it.found().date_ranges())}
@@ -252,13 +264,49 @@ def take_lists(turn: Turn) -> None:
         turn.actions[place:place] = [Tell("", line.who, 0, line.word, line.text, is_again=True) for line in told]
 
 
+def coming_together(turn: Turn, due: list[str]) -> frozenset[str]:
+    """Those of the channels `due` whose lists come in this step if none of them waits for another one of them. Lists that are held back would wait for one another
+    in vain."""
+    coming = frozenset(due)
+    if len(due) == 1 or all(turn.state.renditions[channel].stands.repairer.held_since is None for channel in due):
+        return frozenset()
+    while coming:
+        found: dict[str, Taken] = {}
+        for channel in due:
+            if channel in coming and (taken := righted(turn, channel, found, coming)).repaired.found is not None:
+                found[channel] = taken
+        if found.keys() == coming:
+            break
+        coming = frozenset(found)
+    return coming
+
+
 def follow_clock(turn: Turn) -> None:
-    """Viewers' clock follows the packager's, if that was set and nothing speaks against it. Renditions that nobody waits for follow once they go on."""
+    """Viewers' clock follows the packager's, if that was set and nothing speaks against it."""
+    turn.set(shifts=followed(turn, turn.state.shifts, turn.state.translator))
+
+
+def followed(turn: Turn, shifts: tuple[Shift, ...], translator: Translator) -> tuple[Shift, ...]:
+    """How viewers' clock goes on after the `shifts` beside the breaks that the `translator` knows. Renditions that nobody waits for follow once they go on."""
     target = turn.target()
     those = [it.stands.repairer for _, it in turn.renditions() if it.stands.repairer.last and it.stands.repairer.last[-1].begins is not None and turn.at < patience_ends(it, target)]
-    if those:
-        longest = max(it.stands.repairer.last[-1].duration for _, it in turn.renditions() if it.stands.repairer.last)
-        turn.set(shifts=shifts_after(turn.state.shifts, [it.last for it in those], [it.clock for it in those], turn.state.translator, longest))
+    lasting = [it.stands.repairer.last[-1].duration for _, it in turn.renditions() if it.stands.repairer.last]
+    return shifts_after(shifts, [it.last for it in those], [it.clock for it in those], translator, lasting) if those else shifts
+
+
+def keep_clock(turn: Turn, translator: Translator, found: dict[str, Taken]) -> None:
+    """Viewers' clock doesn't make its last step, if no segment has it yet and a break has just become known that it lies in or before: the `translator` knows it
+    by the lists that were `found`."""
+    shifts = turn.state.shifts
+    if len(shifts) == 1:
+        return
+    lists = {channel: it.stands.repairer.last for channel, it in turn.renditions()} | {channel: it.found().segments for channel, it in found.items()}
+    begun = shifts_begun(shifts, [it[-1] for it in lists.values() if it])
+    if begun == shifts or followed(turn, begun, turn.state.translator) != shifts or followed(turn, begun, translator) == shifts:
+        return
+    turn.set(shifts=begun)
+    for it in found.values():
+        it.found().shifts = begun
 
 
 def may_begin(turn: Turn) -> bool:
@@ -312,14 +360,14 @@ def first_instant(body: bytes) -> int:
     return next((it.stated for it in segments_of(body) if it.stated is not None), 0)
 
 
-def put_right(turn: Turn, channel: str, found: dict[str, Taken]) -> Taken | None:
+def put_right(turn: Turn, channel: str, found: dict[str, Taken], coming: Collection[str]) -> Taken | None:
     """The list of the `channel` that is to be taken in now, put right up to the edge; none if nothing of it is to be given. `found`: those of
-    other renditions that come with it."""
+    other renditions that come with it; nor does it wait for those that are `coming`."""
     it = turn.state.renditions[channel]
     if not it.settings.repair:
         turn.put(channel, is_new=False)
         return righted(turn, channel, found)
-    taken = righted(turn, channel, found)
+    taken = righted(turn, channel, found, coming)
     repaired = taken.repaired
     tell_why(turn, channel, repaired)
     older = it.older if repaired.waits else it.older[1:]
@@ -334,7 +382,7 @@ def put_right(turn: Turn, channel: str, found: dict[str, Taken]) -> Taken | None
     return taken
 
 
-def righted(turn: Turn, channel: str, found: dict[str, Taken]) -> Taken:
+def righted(turn: Turn, channel: str, found: dict[str, Taken], coming: Collection[str] = ()) -> Taken:
     """What the list of the `channel` that is to be taken in next becomes; nothing is changed by that. The rest as in `put_right`."""
     it = turn.state.renditions[channel]
     body = it.older[0] if it.older else it.came
@@ -344,7 +392,7 @@ def righted(turn: Turn, channel: str, found: dict[str, Taken]) -> Taken:
     edge = edge_of(turn, channel) if len(turn.state.renditions) > 1 and not it.older else None
     text = up_to(body, by_last(it, it.reach or reach_of(body)), edge) if edge is not None else body
     repairer = changed(it.stands.repairer)
-    repairer.siblings = siblings_of(turn, channel, found) if len(turn.state.renditions) > 1 else None
+    repairer.siblings = siblings_of(turn, channel, found, coming) if len(turn.state.renditions) > 1 else None
     repairer.shifts, repairer.waited = turn.state.shifts, it.read_at - it.given_at
     if it.is_other:
         repairer.held_since = float("-inf")
@@ -366,8 +414,9 @@ def go_on_after(repaired: Repaired, end: Numbers) -> None:
         repaired.came = repaired.accepted = None
 
 
-def siblings_of(turn: Turn, channel: str, found: dict[str, Taken]) -> Siblings:
-    """The other renditions, as the one of the `channel` sees them; of those that have no list yet the first ones, which were `found`."""
+def siblings_of(turn: Turn, channel: str, found: dict[str, Taken], coming: Collection[str]) -> Siblings:
+    """The other renditions, as the one of the `channel` sees them; of those that have no list yet the first ones, which were `found`. It waits for none of those
+    that are `coming`."""
     mine = turn.state.renditions[channel]
     pace = pace_of(mine.stands.repairer.last or segments_of(mine.came or b""))
     siblings = []
@@ -379,8 +428,8 @@ def siblings_of(turn: Turn, channel: str, found: dict[str, Taken]) -> Siblings:
             if held_since is not None and growing is not None and growing.stated is not None and listed and name not in found:  # (it stays as long as it was)
                 listed.append(replace(growing, begins=growing.stated - it.stands.repairer.clock, number=listed[-1].number + 1, discontinuity=listed[-1].discontinuity))
             listed += [one for one in new if not listed or one.number > listed[-1].number]
-            waits = held_since is not None and name not in found and turn.at - held_since < (target_of(turn.state, name) or 0)
-            siblings.append(Sibling(it.settings.base, listed, held_since is not None, waits, is_like and it.settings.group == mine.settings.group, is_like))
+            waits = held_since is not None and name not in found and name not in coming and turn.at - held_since < (target_of(turn.state, name) or 0)
+            siblings.append(Sibling(it.settings.base, listed, held_since is not None or name in coming, waits, is_like and it.settings.group == mine.settings.group, is_like))
     return Siblings(siblings)
 
 
@@ -406,7 +455,7 @@ def translate(turn: Turn, translator: Translator, found: dict[str, Taken], busy:
     lists = {channel: it.found() for channel, it in found.items() if it.found().segments}
     others = [(channel, it.found()) for channel, it in busy.items() if it.found().segments]
     told: list[Line] = []
-    numberings = numberings_of(turn, {**lists, **dict(others)})
+    numberings = apart.numberings_of(turn, {**lists, **dict(others)})
     lists = {channel: lists[channel] for channel in sorted(lists, key=lambda it: it in numberings)}  # (the shortest segments say first where a break begins)
     others.sort(key=lambda it: it[0] in numberings)
     if len(lists) + len(others) > 1:
@@ -417,17 +466,6 @@ def translate(turn: Turn, translator: Translator, found: dict[str, Taken], busy:
         said = translator.take(it, turn.state.renditions[channel].settings.rendition(), numberings.get(channel))
         told, it.signals = told + said.told, said.ranges
     return told
-
-
-def numberings_of(turn: Turn, lists: Mapping[str, PackagedList]) -> dict[str, Numbering]:
-    """The numberings of those channels of the programme whose segments aren't as long as those of the first one of the shortest. Their newest `lists` are
-    looked at beside what was listed before."""
-    if len(turn.state.renditions) == 1:
-        return {}
-    listed = {channel: lists[channel].segments if channel in lists else it.stands.repairer.last for channel, it in turn.renditions()}
-    paces = {channel: pace for channel, it in listed.items() if (pace := pace_of(it))}
-    shortest = next((channel for channel, it in paces.items() if is_alike(it, min(paces.values()))), "")
-    return {channel: numbering_of(listed[channel], listed[shortest]) for channel, it in paces.items() if not is_alike(it, paces[shortest])}
 
 
 def learn(turn: Turn, found: dict[str, Taken]) -> None:
@@ -541,6 +579,8 @@ def enter(turn: Turn, translator: Translator, found: dict[str, Taken]) -> None:
     for channel, it in found.items():
         if it.is_part or channel not in new:
             turn.put(channel, is_other=False)
+        if channel not in new and it.repaired.growing is not None:  # (it stays as long as it is, if the packager begins again)
+            turn.put_standing(channel, repairer=changed(turn.state.renditions[channel].stands.repairer, growing=it.repaired.growing))
     if not new:
         return
     entry = turn.next_entry()
@@ -584,7 +624,7 @@ def text_of(turn: Turn, channel: str, it: Taken, translator: Translator) -> byte
         if lines != found.date_ranges():
             found.signals = lines
     if found is not None and found.segments:
-        lines = [as_it_runs(rendition.stands, line) for line in found.date_ranges()]
+        lines = [as_it_runs(rendition.stands, line, found.segments) for line in found.date_ranges()]
         if lines != found.date_ranges():
             found.signals = lines
     if it.repaired.head is None and found is not None:

@@ -472,8 +472,12 @@ class Repairer:
         last, newest = self.last[-1], segments[-1]
         end = (last.begins or 0) + last.duration
         until = first.stated + lasting(segments) - self.clock
+        theirs = self.siblings.clock_at(newest.stated, end) if self.siblings is not None and newest.stated is not None else None
+        if theirs is not None and first.own > last.own and abs(first.stated - theirs - end - missed_by(last, segments)) <= packaged.NEAR:
+            return theirs  # (its numbers say so, too)
         is_seen = until >= end - newest.duration or begins_alike([*self.past, *self.last], segments)
-        if first.stated - self.clock <= end + max(SECOND, last.duration) and is_seen:
+        is_set = self.siblings is not None and first.own > last.own and self.siblings.clock_at(first.stated, end - last.duration // 2) is not None
+        if first.stated - self.clock <= end + max(SECOND, last.duration) and is_seen and not is_set:
             return self.clock  # (some of it was seen)
         return self.clock_at(first.stated, last, first)
 

@@ -76,14 +76,14 @@ def as_elsewhere(stands: Standing, others: list[Standing], line: str, segments: 
         run = run_of(other, history_of(other), said[0]) if said is not None and name in other.pods.entered else None
         if said is None or run is None or not is_behind(stands, other) or (run.end if run.last is not None else end_of(other)) <= end_of(stands):
             continue
-        length, half = length_of(found), stands.repairer.last[-1].duration // 2
+        length, half, longest = length_of(found), stands.repairer.last[-1].duration // 2, other.repairer.last[-1].duration
         if run.last is None:
-            lasts, longest = end_of(other) - run.start, other.repairer.last[-1].duration
+            lasts = end_of(other) - run.start
             least = lasting(run.start, end_of(other), found.start(), segments) if 3 * half > longest else lasts - longest  # (longer segments say less of the end)
             is_other = length is not None and length < least - TOLERANCE
         else:
             lasts = lasting_elsewhere(other, run, said[0], found.start(), segments)
-            is_other = length is None or abs(length - lasts) > half
+            is_other = length is None or abs(length - lasts) > max(half, longest // 2)
         if is_other:
             return f"{without(line, ENDS)},DURATION={seconds_text(lasts)}"
         if run.last is not None:
@@ -119,9 +119,9 @@ def lasting(began: int, end: int, start: int | None, segments: list[PackagedSegm
     return near.begins - start
 
 
-def as_it_runs(stands: Standing, line: str) -> str:
+def as_it_runs(stands: Standing, line: str, segments: list[PackagedSegment]) -> str:
     """The EXT-X-DATERANGE `line` of a break that is open, and had no end when it began. It ends with its pod then, unless it is ended before: what
-    says a later end may come after lists that nobody read. Once adsplice was told so, an END-DATE alone says an earlier end."""
+    says a later end may come after lists that nobody read. Once adsplice was told so, an END-DATE alone says an earlier end. The new list has the `segments`."""
     reckoned, found = stands.viewed.reckoned, read_range(line)
     if reckoned is None or reckoned.run is None or reckoned.run.id != found.id:
         return line
@@ -132,9 +132,18 @@ def as_it_runs(stands: Standing, line: str) -> str:
     if length is None or not (is_by_pod or is_told):
         return line
     if length > total + TOLERANCE:
-        return f"{without(line, ENDS)},{by_pod}"
+        return f"{without(line, ENDS)},DURATION={seconds_text(lasting_by_pod(stands, found.start(), total, segments))}"
     is_earlier = is_told and "END-DATE" not in found.said and length < total - TOLERANCE
     return f'{without(line, ENDS)},END-DATE="{instant_text((found.start() or 0) + length)}"' if is_earlier else line
+
+
+def lasting_by_pod(stands: Standing, start: int | None, total: int, segments: list[PackagedSegment]) -> int:
+    """How long a break lasts that began at `start` and whose pod lasts `total` nanoseconds. If that is over with the lists that stand so, the next one of the
+    `segments` is after it, also if that is another rendition's and begins somewhat earlier."""
+    last = stands.repairer.last[-1]
+    first = next((it.begins for it in segments if it.number > last.number), None)
+    is_over = start is not None and end_of(stands) >= start + total - TOLERANCE
+    return max(0, min(total, first - start)) if start is not None and first is not None and is_over else total
 
 
 def length_of(found: DateRange) -> int | None:

@@ -136,17 +136,20 @@ class Siblings:
         """The segments of one of them whose middles lie in the time from the end of a rendition's `last` segment to before `end`: of the one that has most
         of them. Their references hold for another rendition, too. None if they are more than MOST_BORROWED."""
         start = (last.begins or 0) + last.duration
-        return self.most([[it for it in one.segments if it.begins is not None and start <= middle_of(it) < end] for one in self.found])
+        return self.most([[it for it in one.segments if it.begins is not None and start <= middle_of(it) < end] for one in self.found], start)
 
     def after(self, last: PackagedSegment, count: int, first: int) -> list[PackagedSegment]:
         """The `count` segments of one of them after the one that is the `last` one of a rendition, by their media numbers; none if none has them all by
         its packager's numbers, too, or if they end more than a segment from the instant `first`."""
         found = [[it for it in one.segments if last.number <= it.number <= last.number + count] if one.has(last) else [] for one in self.found]
-        return self.most([those[1:] if len(those) == count + 1 and those[-1].own - those[0].own == count and is_before(those[-1], first) else [] for those in found])
+        lent = [those[1:] if len(those) == count + 1 and those[-1].own - those[0].own == count and is_before(those[-1], first) else [] for those in found]
+        return self.most(lent, (last.begins or 0) + last.duration)
 
-    def most(self, found: list[list[PackagedSegment]]) -> list[PackagedSegment]:
-        """Of the segments that were `found` of each rendition those of the one that lends most of them; none if they are more than MOST_BORROWED."""
-        there, base = max(((segments, one.base) for segments, one in zip(found, self.found) if one.lends), key=lambda it: len(it[0]), default=([], ""))
+    def most(self, found: list[list[PackagedSegment]], start: int) -> list[PackagedSegment]:
+        """Of the segments that were `found` of each rendition those of the one that lends most of them, of several the one whose first begins nearest to the
+        instant `start`; none if they are more than MOST_BORROWED."""
+        lent = [(segments, one.base) for segments, one in zip(found, self.found) if one.lends and segments]
+        there, base = max(lent, key=lambda it: (len(it[0]), -abs((it[0][0].begins or 0) - start)), default=([], ""))
         return [moved(it, base) for it in there] if len(there) <= MOST_BORROWED else []
 
 

@@ -98,9 +98,10 @@ def history_of(stands: Standing) -> list[PackagedSegment]:
 
 
 def window_of(stands: Standing) -> set[str]:
-    """The IDs of the breaks that the first list of a new channel would have: of segments from the one on that is needed for it."""
+    """The IDs of the breaks that the first list of a new channel may have: of segments from the one on that is needed for it, if the channel before it
+    lacks as many as are listed."""
     if not stands.repairer.last:
         return set()
     history = history_of(stands)
-    needed = first_needed(stands.viewed, history, stands.repairer.last[0].number)
+    needed = first_needed(stands.viewed, history, stands.repairer.last[0].number - len(stands.repairer.last))
     return {name for name, (_, number) in stands.viewed.ranges.items() if needed is None or number >= history[needed].number}

@@ -6,7 +6,7 @@ from tools import PLANT, instant
 sys.path.insert(0, PLANT)
 from adsplice_plant import packaged  # noqa: E402
 from adsplice_plant.breaks import Break  # noqa: E402
-from adsplice_plant.clocks import Span, Stated, by_programme, placed, shifts_after, spans_of  # noqa: E402
+from adsplice_plant.clocks import Span, Stated, by_programme, placed, shifts_after, shifts_begun, spans_of  # noqa: E402
 from adsplice_plant.packaged import PackagedSegment, Shift  # noqa: E402
 from adsplice_plant.playlist import SECOND  # noqa: E402
 from adsplice_plant.repair import Choices, Repairer  # noqa: E402
@@ -98,16 +98,18 @@ def test_date_ranges_mean_what_they_meant(room):
 def test_viewers_have_no_instant_twice(room):
     listed = [PackagedSegment(f"{n}.ts", n, 2 * SECOND, begins=2 * n * SECOND, said=2 * SECOND) for n in range(6)]
     translator, none = Translator(), (Shift(),)
-    assert shifts_after(none, [listed], [0], translator, 2 * SECOND) == none
-    assert shifts_after(none, [listed], [3600 * SECOND], translator, 2 * SECOND)[-1] == Shift(12 * SECOND, 3600 * SECOND)
-    back = shifts_after(none, [listed], [-3 * SECOND], translator, 2 * SECOND)
-    assert back[-1] == Shift(12 * SECOND, -SECOND) and shifts_after(back, [listed], [-3 * SECOND], translator, 2 * SECOND) == back
-    assert shifts_after(none, [listed, listed], [0, 5 * SECOND], translator, 2 * SECOND) == none
+    assert shifts_after(none, [listed], [0], translator, [2 * SECOND]) == none
+    assert shifts_after(none, [listed], [3600 * SECOND], translator, [2 * SECOND])[-1] == Shift(12 * SECOND, 3600 * SECOND)
+    back = shifts_after(none, [listed], [-3 * SECOND], translator, [2 * SECOND])
+    assert back[-1] == Shift(12 * SECOND, -SECOND) and shifts_after(back, [listed], [-3 * SECOND], translator, [2 * SECOND]) == back
+    assert shifts_after(none, [listed, listed], [0, 5 * SECOND], translator, [2 * SECOND]) == none
     later = [*listed, PackagedSegment("6.ts", 6, 2 * SECOND, begins=12 * SECOND - SECOND // 2, said=2 * SECOND)]  # (renditions that are cut otherwise)
-    assert shifts_after(back, [listed, later], [-3 * SECOND] * 2, translator, 2 * SECOND) == back
+    assert shifts_after(back, [listed, later], [-3 * SECOND] * 2, translator, [2 * SECOND]) == back
+    assert shifts_after(none, [listed], [-3 * SECOND], translator, [2 * SECOND, SECOND])[-1].by == -SECOND // 2  # (another rendition's segments are shorter)
+    assert shifts_begun(back, listed[-1:]) == none and shifts_begun(back, later[-1:]) == back and shifts_begun(none, later) == none
     for end, is_over in ((8 * SECOND, True), (9 * SECOND, False), (None, False)):  # (the newest segment, at 10 s, is past it in all renditions)
         translator.breaks.known = [Break("b", 4 * SECOND, 2, "a tag", until=end)]
-        assert (shifts_after(none, [listed], [5 * SECOND], translator, 2 * SECOND) != none) == is_over, end
+        assert (shifts_after(none, [listed], [5 * SECOND], translator, [2 * SECOND]) != none) == is_over, end
 
 
 def test_a_written_list_has_viewers_instants(room):
@@ -118,6 +120,8 @@ def test_a_written_list_has_viewers_instants(room):
     assert [line.partition(":")[2] for line in text.splitlines() if "DATE-TIME" in line] == [instant(it) for it in (0, 2, 3, 5)], text
     for name, at in (("a", 2), ("b", 3), ("c", 7)):
         assert f'ID="{name}",START-DATE="{instant(at)}",END-DATE="{instant(at + 1)}"' in text, text
+    over = packaged.written_ranges(found, [f'#EXT-X-DATERANGE:ID="d",START-DATE="{instant(2)}",PLANNED-DURATION=2,DURATION=2'])
+    assert over == [f'#EXT-X-DATERANGE:ID="d",START-DATE="{instant(2)}",PLANNED-DURATION=2,DURATION=1'], over  # (the clock goes back within it)
 
 
 def test_lists_of_one_clock_stay_as_they_came(room):

@@ -229,10 +229,10 @@ def test_faults_are_left_out_one_by_one(room):
         World.fault_controller_killed = whole
 
 
-def seen(*lists):
-    """The kinds of breaches for viewers who see these lists of (number, URI, discontinuity number)."""
+def seen(*lists, now=60_000):
+    """The kinds of breaches for viewers who see these lists of (number, URI, discontinuity number); the packager has cut until `now`."""
     packager, ads = Packager(CALM, "v"), Ads({("v", "b0", "0"): ["http://ads.example/v/b0/0/0-0.ts", "http://ads.example/v/b0/0/0-1.ts"]}, {("v", "b0", "0"): 12_000})
-    packager.go_on(60_000)
+    packager.go_on(now)
     viewers = Viewers(CALM, packager, {"v": packager}, ads, {"v": {uri: 0.0 for uri in packager.truth}})
     for one in lists:
         viewers.see([Written(*it) for it in one], 1.0)
@@ -268,7 +268,8 @@ def test_viewers_see_what_is_wrong(room):
     assert seen(programme(3, 8), programme(5, 7)) == ["goes back"]
     assert seen(programme(3, 8), programme(6, 9, 5)) == ["two contents"] * 4 + ["goes back"] * 0
     assert seen(programme(3, 8), [(5, f"{BASE}/v/0/5.ts", 1)] + programme(6, 8)) == ["two discontinuity numbers"]
-    assert seen(programme(3, 8), programme(11, 12)) == ["leaves numbers out", "lost"]
+    assert seen(programme(3, 8), programme(11, 12), now=26_500) == ["leaves numbers out", "lost"]
+    assert seen(programme(3, 8), programme(11, 12)) == []  # (those between left the list longer ago than it lasts)
     assert seen(programme(3, 8) + programme(10, 11, 9)) == ["lost"]
     assert seen(programme(3, 8) + programme(8, 9, 9)) == ["doubled"]
     assert seen(programme(5, 8) + programme(4, 4, 9)) == ["out of order"]

@@ -296,7 +296,7 @@ def crowded():
         {"a": Mark(8, "8.ts", 48, 46, 9, 2)}, {"a": 6}, {"a": {"b1": {"SCTE35-OUT"}}}, {"a": {"b1": 6}}, {"a": {"b1": [6, None]}}, {"EXT-X-AD"})
     translator.breaks = copy.copy(one.translator.breaks)
     breaks = translator.breaks
-    breaks.known, breaks.cancelled, breaks.is_first = [Break("b1", 6, 7, "a splice", 52, 9, "upid", 3, 9, False, True, True, 8, ",X=1", True, 1, 2, 3)], {"b3"}, False
+    breaks.known, breaks.cancelled, breaks.is_first = [Break("b1", 6, 7, "a splice", 52, 9, "upid", 3, 9, False, True, True, 8, ",X=1", True, 1, 2, 3, 4)], {"b3"}, False
     return dataclasses.replace(one, renditions=renditions, translator=translator, entry=9, life="one", shifts=(Shift(1, 2), Shift(3, 4)))
 
 

@@ -102,17 +102,38 @@ class Viewers:
         if self.last >= 0 and number < self.last - len(self.ledger):
             self.breach("goes back", f"number {number} is new, and before those that they have")
         if self.ledger and number - 1 not in self.ledger and len(self.ledger) > 1:
-            self.breach("leaves numbers out", f"{self.last + 1} to {number - 1}")
             self.left, self.since = [], []
+            if (begin := self.begin_after_gone(uri)) is None:
+                self.breach("leaves numbers out", f"{self.last + 1} to {number - 1}")
+            else:
+                self.reached = max(self.reached or begin, begin)
         if uri.startswith(ADS):
             self.take_ad(uri)
         else:
             self.take_programme(number, uri)
 
+    def begin_after_gone(self, uri: str) -> int | None:
+        """The millisecond of the programme at which the segment `uri` begins, if all before it left the packager's list longer ago than that lasts: they
+        may not be there any more (RFC 8216, 6.2.2). Else none. A fallback is of the last break that has begun by then."""
+        if not self.packager.cuts:
+            return None
+        until, name = 2 * self.packager.cuts[0].begin - self.packager.cuts[-1].end + NEAR, uri.removeprefix(ADS).split("/")[1]
+        begins = [it.start for it in self.plan.breaks if name in (it.name, FALLBACK)] if uri.startswith(ADS) else [it.begin for it in [self.found(uri)] if it is not None]
+        return max((it for it in begins if it <= until), default=None)
+
+    def found(self, uri: str) -> Cut | None:
+        """What the programme's segment with this `uri` is, whosever it is; none if it is nobody's."""
+        path = plain(uri, uri.split("/")[3])
+        return next((it.truth[path] for it in (self.packager, *self.others.values()) if path in it.truth), None)
+
     def numbers(self) -> dict[int, tuple[int, int]]:
         """The media number and the discontinuity number of each cut of the programme, whosever segment that was."""
         times = self.plan.times(self.packager.name)
         return {times * cut_of(path): (number, self.ledger[number].discontinuity) for path, number in self.seen.items()}
+
+    def began_after(self, moment: float) -> bool:
+        """Whether they had nothing of the programme up to a `moment`."""
+        return min(self.times.values(), default=self.now) > moment
 
     # ---- pods
 
@@ -186,8 +207,7 @@ class Viewers:
         if self.left:
             self.breach("pod in part", f"{len(self.left)} segments of it are missing before {uri}")
         self.left = []
-        path = plain(uri, uri.split("/")[3])
-        found = next((it.truth[path] for it in (self.packager, *self.others.values()) if path in it.truth), None)
+        path, found = plain(uri, uri.split("/")[3]), self.found(uri)
         if found is None:
             self.breach("segment of nobody", uri)
             return

@@ -220,6 +220,8 @@ class World:
             pods = {name: next(((pod.name, pod.version) for pod in it.pods if pod.place == place), None) for name, it in self.viewers.items()}
             if self.plan.fill == OTHERS:
                 pods = {name: it for name, it in pods.items() if it is not None} or pods
+            shown = min((pod.at for it in self.viewers.values() for pod in it.pods if pod.place == place), default=self.now)
+            pods = {name: it for name, it in pods.items() if it is not None or not self.viewers[name].began_after(shown)}  # (one that comes first within a break begins after it)
             self.tally["breaks"] += 1
             self.tally["filled"] += any(pods.values())
             self.tally["own pods"] += any(it and it[0] != FALLBACK for it in pods.values())
