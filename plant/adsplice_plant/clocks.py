@@ -60,15 +60,17 @@ def by_programme(said: int, spans: list[Span]) -> int:
     return said - found.ahead
 
 
-def put_right(found: PackagedList, known: dict[str, Stated]) -> dict[str, Stated]:
-    """Puts the date ranges of the list `found` on the programme's clock; `known` is what those of the list before stated. Answers what these state."""
+def put_right(found: PackagedList, known: dict[str, Stated], is_part: bool = False) -> dict[str, Stated]:
+    """Puts the date ranges of the list `found` on the programme's clock; `known` is what those of the list before stated. Answers what these state. If the list
+    `is_part` of what its packager lists, an END-DATE after it may be by another clock."""
+    until = end_stated(found.segments) if is_part else None
     spans, stated, rows = spans_of(found.segments) if found.has_clock else [], dict[str, Stated](), []
     for place, at, line in found.own_ranges():
         it = read_range(line)
         start, end = it.start(), instant_of(it.said.get("END-DATE", ""))
         if it.id and start is not None:
             planned = duration_of(it.said.get("PLANNED-DURATION", ""))
-            one = stated[it.id] = placed(stated.get(it.id, known.get(it.id)), start, end, spans, planned)
+            one = stated[it.id] = placed(stated.get(it.id, known.get(it.id)), start, end, spans, planned, until)
             line = range_with(line, {"START-DATE": one.start, "END-DATE": one.end})
             line = line if one.end is not None else line.replace(f',END-DATE="{it.said.get("END-DATE")}"', "", 1)
         rows.append((place, at, line))
@@ -77,11 +79,23 @@ def put_right(found: PackagedList, known: dict[str, Stated]) -> dict[str, Stated
     return stated
 
 
-def placed(known: Stated | None, start: int, end: int | None, spans: list[Span], planned: int | None = None) -> Stated:
+def is_come(known: Stated, start: int, spans: list[Span]) -> bool:
+    """Whether the instant `start` that a date range states, as it did before, is that of a newest listed segment, though by the clock that was known then (`known`)
+    it is to come yet: it was stated by a clock that the packager had just set."""
+    newest = spans[0] if spans else Span(0, 0, 0)
+    return known.said == start and newest.first - NEAR <= start <= newest.end + NEAR and known.start > newest.end - newest.ahead + NEAR
+
+
+def end_stated(segments: list[PackagedSegment]) -> int | None:
+    """The instant at which the `segments` end by their packager's clock; none if the last one states none."""
+    return segments[-1].stated + segments[-1].duration if segments and segments[-1].stated is not None else None
+
+
+def placed(known: Stated | None, start: int, end: int | None, spans: list[Span], planned: int | None = None, until: int | None = None) -> Stated:
     """What a date range states that begins at `start` and ends at `end` (none if it doesn't say) and is `planned` to last so long, of which that is `known`
-    which it stated in the list before. What can't be so, or moves or extends the break, counts once two lists state it."""
+    which it stated in the list before. What can't be so, or moves or extends the break, or lies after `until`, counts once two lists state it."""
     begins = by_programme(start, spans)
-    if known is None or abs(begins - known.start) <= NEAR or known.pending == start:
+    if known is None or abs(begins - known.start) <= NEAR or known.pending == start or is_come(known, start, spans):
         one = Stated(start, begins)
     else:
         one = Stated(known.said, known.start, pending=None if known.said == start else start)
@@ -90,7 +104,7 @@ def placed(known: Stated | None, start: int, end: int | None, spans: list[Span],
     if known is not None and known.said_end == end:
         return one._replace(said_end=end, end=known.end)
     ends = by_programme(end, spans)
-    is_sure = one.start < ends and (planned is None or ends <= one.start + planned + SECOND)
+    is_sure = one.start < ends and (planned is None or ends <= one.start + planned + SECOND) and (until is None or end <= until + NEAR)
     if is_sure or known is not None and known.pending_end == end:
         return one._replace(said_end=end, end=ends)
     return one._replace(said_end=None if known is None else known.said_end, end=None if known is None else known.end, pending_end=end)

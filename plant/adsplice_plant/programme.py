@@ -393,7 +393,7 @@ def righted(turn: Turn, channel: str, found: dict[str, Taken], coming: Collectio
     text = up_to(body, by_last(it, it.reach or reach_of(body)), edge) if edge is not None else body
     repairer = changed(it.stands.repairer)
     repairer.siblings = siblings_of(turn, channel, found, coming) if len(turn.state.renditions) > 1 else None
-    repairer.shifts, repairer.waited = turn.state.shifts, it.read_at - it.given_at
+    repairer.shifts, repairer.waited, repairer.is_part = turn.state.shifts, it.read_at - it.given_at, text is not body
     if it.is_other:
         repairer.held_since = float("-inf")
     repaired = repairer.take(text, turn.at, turn.clock)

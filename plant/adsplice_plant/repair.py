@@ -121,6 +121,7 @@ class Repairer:
         self.is_guessed = False  # whether that isn't known to the millisecond
         self.shifts: tuple[Shift, ...] = (Shift(),)  # the programme's
         self.waited = float("inf")  # seconds after which this list came after the last one
+        self.is_part = False  # whether this list is the beginning of what its packager lists
         self.listed = 0  # nanoseconds that this list lasts
 
     # ---- a list
@@ -414,7 +415,7 @@ class Repairer:
         of its segments that the list hasn't from one whose clock was the programme's."""
         segments = found.segments if new is None or self.accepted is None or self.accepted.found.has_clock else new
         found.shifts, found.has_clock = self.shifts, any(abs(it.ahead()) > packaged.NEAR for it in segments)
-        self.stated = clocks.put_right(found, self.stated)
+        self.stated = clocks.put_right(found, self.stated, self.is_part)
         if any(it.is_set() for it in segments):
             kinds["clock"] = ""
 
@@ -458,8 +459,8 @@ class Repairer:
         return max(0, round(self.waited * SECOND) - self.listed + it.duration // 2) // it.duration * it.duration
 
     def is_exact(self) -> bool:
-        """Whether the newest listed segments begin where those before them end: then a packager whose instants are others has set its clock."""
-        newest = self.last[-MOST_LOOKED_AT:]
+        """Whether the newest segments that were listed begin where those before them end: then a packager whose instants are others has set its clock."""
+        newest = [*self.past[-MOST_LOOKED_AT:], *self.last][-MOST_LOOKED_AT:]
         return len(newest) > 2 and all(abs((it.begins or 0) - (before.begins or 0) - before.said - it.gap) <= packaged.NEAR for before, it in zip(newest, newest[1:]))
 
     def clock_of(self, segments: list[PackagedSegment]) -> int:

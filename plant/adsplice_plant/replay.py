@@ -142,8 +142,9 @@ def lasting_by_pod(stands: Standing, start: int | None, total: int, segments: li
     `segments` is after it, also if that is another rendition's and begins somewhat earlier."""
     last = stands.repairer.last[-1]
     first = next((it.begins for it in segments if it.number > last.number), None)
-    is_over = start is not None and end_of(stands) >= start + total - TOLERANCE
-    return max(0, min(total, first - start)) if start is not None and first is not None and is_over else total
+    if start is None or first is None or end_of(stands) < start + total - TOLERANCE:
+        return total
+    return first - start if start < first < start + total - TOLERANCE else total
 
 
 def length_of(found: DateRange) -> int | None:

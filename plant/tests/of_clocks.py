@@ -49,6 +49,8 @@ def test_the_programmes_clock_goes_on_where_a_packager_sets_its_own(room):
         for new in (steady(2, 5) + steady(6, 6, by), steady(4, 5) + steady(6, 9, by)):
             found, repairer = begins_after(list_of(steady(0, 5)), list_of(new))
             assert found == [2.0 * number for number, _ in new] and repairer.clock == by * SECOND, (by, found)
+    found, repairer = begins_after(list_of(steady(0, 5)), list_of(steady(4, 5)), list_of([*steady(5, 5), *steady(6, 7, -0.6)]))  # (of few segments, too)
+    assert found == [10.0, 12.0, 14.0] and repairer.clock == -6 * SECOND // 10, found
 
 
 def test_what_a_packager_leaves_out_is_a_gap_and_no_other_clock(room):
@@ -91,6 +93,12 @@ def test_date_ranges_mean_what_they_meant(room):
     early = placed(one._replace(said_end=None, end=None), begins, ends + later, [], 10 * SECOND)  # (by a clock that no segment has yet)
     assert early.end is None and placed(early, begins, ends + later, [Span(later, 2 * later, later)], 10 * SECOND).end == ends
     assert placed(early, begins, ends + later, [], 10 * SECOND).end == ends + later  # (extended)
+    half, until = SECOND // 2, ends - 2 * SECOND
+    cut = placed(None, begins, ends + half, [], 10 * SECOND, until)  # (of what the list goes on with nobody knows the clock)
+    assert cut.end is None and placed(cut, begins, ends + half, [Span(until, ends + half, half)], 10 * SECOND, ends + half).end == ends
+    ahead = placed(None, begins + later, None, [])  # (it was stated by a clock that no segment had yet)
+    assert placed(ahead, begins + later, None, [Span(begins + later, begins + later + SECOND, later), Span(0, begins, 0)]).start == begins
+    assert placed(ahead, begins + later, None, [Span(begins + later, begins + later + SECOND, 0)]).start == begins + later
     _, repairer = begins_after(list_of(steady(0, 5), ranges=[("b", 14)]), list_of(steady(1, 5) + steady(6, 7, -180), ranges=[("b", 14 - 180)]))
     assert repairer.stated["b"].start == BEGUN + 14 * SECOND
 
