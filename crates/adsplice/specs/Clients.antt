@@ -5,11 +5,13 @@ use Rattle.http_edge.specs.declared.serving.EdgeFault.TheVariants.{Read, Write}
 use Rattle.connections.specs.declared.arrivals.Arrival.{Arrival}
 use Rattle.connections.specs.declared.conversation.Conversation.{Conversation}
 use Rattle.connections.specs.declared.conversation.Conversation.TheVariants.{Asking, Answering}
+use Rattle.connections.specs.Clients.{ClientAt}
 use Rattle.connections.specs.Lines.{LineState}
 
--- the places of the vacant seats; those that are served, whose end is awaited, of which something came, that took bytes, and whose
--- bytes have no room, each in their order; and the line
-pub record ClientsState : Type 0 where
+-- those that are there, by their places, and the places of the vacant seats; those that are served, whose end is awaited, of which
+-- something came, that took bytes, and whose bytes have no room, each in their order; and the line
+pub record ClientsState (X : Type 0) : Type 0 where
+  pub at : List (Option (ClientAt X))
   pub vacant : List ℕ
   pub served : List Arrival
   pub ending : List Arrival

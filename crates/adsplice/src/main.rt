@@ -7,6 +7,7 @@ mod door;
 mod faults;
 mod live;
 mod server;
+mod settling;
 
 use crate::decisions::{DecisionsFault, bytes_of_program_file};
 use crate::faults::{OUT_OF_MEMORY, fails_on_standard_error};

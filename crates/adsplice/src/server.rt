@@ -1,19 +1,19 @@
 //! Whose turn it is of all clients, who is let in, and whose time is up.
 #![tactic(auto, using(connections::proofs::Leading::stays, connections::proofs::Leading::by_one, connections::proofs::Leading::and_then, connections::proofs::Calling::line_stays, connections::proofs::Calling::line_goes_on, connections::proofs::Calling::goes_on_after_call, connections::proofs::Calling::is_called_after, connections::proofs::Calling::called_again))]
 
-ghost use Rattle.std.specs.Prelude.{◌≡◌, ◌<◌, length};
+ghost use Rattle.std.specs.Prelude.{◌≡◌, ◌<◌, ◌⊎◌, length};
+ghost use Rattle.adsplice.specs.Inner.Serving.{IsClosed, LineIsServed, NextIsServed, is_last_call};
+ghost use Rattle.connections.specs.Clients.{IfInLine};
 ghost use Rattle.connections.specs.Inner.Going.{LineGoesOn};
-ghost use Rattle.connections.specs.Lines.{LineIsCalled};
+ghost use Rattle.connections.specs.Lines.{LineIsCalled, after, joins, next, place_of};
 ghost use Rattle.connections.specs.Runs.{HasRun};
 
-use crate::clients::{
-    Clients, call_next, fault_at_socket, join_line, leave_line, was_socket_granted,
-};
+use crate::clients::Clients;
 use crate::door::{Door, Opened};
 use crate::faults::Faults;
 use connections::{
-    Admission, Call, Client, Connections, MAX_REPLIES, NonBlocking, PLACES, Part, Phase, Seat,
-    Socket, Turn, When, ending_deadline, has_come, serving_deadline,
+    Admission, Call, Client, Connections, Incoming, MAX_REPLIES, NonBlocking, Outgoing, PLACES,
+    Part, Phase, Seat, Socket, Turn, When, has_come,
 };
 use http_edge::{EdgeFault, MAX_CHANNELS};
 use mio::net::TcpStream;
@@ -34,18 +34,20 @@ const TICK_MILLIS: u64 = 50;
 /// The clients, what the system opened, and how many more are let in.
 #[derive(Drop)]
 pub struct Server {
-    clients: Clients,
-    opened: Opened,
-    faults: Faults,
+    pub(crate) clients: Clients,
+    pub(crate) opened: Opened,
+    pub(crate) faults: Faults,
     admission: Admission,
     door: Door,
     next_tick: Instant,
 }
 
 impl Model for Server {
+    ghost use Rattle.mio.specs.declared.net.stream.TcpStream.{TcpStream as Stream};
     ghost use Rattle.adsplice.specs.Clients.{ClientsState};
+    ghost use Rattle.connections.specs.Devices.{Calls};
 
-    ghost Value = { ClientsState };
+    ghost Value = { ClientsState (Stream × Calls) };
 
     ghost view = { λ s. s.clients };
 }
@@ -88,7 +90,7 @@ impl Server {
 
     // How long may be waited for the next event.
     fn patience(&self) -> Option<Duration> {
-        if self.clients.line.len() > 0 {
+        if self.clients.waiting() > 0 {
             return Some(Duration::from_millis(0));
         }
         match self.door {
@@ -106,181 +108,13 @@ impl Server {
         self.opened.wait(rt, events, patience)
     }
 
-    // The client at a place leaves the table, if there is one.
-    fn leave(&self, connections: &mut Connections, place: usize)
-        ensures { HasRun connections.old connections.new }
-    {
-        if let Some(Some(client)) = self.clients.at.get(place) {
-            client.leave(connections);
-        }
-    }
-
-    // Closes a connection, and has its seat for another.
-    fn close(&mut self, connections: &mut Connections, place: usize)
-        ensures run { HasRun connections.old connections.new }
-        ensures line { LineGoesOn self.old.line self.new.line }
-    {
-        self.leave(connections, place);
-        self.clients.stop_serving(place);
-        self.clients.ending.remove(place);
-        self.clients.give_back(place);
-    }
-
-    // Waits for a client, or closes its connection if the system can't tell of it.
-    fn watch(&mut self, connections: &mut Connections, place: usize, again: bool)
-        ensures run { HasRun connections.old connections.new }
-        ensures line { LineGoesOn self.old.line self.new.line }
-    {
-        let Some(Some(client)) = self.clients.at.get_mut(place) else {
-            return;
-        };
-        let registry = self.opened.poll.registry();
-        let watched = if again {
-            client.watch(registry)
-        } else {
-            client.keep_watched(registry)
-        };
-        if watched {
-            return;
-        }
-        self.close(connections, place);
-    }
-
-    // Ends a connection whose reply is gone, or that is given up: what its client still sends is awaited for a while.
-    fn finish(&mut self, connections: &mut Connections, place: usize, was_granted: bool)
-        ensures run { HasRun connections.old connections.new }
-        ensures line { LineGoesOn self.old.line self.new.line }
-    {
-        self.leave(connections, place);
-        self.clients.stop_serving(place);
-        let Some(Some(client)) = self.clients.at.get_mut(place) else {
-            return;
-        };
-        let turn = client.end(was_granted);
-        let is_late = self
-            .clients
-            .ending
-            .push(place, ending_deadline(self.opened.now))
-            .is_err();
-        match turn {
-            Turn::Waits if !is_late => self.watch(connections, place, false),
-            Turn::Goes if !is_late => self.watch(connections, place, true),
-            _ => self.close(connections, place),
-        }
-    }
-
-    // Tells the fault of a connection that is given up.
-    fn tell_given_up(&mut self, rt: &HostRuntime, connections: &Connections, place: usize)
-        ensures { self.new ≡ self.old }
-    {
-        if let Some(fault) = fault_at_socket(connections, place) {
-            self.faults.tell(rt, fault.text());
-        }
-    }
-
-    fn give_up(&mut self, rt: &HostRuntime, connections: &mut Connections, place: usize)
-        ensures run { HasRun connections.old connections.new }
-        ensures line { LineGoesOn self.old.line self.new.line }
-    {
-        self.tell_given_up(rt, connections, place);
-        self.finish(connections, place, false);
-    }
-
-    // Gives up a connection whose place, or whose file, another one needs.
-    fn evict(&mut self, rt: &HostRuntime, connections: &mut Connections, place: usize)
-        ensures run { HasRun connections.old connections.new }
-        ensures line { LineGoesOn self.old.line self.new.line }
-    {
-        self.tell_given_up(rt, connections, place);
-        self.close(connections, place);
-    }
-
-    // What becomes of a connection after its turn.
-    fn settle(
-        &mut self,
-        rt: &HostRuntime,
-        connections: &mut Connections,
-        place: usize,
-        turn: Turn,
-        was_ending: bool,
-    )
-        ensures run { HasRun connections.old connections.new }
-        ensures line { LineGoesOn self.old.line self.new.line }
-    {
-        match turn {
-            Turn::Waits => self.watch(connections, place, false),
-            Turn::Goes => self.watch(connections, place, true),
-            Turn::Done if was_ending => self.close(connections, place),
-            Turn::Done => {
-                let granted = was_socket_granted(connections, place);
-                self.finish(connections, place, granted);
-            }
-            Turn::Failed(fault) => {
-                self.faults.tell(rt, fault.text());
-                self.finish(connections, place, false);
-            }
-            Turn::Full => self.wait_for_room(rt, connections, place),
-        }
-    }
-
-    // From now on a client has its time.
-    fn give_time(&mut self, rt: &HostRuntime, connections: &mut Connections, place: usize)
-        ensures run { HasRun connections.old connections.new }
-        ensures line { LineGoesOn self.old.line self.new.line }
-    {
-        self.clients.served.remove(place);
-        if self
-            .clients
-            .served
-            .push(place, serving_deadline(self.opened.now))
-            .is_err()
-        {
-            self.faults.tell(rt, EdgeFault::OutOfMemory.text());
-            self.close(connections, place);
-        }
-    }
-
-    // A client whose request was applied in its turn has its time anew, if its reply isn't gone: it may have waited for the
-    // server.
-    fn time_reply(
-        &mut self,
-        rt: &HostRuntime,
-        connections: &mut Connections,
-        place: usize,
-        was_asking: bool,
-    )
-        ensures run { HasRun connections.old connections.new }
-        ensures line { LineGoesOn self.old.line self.new.line }
-    {
-        if was_asking && matches!(connections.phase(place), Phase::Answering(_)) {
-            self.give_time(rt, connections, place);
-        }
-    }
-
-    // The client at a place isn't heard on before there is room for its bytes. If there is no memory to note that, it is
-    // disconnected.
-    fn wait_for_room(&mut self, rt: &HostRuntime, connections: &mut Connections, place: usize)
-        ensures run { HasRun connections.old connections.new }
-        ensures line { LineGoesOn self.old.line self.new.line }
-    {
-        self.clients.short.remove(place);
-        if self.clients.short.push(place, self.opened.now).is_err() {
-            self.faults.tell(rt, EdgeFault::OutOfMemory.text());
-            self.close(connections, place);
-        }
-    }
-
     // For each client whose bytes have no room one is given up that is quiet, and of whose bytes some are held.
     fn make_room(&mut self, rt: &HostRuntime, connections: &mut Connections)
         ensures run { HasRun connections.old connections.new }
         ensures line { LineGoesOn self.old.line self.new.line }
     {
         for _ in 0..self.clients.short.len() {
-            let quiet = self
-                .clients
-                .heard
-                .for_bytes(connections, self.opened.now, &self.clients.line);
-            let Some(place) = quiet else {
+            let Some(place) = self.clients.gives_room(connections, self.opened.now) else {
                 return;
             };
             self.give_up(rt, connections, place);
@@ -294,14 +128,9 @@ impl Server {
         ensures line { LineGoesOn self.old.line self.new.line }
     {
         for _ in 0..self.clients.short.len() {
-            let short = self
-                .clients
-                .short
-                .overdue(self.opened.now, &self.clients.line);
-            let Some(place) = short else {
+            let Some(place) = self.clients.take_short(self.opened.now) else {
                 return;
             };
-            self.clients.short.remove(place);
             self.on_ready(rt, connections, place, block);
         }
     }
@@ -324,7 +153,7 @@ impl Server {
         self.hear_short(rt, connections, block);
     }
 
-    // Gives the client that is called its turn.
+    // Gives a client its turn for a call, if one is there.
     fn serve(
         &mut self,
         rt: &HostRuntime,
@@ -336,31 +165,8 @@ impl Server {
         ensures run { HasRun connections.old connections.new }
         ensures line { LineGoesOn self.old.line self.new.line }
     {
-        let place = call.place();
-        let Some(Some(client)) = self.clients.at.get_mut(place) else {
-            return;
-        };
-        if client.place() != place {
-            return;
-        }
-        let was_ending = client.is_ending();
-        let was_asking = connections.is_asking(place);
-        let was_left = connections.left_at(place);
-        let turn = client.take_turn(call, connections, block);
-        self.settle(rt, connections, place, turn, was_ending);
-        self.time_reply(rt, connections, place, was_asking);
-        self.note_reply(connections, place, was_left);
-    }
-
-    // Notes that the reply to the client at a place is another one, or has another rest, than before its turn: then `was_left`
-    // bytes were left.
-    fn note_reply(&mut self, connections: &Connections, place: usize, was_left: usize)
-        ensures { self.new ≡ record self.old { took = self.new.took } }
-    {
-        let left = connections.left_at(place);
-        if left > 0 && left != was_left {
-            self.clients.note_took(place, self.opened.now);
-        }
+        let turned = self.clients.give_turn(call, connections, block);
+        self.settle_turn(rt, connections, &turned);
     }
 
     // While replies that clients haven't taken keep too much memory, the client is disconnected that took bytes longest ago.
@@ -372,7 +178,7 @@ impl Server {
             if connections.reply_memory() <= MAX_REPLIES {
                 return;
             }
-            let Some(place) = self.clients.took.for_texts(connections) else {
+            let Some(place) = self.clients.gives_text(connections) else {
                 return;
             };
             self.evict(rt, connections, place);
@@ -417,12 +223,15 @@ impl Server {
         block: &mut [u8],
     )
         requires { 0 < length block.old }
+        ensures in_line { IfInLine when (λ channel.
+            (self.new.line ≡ after (joins place channel) self.old.line)
+            ⊎ IsClosed place self.old self.new connections.old connections.new) }
         ensures run { HasRun connections.old connections.new }
         ensures line { LineGoesOn self.old.line self.new.line }
     {
         match when {
             When::AtOnce(call) => {
-                leave_line(&mut self.clients.line, place);
+                self.clients.leave_line(place);
                 self.serve(rt, connections, &call, block);
             }
             When::Part(part) => {
@@ -469,7 +278,7 @@ impl Server {
     // When the client at a place has its turn, if one is there.
     fn when(&mut self, connections: &Connections, place: usize, block: &mut [u8]) -> Option<When>
         requires { 0 < length block.old }
-        ensures { self.new ≡ self.old }
+        ensures { self.new ≡ record self.old { at = self.new.at } }
     {
         match self.clients.at.get_mut(place) {
             Some(Some(client)) => Some(client.when(connections, block)),
@@ -477,7 +286,7 @@ impl Server {
         }
     }
 
-    // Has a client stand in line for a turn of a channel, or gives it up if there is no memory for that.
+    // Has a client stand in line for a turn of a channel, or closes its connection if there is no memory for that.
     fn stand_in_line(
         &mut self,
         rt: &HostRuntime,
@@ -485,17 +294,19 @@ impl Server {
         place: usize,
         channel: usize,
     )
+        ensures stands { (self.new.line ≡ after (joins place channel) self.old.line)
+            ⊎ IsClosed place self.old self.new connections.old connections.new }
         ensures run { HasRun connections.old connections.new }
         ensures line { LineGoesOn self.old.line self.new.line }
     {
-        if join_line(&mut self.clients.line, place, channel).is_err() {
+        if self.clients.join_line(place, channel).is_err() {
             self.faults.tell(rt, EdgeFault::OutOfMemory.text());
             self.close(connections, place);
         }
     }
 
-    // Calls the one whose turn it is of those that stand in line. Whether none is called after it in this round: nobody stands
-    // there, or its request is answered.
+    // Calls the one whose turn it is of those that stand in line: it has its turn, and nobody else. Whether none is called after it
+    // in this round: nobody stands there, or its request is answered.
     fn call_one(
         &mut self,
         rt: &HostRuntime,
@@ -503,27 +314,32 @@ impl Server {
         block: &mut [u8],
     ) -> bool
         requires { 0 < length block.old }
+        ensures served { NextIsServed ⟦<Socket as Incoming>⟧.stand ⟦<Socket as Outgoing>⟧.stand
+            (length block.old) self.old self.new connections.old connections.new }
+        ensures last { result ≡ is_last_call (place_of (next self.old.line)) connections.new }
         ensures run { HasRun connections.old connections.new }
         ensures line { LineIsCalled self.old.line self.new.line }
     {
-        let Some(call) = call_next(&mut self.clients.line) else {
+        let Some(turned) = self.clients.call_next(connections, block) else {
             return true;
         };
-        self.serve(rt, connections, &call, block);
-        !connections.is_asking(call.place())
+        self.settle_turn(rt, connections, &turned);
+        !connections.is_asking(turned.place)
     }
 
     // Calls those that stand in line, by the turns of their channels, until the request of one is answered: at most one in a
     // round. None is called twice.
     fn call_line(&mut self, rt: &HostRuntime, connections: &mut Connections, block: &mut [u8])
         requires { 0 < length block.old }
+        ensures served { LineIsServed ⟦<Socket as Incoming>⟧.stand ⟦<Socket as Outgoing>⟧.stand
+            (length block.old) self.old self.new connections.old connections.new }
         ensures run { HasRun connections.old connections.new }
         ensures line { LineIsCalled self.old.line self.new.line }
     {
         if self.call_one(rt, connections, block) {
             return;
         }
-        for _ in 0..self.clients.line.len() {
+        for _ in 0..self.clients.waiting() {
             if self.call_one(rt, connections, block) {
                 return;
             }
@@ -575,8 +391,8 @@ impl Server {
             self.door = Door::Open;
             return;
         }
-        match self.clients.served.asked_longest(connections) {
-            Some(place) if !self.clients.line.has(place) => {
+        match self.clients.asked_longest(connections) {
+            Some(place) if !self.clients.is_in_line(place) => {
                 self.evict(rt, connections, place);
                 self.door = Door::Open;
             }
@@ -590,8 +406,8 @@ impl Server {
         if !self.clients.vacant.is_empty() {
             return false;
         }
-        match self.clients.served.asked_longest(connections) {
-            Some(place) => self.clients.line.has(place),
+        match self.clients.asked_longest(connections) {
+            Some(place) => self.clients.is_in_line(place),
             None => false,
         }
     }
@@ -606,10 +422,7 @@ impl Server {
         ensures line { LineGoesOn self.old.line self.new.line }
     {
         if self.clients.vacant.is_empty() {
-            let place = self
-                .clients
-                .served
-                .for_place(&self.clients.ending, connections)?;
+            let place = self.clients.gives_place(connections)?;
             self.evict(rt, connections, place);
         }
         self.clients.vacant.pop()
@@ -697,11 +510,7 @@ impl Server {
         ensures line { LineGoesOn self.old.line self.new.line }
     {
         for _ in 0..PLACES {
-            let overdue = self
-                .clients
-                .ending
-                .overdue(self.opened.now, &self.clients.line);
-            let Some(place) = overdue else {
+            let Some(place) = self.clients.late_to_end(self.opened.now) else {
                 return;
             };
             self.close(connections, place);
@@ -736,11 +545,7 @@ impl Server {
         ensures line { LineGoesOn self.old.line self.new.line }
     {
         for _ in 0..PLACES {
-            let overdue = self
-                .clients
-                .served
-                .overdue(self.opened.now, &self.clients.line);
-            let Some(place) = overdue else {
+            let Some(place) = self.clients.late(self.opened.now) else {
                 return;
             };
             self.on_late(rt, connections, place, block);

@@ -15,7 +15,7 @@ calls_in_both before (joins place channel ∷ later) = calls_in_both before late
 calls_in_both before (leaves place ∷ later) = calls_in_both before later
 calls_in_both before (calls ∷ later) = grind (arith, calls_in_both before later)
 
-leads_both : (first middle last : LineState) (before later : List LineEvent) → middle ≡ line_after first before → last ≡ line_after middle later → last ≡ line_after first (later ++ before)
+pub leads_both : (first middle last : LineState) (before later : List LineEvent) → middle ≡ line_after first before → last ≡ line_after middle later → last ≡ line_after first (later ++ before)
 leads_both first middle last before later b l = l ∙ ap (λ it. line_after it later) b ∙ sym (line_after_both first before later)
 
 -- ---- a line goes on

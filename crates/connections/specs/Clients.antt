@@ -1,6 +1,7 @@
 -- A client, and what its turn came to.
 use Rattle.std.specs.Prelude.{◌≡◌, ◌≢◌, ℕ, zero, suc, ◌+◌, ◌*◌, ◌≤◌, Bool, true, false, List, [], ◌∷◌, ◌++◌, codes, length, bytes_eq, Option, Some, ◌⊎◌}
 use Rattle.http_edge.specs.declared.serving.EdgeFault.{EdgeFault}
+use Rattle.http_edge.specs.declared.serving.EdgeFault.TheVariants.{Read}
 use Rattle.http_messages.specs.Requests.{IsUnfinished}
 use Rattle.http_messages.specs.Received.{IsAsked}
 use Rattle.http_messages.specs.declared.receiving.Asked.{Asked}
@@ -14,13 +15,15 @@ use Rattle.connections.specs.declared.line.When.TheVariants as when
 use Rattle.connections.specs.declared.line.Part.{Part}
 use Rattle.connections.specs.declared.conversation.Conversation.{Conversation}
 use Rattle.connections.specs.declared.devices.Passage.{Passage}
-use Rattle.connections.specs.declared.devices.Passage.TheVariants.{WouldWait}
+use Rattle.connections.specs.declared.devices.Passage.TheVariants.{WouldWait, HasFailed}
 use Rattle.connections.specs.Arrivals.{is_asking}
 use Rattle.connections.specs.Devices.{DeviceStand, AreNext}
 use Rattle.connections.specs.Limits.{reads_in_turn, writes_in_turn}
 use Rattle.connections.specs.Runs.{EventsLeadTo}
 use Rattle.connections.specs.Table.{State, ClientEvent, arrival, request_bytes, reply_bytes, departure, at, left_of, part_of_request}
-use Rattle.connections.specs.Turns.{AreRead, MovedEach, HasListened, HasListenedUntil, HasNoMore, HasSpoken, HasSpokenUntil, is_client_read_out}
+use Rattle.connections.specs.declared.turns.Turn.{Turn}
+use Rattle.connections.specs.declared.turns.Turn.TheVariants.{Goes, Done}
+use Rattle.connections.specs.Turns.{AreRead, MovedEach, HasListened, HasListenedUntil, HasNoMore, HasSpoken, HasSpokenUntil, IfGone, IsHeardOut, Stays, is_client_read_out}
 
 -- its device, its place, whether its end alone is awaited, and whether the system was asked to tell of it
 pub record ClientAt (X : Type 0) : Type 0 where
@@ -91,6 +94,19 @@ abbrev pub IsShort : {X : Type 0} → (X → DeviceStand) → ClientAt X → Sta
 IsShort incoming client s =
     (client.is_ending ≡ true) ⊎ (is_asking (at s client.place) ≡ false) ⊎ SendsRead (incoming client.device) (at s client.place)
 
+-- of its reply so many bytes fewer are left, at least
+abbrev pub AreSent : ℕ → ℕ → State → State → Type 0
+AreSent count place old new = length (left_of (at new place)) + count ≤ length (left_of (at old place))
+
+-- a client that stands so has its turn then, by a look after which its device is this. At once only if it can't hold the others; a part
+-- isn't its whole request; in line only with a whole one that takes a turn of this channel; not yet if the look would wait
+pub record IsWhen {X : Type 0} (incoming : X → DeviceStand) (client : ClientAt X) (after : X) (s : State) (it : When) : Type 0 where
+  pub at_once : IfAtOnce it (λ call. (call ≡ client.place) × IsShort incoming client s)
+  pub part : IfPart it (λ part. (part.place ≡ client.place) × SendsPart (incoming client.device) (at s client.place) part.count)
+  pub in_line : IfInLine it (λ channel. (client.is_ending ≡ false) × (is_asking (at s client.place) ≡ true) × SendsWhole (incoming client.device) s (at s client.place) channel)
+  pub not_yet : it ≡ NotYet → (incoming after).calls.last ≡ Some WouldWait
+  pub failed : IfLookFailed it (λ fault. (fault ≡ Read) × ((incoming after).calls.last ≡ Some HasFailed))
+
 -- ---- a turn
 
 -- its device before a turn and after it, and how it stands as what is read and as what is written to
@@ -118,13 +134,21 @@ module _ {X : Type 0} (incoming outgoing : X → DeviceStand) (place : ℕ) (bef
   abbrev pub HasToWait : Type 0
   HasToWait = ((incoming after).calls.last ≡ Some WouldWait) ⊎ ((outgoing after).calls.last ≡ Some WouldWait)
 
+  -- what a turn comes to of a client that asks or is answered. What it said and took is what went through its device, in order. If it is
+  -- done, its request is whole and nothing is left of its reply. If it asks still, it was heard as far as it could be. If it goes on,
+  -- each call moved bytes
+  pub record TurnComesTo (result : Turn) : Type 0 where
+    pub turned : Stays result HasTurned
+    pub gone : IfGone result HasTurnedUntil
+    pub whole : result ≡ Done → is_asking (at new place) ≡ false
+    pub done : result ≡ Done → left_of (at new place) ≡ []
+    pub heard : is_asking (at new place) ≡ true → IsHeardOut result (incoming after).calls.last place old new
+    pub moved : result ≡ Goes → HasMoved
+    pub sent : result ≡ Goes → is_asking (at old place) ≡ false → AreSent writes_in_turn place old new
+
 -- the last call told its end, or failed; or it was granted what it asked, and nothing that it sent is unread
 abbrev pub ConnectionHasEnded : Bool → Option Passage → Type 0
 ConnectionHasEnded granted last = HasNoMore last ⊎ ((granted ≡ true) × (is_client_read_out last ≡ true))
-
--- of its reply so many bytes fewer are left, at least
-abbrev pub AreSent : ℕ → ℕ → State → State → Type 0
-AreSent count place old new = length (left_of (at new place)) + count ≤ length (left_of (at old place))
 
 -- ---- turn after turn
 

@@ -1,12 +1,12 @@
 //! A client, from its first byte to its end. Its device is read and written to here alone.
 ghost use Rattle.std.specs.Prelude.{◌≡◌, ◌<◌, ◌+◌, ◌≢◌, ◌⊎◌, [], Some, None, length, max, min, true, false, IfSome};
-ghost use Rattle.connections.specs.declared.devices.Passage.TheVariants.{WouldWait, HasFailed};
+ghost use Rattle.connections.specs.declared.devices.Passage.TheVariants.{WouldWait};
 ghost use Rattle.connections.specs.Arrivals.{is_asking};
-ghost use Rattle.connections.specs.Clients.{AreSent, ConnectionHasEnded, HasMoved, HasToWait, HasTurned, HasTurnedUntil, IfAtOnce, IfInLine, IfLookFailed, IfPart, IsShort, SendsPart, SendsRead, SendsWhole};
-ghost use Rattle.connections.specs.Limits.{most_held, drains_in_turn, writes_in_turn};
+ghost use Rattle.connections.specs.Clients.{ConnectionHasEnded, HasToWait, IsWhen, TurnComesTo};
+ghost use Rattle.connections.specs.Limits.{most_held, drains_in_turn};
 ghost use Rattle.connections.specs.Runs.{HasRun};
-ghost use Rattle.connections.specs.Table.{Happens, at, departure, has_room, held_in, left_of};
-ghost use Rattle.connections.specs.Turns.{HasNoMore, IfGone, IsHeardOut, MovedEach, Stays};
+ghost use Rattle.connections.specs.Table.{Happens, at, departure, has_room, held_in};
+ghost use Rattle.connections.specs.Turns.{HasNoMore, IfGone, MovedEach};
 ghost use Rattle.connections.specs.Wires.{GoesHeard, HasHeard, HasHeardAtMost};
 
 use crate::devices::{Ending, Incoming, Looking, Outgoing, Passage, Socket};
@@ -16,7 +16,7 @@ use crate::table::{Connections, Outlook};
 use crate::turns::{Turn, drain, is_client_read_out, listen, speak};
 use crate::wire::{Moved, hear};
 use http_edge::EdgeFault;
-use mio::{Interest, Registry, Token};
+use mio::{Registry, Token};
 use std::marker::Model;
 
 /// A client at its seat, with its device.
@@ -88,21 +88,13 @@ impl<T: Looking> Client<T> {
     // When a client that asks has its turn.
     fn when_it_sends(&mut self, connections: &Connections, block: &mut [u8]) -> When
         requires room { 0 < length block.old }
+        requires not_ending { self.old.is_ending ≡ false }
         requires asking { is_asking (at connections.now self.old.place) ≡ true }
         ensures place { self.new.place ≡ self.old.place }
         ensures is_ending { self.new.is_ending ≡ self.old.is_ending }
         ensures is_watched { self.new.is_watched ≡ self.old.is_watched }
         ensures unread { (T.stand self.new.device).bytes ≡ (T.stand self.old.device).bytes }
-        ensures at_once { IfAtOnce result (λ call. (call ≡ self.old.place)
-            × SendsRead (T.stand self.old.device) (at connections.now self.old.place)) }
-        ensures part { IfPart result (λ part. (part.place ≡ self.old.place)
-            × SendsPart (T.stand self.old.device) (at connections.now self.old.place) part.count) }
-        ensures in_line { IfInLine result (SendsWhole (T.stand self.old.device) connections.now
-            (at connections.now self.old.place)) }
-        ensures not_yet { result ≡ When.NotYet →
-            (T.stand self.new.device).calls.last ≡ Some WouldWait }
-        ensures failed { IfLookFailed result (λ fault. (fault ≡ EdgeFault.Read)
-            × ((T.stand self.new.device).calls.last ≡ Some HasFailed)) }
+        ensures turn { IsWhen T.stand self.old self.new.device connections.now result }
     {
         let count = match self.device.look(block) {
             Passage::Bytes(count) => count,
@@ -129,18 +121,7 @@ impl<T: Looking> Client<T> {
         ensures is_ending { self.new.is_ending ≡ self.old.is_ending }
         ensures is_watched { self.new.is_watched ≡ self.old.is_watched }
         ensures unread { (T.stand self.new.device).bytes ≡ (T.stand self.old.device).bytes }
-        ensures at_once { IfAtOnce result (λ call. (call ≡ self.old.place)
-            × IsShort T.stand self.old connections.now) }
-        ensures part { IfPart result (λ part. (part.place ≡ self.old.place)
-            × SendsPart (T.stand self.old.device) (at connections.now self.old.place) part.count) }
-        ensures in_line { IfInLine result (λ channel. (self.old.is_ending ≡ false)
-            × (is_asking (at connections.now self.old.place) ≡ true)
-            × SendsWhole (T.stand self.old.device) connections.now
-            (at connections.now self.old.place) channel) }
-        ensures not_yet { result ≡ When.NotYet →
-            (T.stand self.new.device).calls.last ≡ Some WouldWait }
-        ensures failed { IfLookFailed result (λ fault. (fault ≡ EdgeFault.Read)
-            × ((T.stand self.new.device).calls.last ≡ Some HasFailed)) }
+        ensures turn { IsWhen T.stand self.old self.new.device connections.now result }
     {
         let place = self.seat.place();
         if self.is_ending || !connections.is_asking(place) {
@@ -166,16 +147,8 @@ impl<T: Looking> Client<T> {
         ensures answered { is_asking (at connections.now self.old.place) ≡ false → result ≡ None }
 
         // Else it has something unread, has ended, or is gone.
-        ensures at_once { IfSome result (λ when. IfAtOnce when (λ call.
-            (call ≡ self.old.place) × IsShort T.stand self.old connections.now)) }
-        ensures part { IfSome result (λ when. IfPart when (λ part. (part.place ≡ self.old.place)
-            × SendsPart (T.stand self.old.device) (at connections.now self.old.place) part.count)) }
-        ensures in_line { IfSome result (λ when. IfInLine when
-            (SendsWhole (T.stand self.old.device) connections.now
-            (at connections.now self.old.place))) }
+        ensures turn { IfSome result (IsWhen T.stand self.old self.new.device connections.now) }
         ensures sends { result ≡ Some When.NotYet → ⊥ }
-        ensures failed { IfSome result (λ when. IfLookFailed when (λ fault. (fault ≡ EdgeFault.Read)
-            × ((T.stand self.new.device).calls.last ≡ Some HasFailed))) }
     {
         if !connections.is_asking(self.seat.place()) {
             return None;
@@ -258,33 +231,12 @@ impl<T: Incoming + Outgoing> Client<T> {
         ensures is_ending { self.new.is_ending ≡ self.old.is_ending }
         ensures is_watched { self.new.is_watched ≡ self.old.is_watched }
 
-        // What it said and took is what went through its device, in order.
-        ensures turned { self.old.is_ending ≡ false → Stays result
-            (HasTurned T.Incoming.stand T.Outgoing.stand
-            self.old.place self.old.device self.new.device connections.old connections.new) }
-        ensures gone { self.old.is_ending ≡ false → IfGone result
-            (HasTurnedUntil T.Incoming.stand T.Outgoing.stand
-            self.old.place self.old.device self.new.device connections.old connections.new) }
-        ensures whole { self.old.is_ending ≡ false → result ≡ Turn.Done →
-            is_asking (at connections.new self.old.place) ≡ false }
-        ensures done { self.old.is_ending ≡ false → result ≡ Turn.Done →
-            left_of (at connections.new self.old.place) ≡ [] }
+        // What it said and took is what went through its device, in order; and how far it came.
+        ensures turn { self.old.is_ending ≡ false →
+            TurnComesTo T.Incoming.stand T.Outgoing.stand
+            self.old.place self.old.device self.new.device connections.old connections.new result }
         ensures full { result ≡ Turn.Full →
             most_held < held_in connections.new.places + length block.old }
-
-        // Who asks still was heard as far as it could be.
-        ensures heard { self.old.is_ending ≡ false →
-            is_asking (at connections.new self.old.place) ≡ true →
-            IsHeardOut result (T.Incoming.stand self.new.device).calls.last
-            self.old.place connections.old connections.new }
-
-        // A turn that goes on has moved bytes at each call.
-        ensures moved { self.old.is_ending ≡ false → result ≡ Turn.Goes →
-            HasMoved T.Incoming.stand T.Outgoing.stand
-            self.old.place self.old.device self.new.device connections.old connections.new }
-        ensures sent { self.old.is_ending ≡ false → result ≡ Turn.Goes →
-            is_asking (at connections.old self.old.place) ≡ false →
-            AreSent writes_in_turn self.old.place connections.old connections.new }
         ensures waits { result ≡ Turn.Waits →
             HasToWait T.Incoming.stand T.Outgoing.stand
             self.old.place self.old.device self.new.device connections.old connections.new }
@@ -342,17 +294,12 @@ impl Client<Socket> {
         ensures place { self.new.place ≡ self.old.place }
         ensures is_ending { self.new.is_ending ≡ self.old.is_ending }
         ensures is_watched { self.new.is_watched ≡ true }
+        ensures device { self.new.device ≡ self.old.device }
     {
-        let both = Interest::READABLE | Interest::WRITABLE;
         let token = Token(self.seat.place());
-        let stream = self.device.inner();
-        let done = if self.is_watched {
-            registry.reregister(stream, token, both)
-        } else {
-            registry.register(stream, token, both)
-        };
+        let was_watched = self.is_watched;
         self.is_watched = true;
-        done.is_ok()
+        self.device.register(registry, token, was_watched)
     }
 
     /// Has the system say, by `registry`, when the client is ready, if it doesn't already. False if it can't.
@@ -360,6 +307,7 @@ impl Client<Socket> {
         ensures place { self.new.place ≡ self.old.place }
         ensures is_ending { self.new.is_ending ≡ self.old.is_ending }
         ensures is_watched { self.new.is_watched ≡ true }
+        ensures device { self.new.device ≡ self.old.device }
     {
         self.is_watched || self.watch(registry)
     }

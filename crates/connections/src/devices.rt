@@ -5,6 +5,7 @@ ghost use Rattle.connections.specs.Devices.{DeviceStand, no_calls, one_call, Pas
 
 use byte_streams::{Reads, Writes};
 use mio::net::TcpStream;
+use mio::{Interest, Registry, Token};
 use std::io;
 use std::io::ErrorKind;
 use std::marker::Model;
@@ -129,13 +130,6 @@ impl<T> NonBlocking<T> {
         self.last = Some(passage);
         passage
     }
-
-    // The reader or writer itself: what is done to it this way is not counted.
-    pub(crate) fn inner(&mut self) -> &mut T
-        ensures { result.now ≡ self.old.0 }
-    {
-        &mut self.inner
-    }
 }
 
 impl<R: Reads> Incoming for NonBlocking<R> {
@@ -176,6 +170,22 @@ impl<W: Writes> Outgoing for NonBlocking<W> {
 
 /// A client's socket.
 pub type Socket = NonBlocking<TcpStream>;
+
+impl Socket {
+    /// Has the system say, by `registry`, when the client of this `token` is ready: once more if it was `asked` before. That is
+    /// no call. False if it can't.
+    pub(crate) fn register(&mut self, registry: &Registry, token: Token, asked: bool) -> bool
+        ensures { self.new ≡ self.old }
+    {
+        let both = Interest::READABLE | Interest::WRITABLE;
+        let done = if asked {
+            registry.reregister(&mut self.inner, token, both)
+        } else {
+            registry.register(&mut self.inner, token, both)
+        };
+        done.is_ok()
+    }
+}
 
 impl Looking for Socket {
     fn look(&mut self, buf: &mut [u8]) -> Passage {

@@ -5,7 +5,7 @@ use Rattle.connections.specs.Lines.{after, leaves}
 use Rattle.adsplice.specs.Clients.{ClientsState}
 
 -- the client at this place is neither heard nor answered any more
-abbrev pub not_served : ℕ → ClientsState → ClientsState
+abbrev pub not_served : {X : Type 0} → ℕ → ClientsState X → ClientsState X
 not_served place clients = record clients {
   served = filter (is_elsewhere place) clients.served;
   heard = filter (is_elsewhere place) clients.heard;
