@@ -162,8 +162,9 @@ def grown(before: Accepted, fresh: Fresh) -> PackagedList:
 def kept_by(before: Accepted, fresh: Fresh) -> list[PackagedSegment]:
     """The segments of the list `before` that are still listed, the first one with the lines that stand before it now."""
     same = before.found.segments[fresh.dropped]
-    first = replace(same, tags=fresh.first.tags, stated=same.stated if fresh.first.stated is None else fresh.first.stated)
-    return [first, *before.found.segments[fresh.dropped + 1:]]
+    kept = before.found.segments[fresh.dropped:]
+    kept[0] = replace(same, tags=fresh.first.tags, stated=same.stated if fresh.first.stated is None else fresh.first.stated)
+    return kept
 
 
 def repairs_after(before: Accepted, fresh: Fresh, found: PackagedList) -> dict[str, str]:

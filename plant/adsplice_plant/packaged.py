@@ -14,7 +14,7 @@ from . import playlist
 from .spelling import Unread
 from .spelling import attributes_of as attributes_of
 
-REMEMBERED = 4096  # dates and times that were read: those of a break stand in each list
+REMEMBERED = 4096  # dates, times and durations that were read: those of a break stand in each list
 MOST_SEGMENTS = 10_000  # of a list that adsplice takes
 EARLIEST, LATEST = -2_208_988_800 * playlist.SECOND, 7_258_118_400 * playlist.SECOND  # instants from 1900 on, before 2200
 MOST_NUMBER = 2**64 - 1  # of a decimal-integer (RFC 8216, 4.2)
@@ -203,6 +203,7 @@ def is_instant(instant: int) -> bool:
     return EARLIEST <= instant < LATEST
 
 
+@lru_cache(REMEMBERED)
 def duration_of(text: str) -> int | None:
     """The nanoseconds of an EXTINF's value `text`, up to its first comma (RFC 8216, 4.3.2.1); none if it isn't one."""
     seconds = text.partition(",")[0]

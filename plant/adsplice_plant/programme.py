@@ -147,7 +147,7 @@ def goes_on(it: Rendition) -> bool:
 
 def has_path(body: bytes, path: bytes) -> bool:
     """Whether the list `body` has a segment of this `path`, or one alone of its last part: hosts and folders may be spelled otherwise in each list."""
-    return path in body or body.count(b"/" + path.rpartition(b"/")[2]) == 1
+    return body.rfind(path) >= 0 or body.count(b"/" + path.rpartition(b"/")[2]) == 1
 
 
 def newest_of(body: bytes) -> bytes:
@@ -421,15 +421,16 @@ def siblings_of(turn: Turn, channel: str, found: dict[str, Taken], coming: Colle
     pace = pace_of(mine.stands.repairer.last or segments_of(mine.came or b""))
     siblings = []
     for name, it in turn.renditions():
+        if name == channel:
+            continue
         listed, new = it.stands.repairer.past[-MOST_REMEMBERED:] + it.stands.repairer.last, found[name].found().segments if name in found else []
         is_like = is_alike(pace, pace_of(listed or new))
-        if name != channel:
-            held_since, growing = it.stands.repairer.held_since, it.stands.repairer.growing
-            if held_since is not None and growing is not None and growing.stated is not None and listed and name not in found:  # (it stays as long as it was)
-                listed.append(replace(growing, begins=growing.stated - it.stands.repairer.clock, number=listed[-1].number + 1, discontinuity=listed[-1].discontinuity))
-            listed += [one for one in new if not listed or one.number > listed[-1].number]
-            waits = held_since is not None and name not in found and name not in coming and turn.at - held_since < (target_of(turn.state, name) or 0)
-            siblings.append(Sibling(it.settings.base, listed, held_since is not None or name in coming, waits, is_like and it.settings.group == mine.settings.group, is_like))
+        held_since, growing = it.stands.repairer.held_since, it.stands.repairer.growing
+        if held_since is not None and growing is not None and growing.stated is not None and listed and name not in found:  # (it stays as long as it was)
+            listed.append(replace(growing, begins=growing.stated - it.stands.repairer.clock, number=listed[-1].number + 1, discontinuity=listed[-1].discontinuity))
+        listed += [one for one in new if not listed or one.number > listed[-1].number]
+        waits = held_since is not None and name not in found and name not in coming and turn.at - held_since < (target_of(turn.state, name) or 0)
+        siblings.append(Sibling(it.settings.base, listed, held_since is not None or name in coming, waits, is_like and it.settings.group == mine.settings.group, is_like))
     return Siblings(siblings)
 
 
@@ -665,13 +666,13 @@ def standing(before: Standing, it: Taken, text: bytes, entry: int, translator: T
     ahead = ranges.without(before.text, moved) if moved else b""
     stands = Standing(repairer, viewed, entry, text, ahead, before.pods, before.repairs, before.entry)
     pods = before.pods.of(window_of(stands) | ranges.ids_in(lines) | {one.id for one in translator.breaks.known}).copy()
-    begins = [one.begins for one in listed if one.begins is not None]
-    pods.enter(ranges.starts_in(lines), before.viewed.ranges.keys(), [one.begins for one in new if one.begins is not None], min(begins, default=0), tolerance)
+    first = next((one.begins for one in listed if one.begins is not None), 0)
+    pods.enter(ranges.starts_in(lines), before.viewed.ranges.keys(), [one.begins for one in new if one.begins is not None], first, tolerance)
     target = repairer.head.target if repairer.head is not None else 0
     if ahead and last:  # (adsplice forgets what that list doesn't have)
         viewed.reckon(last, [line for line in listed_before if packaged.id_in(line) not in moved], Store(pods.held, pods.fallback), tolerance, target)
     viewed.reckon(listed, lines, Store(pods.held, pods.fallback), tolerance, target)
-    return replace(stands, pods=pods)
+    return changed(stands, pods=pods)
 
 
 # ---- lists

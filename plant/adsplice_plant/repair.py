@@ -267,9 +267,10 @@ class Repairer:
         self.head, self.adds, self.held_since = repaired.head, "times" in repaired.kinds, None
         self.owed, self.lead, self.front = max(0, self.owed - repaired.steps), repaired.lead, repaired.front
         self.accepted, self.growing = repaired.accepted, repaired.growing
-        history = self.past + self.last
-        gone = bisect_left(history, found.segments[0].number, key=lambda it: it.number)
-        self.past = history[max(0, gone - MOST_PAST):gone]
+        first = found.segments[0].number
+        gone = bisect_left(self.last, first, key=lambda it: it.number)
+        past = self.past + self.last[:gone] if gone else self.past[:bisect_left(self.past, first, key=lambda it: it.number)]
+        self.past = past[-MOST_PAST:]
         self.last = found.segments
 
     # ---- numbers (RFC 8216, 4.3.3.2, 4.3.3.3, 6.2.1, 6.2.2)

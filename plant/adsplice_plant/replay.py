@@ -31,12 +31,14 @@ class Run(NamedTuple):
 def run_of(stands: Standing, history: list[PackagedSegment], line: str) -> Run | None:
     """How the break of the EXT-X-DATERANGE `line` ran in the `history`; none if it wasn't filled there."""
     start = start_of(stands, line)
+    if start is None:
+        return None
     starts = [it for other, _ in stands.viewed.ranges.values() if (it := start_of(stands, other)) is not None]
     places = [place for place, it in enumerate(history) if it.begins is not None and (it.number in stands.viewed.begins or is_near(it.begins, starts))]
     newest = stands.viewed.ranges.get(packaged.id_in(line), (line, history[-1].number if history else 0))[1]  # (it didn't begin after the lists that had it)
-    first = next((n for n in range(len(places) - 1, -1, -1) if start is not None and history[places[n]].number <= newest
+    first = next((n for n in range(len(places) - 1, -1, -1) if history[places[n]].number <= newest
                   and abs((history[places[n]].begins or 0) - start) <= TOLERANCE), None)
-    if start is None or first is None:
+    if first is None:
         return None
     if first + 1 == len(places):
         return Run(start, places[first])
@@ -73,8 +75,10 @@ def as_elsewhere(stands: Standing, others: list[Standing], line: str, segments: 
     name, found = packaged.id_in(line), read_range(line)
     for other in others:
         said = other.viewed.ranges.get(name)
-        run = run_of(other, history_of(other), said[0]) if said is not None and name in other.pods.entered else None
-        if said is None or run is None or not is_behind(stands, other) or (run.end if run.last is not None else end_of(other)) <= end_of(stands):
+        if said is None or name not in other.pods.entered or not is_behind(stands, other):
+            continue
+        run = run_of(other, history_of(other), said[0])
+        if run is None or run.last is not None and run.end <= end_of(stands):
             continue
         length, half, longest = length_of(found), stands.repairer.last[-1].duration // 2, other.repairer.last[-1].duration
         if run.last is None:

@@ -15,6 +15,7 @@ CLOSE = 3  # segments by which a rendition may be ahead of another one that has 
 FAR = 10  # segments after a list's end at which it may come next
 NEAR = 30  # segments by which the ends of two lists may be apart that are of one clock
 MOST_BORROWED = 100  # segments that a rendition takes from another one at a time
+MEDIA_SEQUENCE = b"#EXT-X-MEDIA-SEQUENCE:"
 MOST_MEASURED = 8  # newest segments by which it is seen how long a rendition's are
 
 
@@ -74,7 +75,8 @@ def reach_of(body: bytes) -> Reach:
 
 def number_after(body: bytes) -> int:
     """The media number after the last segment of the list `body`, by its packager."""
-    first = body.partition(b"#EXT-X-MEDIA-SEQUENCE:")[2].partition(b"\n")[0].strip()
+    place = body.find(MEDIA_SEQUENCE)
+    first = body[place + len(MEDIA_SEQUENCE):body.find(b"\n", place)].strip() if place >= 0 else b""
     return (int(first) if first.isdigit() and len(first) <= 20 else 0) + body.count(b"#EXTINF:")
 
 

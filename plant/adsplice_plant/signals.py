@@ -4,6 +4,7 @@ adsplice knows one style, splice_insert in an EXT-X-DATERANGE. The others are re
 from __future__ import annotations
 
 from dataclasses import dataclass, field, replace
+from functools import lru_cache
 
 from . import packaged, splice
 from .playlist import SECOND
@@ -94,6 +95,7 @@ def seconds_of(text: str) -> int | None:
     return packaged.duration_of(text)
 
 
+@lru_cache(packaged.REMEMBERED)
 def duration_of(text: str) -> int | None:
     """The nanoseconds of a duration in seconds (`10.5`), or by ISO 8601 (`PT1M10.5S`); none if `text` is none, or is 0."""
     text = text.strip().strip('"').upper()
