@@ -13,7 +13,7 @@ from . import apart, controllers, decided, joining, packaged, presence, ranges, 
 from .edges import by_last, edge_of, note_behind, patience_ends, up_to
 from .breaks import Break, Line, shown
 from .clocks import shifts_after, shifts_begun
-from .events import Action, Answered, Ask, AskedInVain, Began, Event, FallbackRead, FolderRead, Found, ListRead, Looked, OriginChanged, SlateRead, Tell
+from .events import Action, Answered, Ask, AskedInVain, Began, Event, FallbackRead, FolderRead, Found, ListRead, Looked, OriginChanged, SlateRead, Tell, Ticked
 from .events import Repaired as RepairTold
 from .growing import Growing
 from .packaged import PackagedList, PackagedSegment, Shift
@@ -76,6 +76,8 @@ def target_of(state: State, channel: str) -> int | None:
 
 def take(turn: Turn, event: Event) -> None:
     """Takes in the `event`."""
+    if turn.state.rests_until and not isinstance(event, Ticked):
+        turn.set(rests_until=0.0)
     if isinstance(event, ListRead):
         take_list(turn, event)
     elif isinstance(event, OriginChanged):
@@ -226,7 +228,7 @@ def take_lists(turn: Turn) -> None:
     """Takes in the lists that are new: puts them right, translates them, and gives them as one entry, once the decisions are there that they
     wait for."""
     due = [channel for channel, it in turn.renditions() if it.is_new and not controllers.is_busy(it)]
-    if not due or not may_begin(turn):
+    if not due or turn.at < turn.state.rests_until or not may_begin(turn):
         return
     follow_clock(turn)
     if not any(it.stands.entry for _, it in turn.renditions()):
@@ -583,6 +585,7 @@ def enter(turn: Turn, translator: Translator, found: dict[str, Taken]) -> None:
         if channel not in new and it.repaired.growing is not None:  # (it stays as long as it is, if the packager begins again)
             turn.put_standing(channel, repairer=changed(turn.state.renditions[channel].stands.repairer, growing=it.repaired.growing))
     if not new:
+        turn.set(rests_until=looks_again(turn.state, turn.at))
         return
     entry = turn.next_entry()
     turn.set(translator=translator)

@@ -174,7 +174,8 @@ class State:
     """A programme of the `renditions`, by their channels' names, after `entry` entries of its log. `translator`: what is known of its signals;
     `decisions`: those that a controller without the channel is given, in their order; `files`: of the folders, by their names; `asked`: until
     when lists wait for the decision of a break that was asked for, by its ID; `over`: decided breaks that left the lists, the oldest first;
-    `fallback`: the fallback files' bytes that were given last; `shifts`: how much later viewers have instants than the programme, the newest last. Lists wait until the moment `waits_until` for decisions that were asked for."""
+    `fallback`: the fallback files' bytes that were given last; `shifts`: how much later viewers have instants than the programme, the newest last. Lists wait until the moment `waits_until` for decisions that were asked for.
+    Of those that brought nothing new time alone makes nothing before the moment `rests_until`."""
 
     name: str
     renditions: Mapping[str, Rendition]
@@ -186,6 +187,7 @@ class State:
     over: tuple[str, ...] = ()
     fallback: Mapping[str, bytes] = field(default_factory=dict)
     waits_until: float = 0.0
+    rests_until: float = 0.0
     shifts: tuple[Shift, ...] = (Shift(),)
     removed: Mapping[str, Removed] = field(default_factory=dict)  # files whose withdrawals aren't all answered, by their names
     longest_pause: float = 5.0  # seconds until a controller that doesn't answer is tried again
