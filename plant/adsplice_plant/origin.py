@@ -144,8 +144,10 @@ def written_long(body: bytes, base: int, ads: int) -> str:
     bytes; empty if it hasn't. A key without an IV, or a section in force, may stand before each segment (RFC 8216, 5.2 and 4.3.2.5), the base before
     each reference, and the fallback in each break."""
     longest = max((end - begin for tag in (b"#EXT-X-KEY:", b"#EXT-X-MAP:") for begin, end in tags_of(body, tag)), default=0)
-    references = sum(not it.startswith(b"#") and not it.isspace() for it in body.split(NEWLINE) if it)
     breaks = sum(body.count(it) for it in BEGINS) - body.count(GOES_ON)
+    if len(body) + (body.count(NEWLINE) + 1) * (base + longest) + breaks * ads <= WRITTEN:
+        return ""  # (a list has no more references than lines)
+    references = sum(not it.startswith(b"#") and not it.isspace() for it in body.split(NEWLINE) if it)
     if len(body) + references * (base + longest) + breaks * ads <= WRITTEN:
         return ""
     more = f", and {breaks} breaks for a fallback of {ads} bytes" if breaks * ads else ""

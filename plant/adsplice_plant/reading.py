@@ -21,12 +21,25 @@ SOON = 1.0  # seconds to the next look if the target duration isn't known
 LEAST = 0.05  # seconds between two looks
 MOST = 10.0  # seconds between two looks or trials, whatever the target duration is
 TARGET = re.compile(rb"^#EXT-X-TARGETDURATION:\s*([0-9]{1,5})", re.M)
+DURATION = re.compile(rb"^#EXTINF:\s*([0-9]{1,5}(?:\.[0-9]{1,9})?)", re.M)
+NEWEST, NEWEST_BYTES = 4, 4096  # segments, and bytes of a list, by which it is seen how soon the next list may come
+EARLY = 0.95  # of a segment's duration after which the next list is looked for: so it is found soon after it came
 
 
-def interval(target: int | None, is_web: bool) -> float:
-    """The seconds from one look at an origin to the next: half of the `target` duration, and of a file no more than OFTEN."""
+def interval(target: int | None, is_web: bool, pace: float | None = None, in_vain: int = 1) -> float:
+    """The seconds from one look at an origin to the next. A file is looked at each OFTEN seconds. A URL is, after a list that is new, once its segments' `pace`
+    in seconds is nearly over, if that is known. After so many looks `in_vain` it is in growing pauses of half the `target` duration at most."""
     pause = min(MOST, max(OFTEN, target / 2)) if target else SOON
-    return pause if is_web else min(pause, OFTEN)
+    if not is_web:
+        return min(pause, OFTEN)
+    if pace is None:
+        return pause
+    return float(min(pause, OFTEN * 2 ** min(in_vain - 1, 9)) if in_vain else min(MOST, max(OFTEN, EARLY * pace)))
+
+
+def pace_in(body: bytes) -> float | None:
+    """The seconds of the shortest of the newest segments in the list `body`; none if it states none."""
+    return min((float(it) for it in DURATION.findall(body[-NEWEST_BYTES:])[-NEWEST:]), default=None)
 
 
 def longest(target: int | None) -> float:
@@ -49,6 +62,7 @@ class Reading:
         self.settings, self.telling, self.noting, self.post, self.target = settings, telling, noting, post, target
         self.missing = Pauses(0.5, longest_pause)
         self.stated: int | None = None  # the target duration that the newest list states
+        self.newest, self.in_vain = b"", 0  # that list, and how many looks since then have brought no other one
         self.is_well = True
         self.is_again = threading.Event()  # set if the list is to be read anew at once, though it hasn't changed
         self.has_ended = False
@@ -114,7 +128,7 @@ class Reading:
             patience = self.origin.patience() if isinstance(self.origin, TwoOrigins) else MOST
             return min(self.missing.next(), longest(target), patience)
         self.missing.reset()
-        return max(LEAST, interval(target, self.settings.is_web()) - (time.monotonic() - begun))
+        return max(LEAST, interval(target, self.settings.is_web(), pace_in(self.newest), self.in_vain) - (time.monotonic() - begun))
 
     def take(self, found: Read) -> None:
         """Tells and posts what was `found`."""
@@ -128,6 +142,8 @@ class Reading:
         elif not self.is_well:
             self.telling.tell(name, "origin", 200, "", "the playlist is read again")
         self.is_well = not found.why
+        self.in_vain = self.in_vain + 1 if found.body in (None, self.newest) else 0
         if found.body is not None:
+            self.newest = found.body
             self.stated = target_in(found.body) or self.stated
             self.post(ListRead(name, found.body, time.monotonic()))

@@ -278,7 +278,7 @@ class Feeding:
         if now >= self.rests_until and self.replica is not None and self.replica.is_next(self.state):
             return LEAST
         until = [self.rests_until] if now < self.rests_until else [it for it in (self.looks_at(), self.due) if it is not None]
-        rests = self.replica is not None and self.replica.won == self.replica.leads  # (what the others give wakes it)
+        rests = self.replica is None or self.replica.won == self.replica.leads  # (what the others give wakes it)
         return min(BETWEEN if rests else BETWEEN / 2, max(LEAST, min(until) - now))
 
     def take(self, event: Event) -> None:
