@@ -38,8 +38,10 @@ def interval(target: int | None, is_web: bool, pace: float | None = None, in_vai
 
 
 def pace_in(body: bytes) -> float | None:
-    """The seconds of the shortest of the newest segments in the list `body`; none if it states none."""
-    return min((float(it) for it in DURATION.findall(body[-NEWEST_BYTES:])[-NEWEST:]), default=None)
+    """The seconds of the shortest of the newest segments in the list `body`; none if it states none. The very last one may grow yet: it counts if it is the only
+    one."""
+    newest = [float(it) for it in DURATION.findall(body[-NEWEST_BYTES:])[-NEWEST:]]
+    return min(newest[:-1] or newest, default=None)
 
 
 def longest(target: int | None) -> float:

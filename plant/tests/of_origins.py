@@ -14,10 +14,19 @@ from adsplice_plant.location import Url  # noqa: E402
 from adsplice_plant.origin import Read  # noqa: E402
 from adsplice_plant.origins import Choice, Place, TwoOrigins  # noqa: E402
 from adsplice_plant.playlist import read, read_instant  # noqa: E402
+from adsplice_plant.reading import interval, pace_in  # noqa: E402
 from adsplice_plant.words import Fault  # noqa: E402
 
 NEEDS = ("httpx",)
 BASE = 'http://b.example/ch/index.m3u8'
+
+
+def test_an_origin_is_read_again_when_its_next_playlist_is_due(room):
+    assert pace_in(b"#EXTM3U\n#EXTINF:9,\nz\n#EXTINF:6,\na\n#EXTINF:4.5,title\nb\n#EXTINF:5,\nc\n#EXTINF:1,\nd\n") == 4.5  # (the newest one may grow)
+    assert pace_in(b"#EXTM3U\n#EXTINF:3,\na\n") == 3.0 and pace_in(b"#EXTM3U\n") is None and pace_in(b"#EXTINF:x,\na\n") is None
+    assert interval(6, True, 4.0, 0) == 3.8 and interval(6, True, 60.0, 0) == 10.0 and interval(6, True, 0.1, 0) == 0.25
+    assert [interval(6, True, 4.0, count) for count in (1, 2, 3, 4, 5, 40)] == [0.25, 0.5, 1.0, 2.0, 3.0, 3.0]
+    assert interval(6, True) == 3.0 and interval(None, True) == 1.0 and interval(60, True) == 10.0 and interval(6, False, 4.0, 0) == 0.25
 
 
 class Fake:
