@@ -144,14 +144,6 @@ class Timeline:
         first = next((it for it in self.segments if it.begins is not None and abs(it.begins - start) <= TOLERANCE), None)
         return end if first is None else max(end, start + first.duration)
 
-    def begin_by_number(self, one: Break, instant: int) -> int | None:
-        """Where the break `one` begins that is said to begin at the `instant`, if no segment begins near it: with the one that has the number of its first
-        segment, if that begins less than a segment away. None if there is none."""
-        it = next((it for it in reversed(self.segments) if self.numbering.of(it.number) == one.number), None)
-        if not self.aligns or it is None or it.begins is None or self.nearest(instant) is not None:
-            return None
-        return it.begins if abs(it.begins - instant) < it.duration else None
-
     def is_shortest(self) -> bool:
         """Whether no rendition of the programme has shorter segments."""
         return self.numbering.many == self.numbering.few
@@ -161,7 +153,7 @@ class Timeline:
         those before it, at the least."""
         place = min(max(bisect_left(self.begins, instant + 1, self.low) - 1, self.low), len(self.segments) - 1)
         first = place if place + 1 < len(self.segments) else max(self.low, place - 2)
-        return max(it.duration for it in self.segments[first:place + 1]) // 2
+        return max(it.said for it in self.segments[first:place + 1]) // 2
 
     def nearest(self, instant: int, is_end: bool = False) -> PackagedSegment | None:
         """The listed segment that begins within half a segment of the `instant`; none if there is none, or if the end of the list, where the next segment

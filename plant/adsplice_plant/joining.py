@@ -55,4 +55,4 @@ def join(repaired: Repaired, there: There) -> None:
         return
     if place:
         repaired.found.segments, repaired.came, repaired.accepted = segments[place:], None, None
-    repaired.joins = {it.number: there[it.number] for it in repaired.found.segments}
+    repaired.joins = there[repaired.found.segments[0].number]

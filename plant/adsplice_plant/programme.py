@@ -15,10 +15,9 @@ from .breaks import Break, Line, shown
 from .clocks import shifts_after, shifts_begun
 from .events import Action, Answered, Ask, AskedInVain, Began, Event, FallbackRead, FolderRead, Found, ListRead, Looked, OriginChanged, SlateRead, Tell, Ticked
 from .events import Repaired as RepairTold
-from .growing import Growing
 from .packaged import PackagedList, PackagedSegment, Shift
 from .playlist import SECOND
-from .reckoning import Numbers, Store
+from .reckoning import Numbers, Reckoned, Store
 from .repair import Repaired, Repairer, count_on
 from .replay import as_elsewhere, as_it_runs
 from .siblings import Reach, Sibling, Siblings, is_alike, number_after, pace_of, reach_of
@@ -233,8 +232,8 @@ def take_lists(turn: Turn) -> None:
     follow_clock(turn)
     if not any(it.stands.entry for _, it in turn.renditions()):
         due.sort(key=lambda channel: first_instant(turn.state.renditions[channel].came or b""))
-    else:  # (of those that begin again together each has what the others have that begin before it)
-        due.sort(key=lambda channel: 0 if goes_on(it := turn.state.renditions[channel]) else first_instant(it.came or b""))
+    else:  # (of those that begin again together each has what the others have that begin before it; one that comes later than the others, what all have)
+        due.sort(key=lambda channel: (not (it := turn.state.renditions[channel]).stands.repairer.last, 0 if goes_on(it) else first_instant(it.came or b"")))
     found: dict[str, Taken] = {}
     older = {channel: turn.state.renditions[channel].older for channel in due}
     coming = coming_together(turn, due)
@@ -658,9 +657,8 @@ def standing(before: Standing, it: Taken, text: bytes, entry: int, translator: T
     repairer, viewed, tolerance = it.repairer, before.viewed.copy(), translator.tolerance
     lines = it.found().date_ranges()
     last, listed = before.repairer.last, repairer.last
-    if it.repaired.joins:
-        viewed.begins = Growing(sorted(it.repaired.joins.items()))
-        viewed.learn(listed, lines)
+    if it.repaired.joins is not None:
+        viewed.reckoned = Reckoned(listed[0].number - 1, listed[0].discontinuity, it.repaired.joins[0] - 1, it.repaired.joins[1])
     viewed.note(lines, listed[-1].number)
     viewed.forget((repairer.past or listed)[0].number)
     new = listed[max(0, len(listed) - (listed[-1].number - last[-1].number)):] if last and listed[-1].number >= last[-1].number else listed

@@ -75,8 +75,8 @@ class Repaired:
     """A list to be pushed: as data (`found`), and as it came, if nothing was wrong (`came`). `kinds` are the repairs with what is told
     of each. It is none of these if `why` says why nothing is pushed; `waits` if the same list may be taken later. `steps` are the
     discontinuities that were added for other renditions; `front` segments stay in front of the packager's own, by the `lead`. The next
-    list may go on from what is `accepted`, if this one is. `growing`: the newest segment that the packager listed, if it isn't given yet. `joins`: the numbers that viewers have in other renditions at its segments, by
-    its media numbers, if it is the first list of one that comes later than the others."""
+    list may go on from what is `accepted`, if this one is. `growing`: the newest segment that the packager listed, if it isn't given yet. `joins`: the numbers that viewers have in other renditions at its first
+    segment, if it is the first list of one that comes later than the others."""
 
     found: PackagedList | None = None
     head: Head | None = None
@@ -89,7 +89,7 @@ class Repaired:
     front: int = 0
     accepted: Accepted | None = None
     growing: PackagedSegment | None = None
-    joins: dict[int, tuple[int, int]] = field(default_factory=dict)
+    joins: tuple[int, int] | None = None
 
     def body(self) -> bytes:
         """The text to push."""
@@ -167,6 +167,8 @@ class Repairer:
             lead, front = self.go_on(found, place, kinds)
         elif not self.last:
             self.begin(found)
+            if (held := self.wait_for_others(found.segments[0], now, max(1, found.target or 1))) is not None:
+                return held
         elif (held := self.hold(found, has_instants, now, clock if is_untimed else None)) is not None:
             return held
         else:
@@ -238,7 +240,12 @@ class Repairer:
         self.set_times(found.segments, True)
         if clock is not None:
             self.add_times(found.segments, clock)
-        first = found.segments[0]
+        return self.wait_for_others(found.segments[0], now, patience)
+
+    def wait_for_others(self, first: PackagedSegment, now: float, patience: int) -> Repaired | None:
+        """Why a list that begins (again) with the segment `first` isn't taken now, but waits for other renditions as long as twice the `patience`; none if it
+        waits for none. What they have shown before it says which numbers it has."""
+        self.held_since = now if self.held_since is None else self.held_since
         if self.siblings and now - self.held_since < 2 * patience and (self.siblings.one_waits() or self.siblings.is_awaited(first.begins, first.duration)):
             return Repaired(why=repairs.HELD.format(2 * patience), waits=True)
         return None
@@ -452,6 +459,12 @@ class Repairer:
         is_away = 0 < by <= most and (it.discontinuities > 0 or missed != 0)
         return self.clock if is_away else self.clock + by - (self.away(it) if missed else 0)
 
+    def is_counted(self, last: PackagedSegment, segments: list[PackagedSegment]) -> bool:
+        """Whether the packager's numbers say that as many segments come after the segment `last`, up to the newest of the listed `segments`, as there was
+        time for since that was read."""
+        count = missed_by(last, segments) + lasting(segments)
+        return abs(count - self.waited * SECOND) <= AWAY * last.duration
+
     def away(self, it: PackagedSegment) -> int:
         """How long a packager was away that began again with the segment `it`, and set its clock: as long as no list came but for what
         this one lists, in whole segments."""
@@ -478,7 +491,7 @@ class Repairer:
         if theirs is not None and first.own > last.own and abs(first.stated - theirs - end - missed_by(last, segments)) <= packaged.NEAR:
             return theirs  # (its numbers say so, too)
         is_seen = until >= end - newest.duration or begins_alike([*self.past, *self.last], segments)
-        is_set = self.siblings is not None and first.own > last.own and self.siblings.clock_at(first.stated, end - last.duration // 2) is not None
+        is_set = first.own > last.own and (self.is_counted(last, segments) or self.siblings is not None and self.siblings.clock_at(first.stated, end - last.duration // 2) is not None)
         if first.stated - self.clock <= end + max(SECOND, last.duration) and is_seen and not is_set:
             return self.clock  # (some of it was seen)
         return self.clock_at(first.stated, last, first)

@@ -82,6 +82,8 @@ def as_elsewhere(stands: Standing, others: list[Standing], line: str, segments: 
             continue
         length, half, longest = length_of(found), stands.repairer.last[-1].duration // 2, other.repairer.last[-1].duration
         if run.last is None:
+            if (ran := as_it_runs(other, line, [])) != line:
+                return ran
             lasts = end_of(other) - run.start
             least = lasting(run.start, end_of(other), found.start(), segments) if 3 * half > longest else lasts - longest  # (longer segments say less of the end)
             is_other = length is not None and length < least - TOLERANCE

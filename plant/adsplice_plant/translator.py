@@ -227,8 +227,7 @@ class Translator:
             found = self.cuts[rendition][it.id]
             for place, instant in enumerate((it.start, it.until)):
                 if instant is not None and found[place] is None and line.is_reached(instant, bool(place)):
-                    known = None if place else line.begin_by_number(it, instant)
-                    own = line.aligned(instant, bool(place)) if known is None else known
+                    own = line.aligned(instant, bool(place))
                     own = own if place else line.begin_from(own, instant, fresh)
                     found[place] = own if abs(own - instant) > self.tolerance else instant
                     found[place] = self.in_order(line, rendition, it, before, place)
