@@ -104,12 +104,13 @@ class Siblings:
         return (None if is_other else it.number + more, it.discontinuity) if more <= FAR else None
 
     def clock_at(self, states: int, least: int) -> int | None:
-        """How far the packager's clock is ahead of the programme's where it `states` this instant, as another rendition has it; none if none has come there. By
-        the programme's clock that is after the instant `least`."""
+        """How far the packager's clock is ahead of the programme's where it `states` this instant, as another rendition has it at the segment that states the
+        nearest one, of two the newer one; none if none has come there. By the programme's clock that is after the instant `least`."""
         for one in self.found:
-            for it in reversed(one.segments[-NEAR:]):
-                if it.stated is not None and it.begins is not None and abs(it.stated - states) <= CLOSE * it.duration and states - it.ahead() >= least:
-                    return it.ahead()
+            near = [(abs(it.stated - states), it.ahead()) for it in reversed(one.segments[-NEAR:]) if it.stated is not None and it.begins is not None
+                    and abs(it.stated - states) <= CLOSE * it.duration and states - it.ahead() >= least]
+            if near:
+                return min(near, key=lambda it: it[0])[1]
         return None
 
     def apart_from(self, segments: list[PackagedSegment]) -> int:
