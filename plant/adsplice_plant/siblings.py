@@ -138,9 +138,9 @@ class Siblings:
     def between(self, last: PackagedSegment, end: int) -> list[PackagedSegment]:
         """The segments of one of them whose middles lie in the time from the end of a rendition's `last` segment to before `end`: of the one that has most
         of them. Their references hold for another rendition, too. None if they are more than MOST_BORROWED. (The last one may have been given before it was
-        whole: it counts as long as theirs.)"""
+        whole: it counts as long as theirs are by now.)"""
         began = last.begins or 0
-        found = [[it for it in one.segments if it.begins is not None and began + max(last.duration, it.duration) <= middle_of(it) < end] for one in self.found]
+        found = [[it for it in one.segments if it.begins is not None and began + max(last.duration, it.said) <= middle_of(it) < end] for one in self.found]
         return self.most(found, began + last.duration)
 
     def after(self, last: PackagedSegment, count: int, first: int) -> list[PackagedSegment]:
