@@ -5,6 +5,7 @@ packager's while no break is open or to come: so each break begins and ends by o
 """
 from __future__ import annotations
 
+from collections.abc import Sequence
 from typing import Any, NamedTuple
 
 from .date_ranges import read_range
@@ -70,9 +71,8 @@ def put_right(found: PackagedList, known: dict[str, Stated], is_part: bool = Fal
         start, end = it.start(), instant_of(it.said.get("END-DATE", ""))
         if it.id and start is not None:
             planned = duration_of(it.said.get("PLANNED-DURATION", ""))
-            one = stated[it.id] = placed(stated.get(it.id, known.get(it.id)), start, end, spans, planned, until)
-            if (one.start, one.end) != (start, end):
-                line = range_with(line, {"START-DATE": one.start, "END-DATE": one.end})
+            one = stated[it.id] = placed(stated.get(it.id, known.get(it.id)), start, end, spans, planned, until, found.segments)
+            line = range_with(line, {"START-DATE": one.start, "END-DATE": one.end})
             line = line if one.end is not None else line.replace(f',END-DATE="{it.said.get("END-DATE")}"', "", 1)
         rows.append((place, at, line))
     if rows != found.own_ranges():
@@ -80,11 +80,12 @@ def put_right(found: PackagedList, known: dict[str, Stated], is_part: bool = Fal
     return stated
 
 
-def is_come(known: Stated, start: int, spans: list[Span]) -> bool:
-    """Whether the instant `start` that a date range states, as it did before, is that of a newest listed segment, though by the clock that was known then (`known`)
-    it is to come yet: it was stated by a clock that the packager had just set."""
-    newest = spans[0] if spans else Span(0, 0, 0)
-    return known.said == start and newest.first - NEAR <= start <= newest.end + NEAR and known.start > newest.end - newest.ahead + NEAR
+def is_come(known: Stated, start: int, segments: Sequence[PackagedSegment]) -> bool:
+    """Whether the instant `start` that a date range states, as it did before, is where one of the newest listed `segments` begins or ends, though by the clock
+    that was known then (`known`) none begins there: it was stated by a clock that the packager had just set."""
+    timed = [it for it in segments if it.stated is not None]
+    edges = [edge for it in timed if abs(it.ahead() - timed[-1].ahead()) <= NEAR for edge in ((it.stated or 0), (it.stated or 0) + it.duration)]
+    return known.said == start and any(abs(it - start) <= NEAR for it in edges) and all(abs((it.begins or 0) - known.start) > NEAR for it in segments)
 
 
 def end_stated(segments: list[PackagedSegment]) -> int | None:
@@ -92,11 +93,12 @@ def end_stated(segments: list[PackagedSegment]) -> int | None:
     return segments[-1].stated + segments[-1].duration if segments and segments[-1].stated is not None else None
 
 
-def placed(known: Stated | None, start: int, end: int | None, spans: list[Span], planned: int | None = None, until: int | None = None) -> Stated:
+def placed(known: Stated | None, start: int, end: int | None, spans: list[Span], planned: int | None = None, until: int | None = None,
+           segments: Sequence[PackagedSegment] = ()) -> Stated:
     """What a date range states that begins at `start` and ends at `end` (none if it doesn't say) and is `planned` to last so long, of which that is `known`
     which it stated in the list before. What can't be so, or moves or extends the break, or lies after `until`, counts once two lists state it."""
     begins = by_programme(start, spans)
-    if known is None or abs(begins - known.start) <= NEAR or known.pending == start or is_come(known, start, spans):
+    if known is None or abs(begins - known.start) <= NEAR or known.pending == start or is_come(known, start, segments):
         one = Stated(start, begins)
     else:
         one = Stated(known.said, known.start, pending=None if known.said == start else start)

@@ -97,8 +97,13 @@ def test_date_ranges_mean_what_they_meant(room):
     cut = placed(None, begins, ends + half, [], 10 * SECOND, until)  # (of what the list goes on with nobody knows the clock)
     assert cut.end is None and placed(cut, begins, ends + half, [Span(until, ends + half, half)], 10 * SECOND, ends + half).end == ends
     ahead = placed(None, begins + later, None, [])  # (it was stated by a clock that no segment had yet)
-    assert placed(ahead, begins + later, None, [Span(begins + later, begins + later + SECOND, later), Span(0, begins, 0)]).start == begins
-    assert placed(ahead, begins + later, None, [Span(begins + later, begins + later + SECOND, 0)]).start == begins + later
+    for clock, start in ((later, begins), (0, begins + later)):
+        newest = PackagedSegment("9.ts", 9, SECOND, stated=begins + later, begins=begins + later - clock, said=SECOND)
+        assert placed(ahead, begins + later, None, spans_of([newest]), segments=[newest]).start == start
+    before, after = (PackagedSegment(f"{n}.ts", n, 2 * SECOND, stated=begins + it * SECOND, begins=begins + 2 * n * SECOND, said=2 * SECOND) for n, it in ((0, 0), (1, 1)))
+    for start, is_come in ((3, True), (2, False)):  # (by the clock that was known none begins at 3; at 2 one does)
+        known = Stated(begins + start * SECOND, begins + start * SECOND)
+        assert (placed(known, known.said, None, spans_of([before, after]), segments=[before, after]).start == known.start + SECOND) == is_come
     _, repairer = begins_after(list_of(steady(0, 5), ranges=[("b", 14)]), list_of(steady(1, 5) + steady(6, 7, -180), ranges=[("b", 14 - 180)]))
     assert repairer.stated["b"].start == BEGUN + 14 * SECOND
 
