@@ -233,11 +233,11 @@ class Repairer:
         if lags(self.past, self.last, found.segments, has_instants, max(1, patience)):
             return Repaired(why=repairs.LAGS)
         self.held_since = now if self.held_since is None else self.held_since
+        self.set_times(found.segments, True)
         if now - self.held_since < patience + LAG and not self.unseen(found.segments):
             return Repaired(why=repairs.LAGS)
         if now - self.held_since < patience and not self.is_later(found.segments):
             return Repaired(why=repairs.HELD.format(patience), waits=True)
-        self.set_times(found.segments, True)
         if clock is not None:
             self.add_times(found.segments, clock)
         return self.wait_for_others(found.segments[0], now, patience)
@@ -254,18 +254,18 @@ class Repairer:
         """The listed `segments`, which don't go on, without those in front that viewers have seen: by the programme's clock they lie before the end of
         the last list. So it is with two packagers behind one address."""
         last = self.last[-1]
-        if self.adds or last.begins is None or any(it.stated is None for it in segments):
+        if self.adds or last.begins is None:
             return segments
-        end, begins = last.begins + last.duration, [(it.stated or 0) - self.clock if it.begins is None else it.begins for it in segments]
-        return from_place(segments, next((n for n, it in enumerate(segments) if begins[n] + it.duration // 2 >= end), len(segments)))
+        end = last.begins + last.duration
+        return from_place(segments, next((n for n, it in enumerate(segments) if it.begins is None or middle_of(it) >= end), len(segments)))
 
     def is_later(self, segments: list[PackagedSegment]) -> bool:
         """Whether the listed `segments` go on from the last list after some that nobody read: by the packager's numbers, and by the instants that
         it states."""
         first, last = segments[0], self.last[-1]
-        if first.own <= last.own or first.stated is None or last.begins is None or self.adds:
+        if first.own <= last.own or first.stated is None or None in (first.begins, last.begins) or self.adds:
             return False
-        return abs(first.stated - self.clock - last.begins - last.duration - missed_by(last, segments)) <= max(it.duration for it in segments) // 2
+        return abs((first.begins or 0) - (last.begins or 0) - last.duration - missed_by(last, segments)) <= max(it.duration for it in segments) // 2
 
     def accept(self, repaired: Repaired) -> None:
         """The list `repaired` was pushed and taken: the next one follows it."""
@@ -459,6 +459,18 @@ class Repairer:
         is_away = 0 < by <= most and (it.discontinuities > 0 or missed != 0)
         return self.clock if is_away else self.clock + by - (self.away(it) if missed else 0)
 
+    def clock_seen(self, segments: list[PackagedSegment]) -> int | None:
+        """How far the packager's clock is ahead at the first of the `segments`, if they begin when those do that were listed, as another packager's of the same
+        programme: by the first one that states the instant of one of these, counted back from there. None if they don't."""
+        history, lasts = [*self.past, *self.last][-2 * max(len(self.last), len(segments)):], 0
+        known = {it.stated // packaged.NEAR: it for it in history if it.stated is not None}
+        for it in segments if begins_alike(history, segments) else []:
+            near = None if it.stated is None else next((one for by in (0, -1, 1) if (one := known.get(it.stated // packaged.NEAR + by)) is not None), None)
+            if near is not None and segments[0].stated is not None and it.stated is not None:
+                return segments[0].stated - it.stated + near.ahead() + lasts
+            lasts += it.duration + it.gap
+        return None
+
     def is_counted(self, last: PackagedSegment, segments: list[PackagedSegment]) -> bool:
         """Whether the packager's numbers say that as many segments come after the segment `last`, up to the newest of the listed `segments`, as there was
         time for since that was read."""
@@ -490,11 +502,13 @@ class Repairer:
         theirs = self.siblings.clock_at(newest.stated, end) if self.siblings is not None and newest.stated is not None else None
         if theirs is not None and first.own > last.own and abs(first.stated - theirs - end - missed_by(last, segments)) <= packaged.NEAR:
             return theirs  # (its numbers say so, too)
-        is_seen = until >= end - newest.duration or begins_alike([*self.past, *self.last], segments)
-        is_set = first.own > last.own and (self.is_counted(last, segments) or self.siblings is not None and self.siblings.clock_at(first.stated, end - last.duration // 2) is not None)
-        if first.stated - self.clock <= end + max(SECOND, last.duration) and is_seen and not is_set:
-            return self.clock  # (some of it was seen)
-        return self.clock_at(first.stated, last, first)
+        is_there = self.siblings is not None and self.siblings.clock_at(first.stated, end - last.duration // 2) is not None
+        if is_there or first.own > last.own and self.is_counted(last, segments):
+            return self.clock_at(first.stated, last, first)
+        seen, begins = self.clock_seen(segments), first.stated - self.clock
+        if (seen is None or begins >= end - packaged.NEAR) and begins <= end + max(SECOND, last.duration) and until >= end - newest.duration:
+            return self.clock  # (it goes on, or some of it was seen)
+        return self.clock_at(first.stated, last, first) if seen is None else seen
 
     def before(self, first: PackagedSegment) -> PackagedSegment | None:
         """The segment before the `first` one of a list, if that is the last one of the last list."""
