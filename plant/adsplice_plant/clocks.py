@@ -96,7 +96,7 @@ def end_stated(segments: list[PackagedSegment]) -> int | None:
 def placed(known: Stated | None, start: int, end: int | None, spans: list[Span], planned: int | None = None, until: int | None = None,
            segments: Sequence[PackagedSegment] = ()) -> Stated:
     """What a date range states that begins at `start` and ends at `end` (none if it doesn't say) and is `planned` to last so long, of which that is `known`
-    which it stated in the list before. What can't be so, or moves or extends the break, or lies after `until`, counts once two lists state it."""
+    which it stated in the list before. What can't be so, or moves or extends the break, counts once two lists state it; an end after `until` doesn't yet."""
     begins = by_programme(start, spans)
     if known is None or abs(begins - known.start) <= NEAR or known.pending == start or is_come(known, start, segments):
         one = Stated(start, begins)
@@ -107,8 +107,8 @@ def placed(known: Stated | None, start: int, end: int | None, spans: list[Span],
     if known is not None and known.said_end == end:
         return one._replace(said_end=end, end=known.end)
     ends = by_programme(end, spans)
-    is_sure = one.start < ends and (planned is None or ends <= one.start + planned + SECOND) and (until is None or end <= until + NEAR)
-    if is_sure or known is not None and known.pending_end == end:
+    is_sure = one.start < ends and (planned is None or ends <= one.start + planned + SECOND)
+    if (until is None or end <= until + NEAR) and (is_sure or known is not None and known.pending_end == end):
         return one._replace(said_end=end, end=ends)
     return one._replace(said_end=None if known is None else known.said_end, end=None if known is None else known.end, pending_end=end)
 

@@ -51,9 +51,10 @@ def by_last(it: Rendition, reach: Reach) -> Reach:
     clock since what was given last, if the list still has that: it went back, or on farther than the time in which no list came."""
     reach = reach if reach.instant is None else reach._replace(instant=reach.instant - it.stands.repairer.clock)
     last = it.stands.repairer.last[-1] if it.stands.repairer.last else None
-    if last is None or last.begins is None or reach.instant is None or not 0 < (count := reach.number - last.own - 1) <= NEAR:
+    if last is None or last.begins is None or reach.instant is None or it.came is None:
         return reach
-    if it.came is None or name_of(last).encode() not in it.came:
+    place = max(it.came.rfind(mark + name_of(last).encode()) for mark in (b"/", b"\n"))
+    if place < 0 or not 0 < (count := it.came.count(EXTINF, place)) <= NEAR:
         return reach
     end = last.begins + last.duration + count * reach.last
     by, most = reach.instant - end, max(SECOND, last.duration, reach.last)
