@@ -506,7 +506,8 @@ class Repairer:
         if is_there or first.own > last.own and self.is_counted(last, segments):
             return self.clock_at(first.stated, last, first)
         seen, begins = self.clock_seen(segments), first.stated - self.clock
-        if (seen is None or begins >= end - packaged.NEAR) and begins <= end + max(SECOND, last.duration) and until >= end - newest.duration:
+        is_seen = until >= end - newest.duration or begins_alike([*self.past, *self.last], segments)
+        if (seen is None or begins >= end - packaged.NEAR) and begins <= end + max(SECOND, last.duration) and is_seen:
             return self.clock  # (it goes on, or some of it was seen)
         return self.clock_at(first.stated, last, first) if seen is None else seen
 
