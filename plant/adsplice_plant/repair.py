@@ -500,8 +500,8 @@ class Repairer:
         end = (last.begins or 0) + last.duration
         until = first.stated + lasting(segments) - self.clock
         theirs = self.siblings.clock_at(newest.stated, end) if self.siblings is not None and newest.stated is not None else None
-        if theirs is not None and first.own > last.own and abs(first.stated - theirs - end - missed_by(last, segments)) <= packaged.NEAR:
-            return theirs  # (its numbers say so, too)
+        if theirs is not None and abs((newest.stated or 0) + newest.duration - first.stated - lasting(segments)) <= packaged.NEAR:
+            return theirs  # (it has one clock throughout)
         is_there = self.siblings is not None and self.siblings.clock_at(first.stated, end - last.duration // 2) is not None
         if is_there or first.own > last.own and self.is_counted(last, segments):
             return self.clock_at(first.stated, last, first)
