@@ -153,7 +153,7 @@ class Timeline:
         those before it, at the least."""
         place = min(max(bisect_left(self.begins, instant + 1, self.low) - 1, self.low), len(self.segments) - 1)
         first = place if place + 1 < len(self.segments) else max(self.low, place - 2)
-        return max(it.said for it in self.segments[first:place + 1]) // 2
+        return max(it.lasts() for it in self.segments[first:place + 1]) // 2
 
     def nearest(self, instant: int, is_end: bool = False) -> PackagedSegment | None:
         """The listed segment that begins within half a segment of the `instant`; none if there is none, or if the end of the list, where the next segment

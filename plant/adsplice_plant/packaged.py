@@ -89,6 +89,10 @@ class PackagedSegment:
         """The instant at which it begins as viewers have it; none if it isn't known."""
         return None if self.begins is None else self.begins + self.shift
 
+    def lasts(self) -> int:
+        """The nanoseconds that it lasts at most: one list may say less while it is the newest one."""
+        return max(self.duration, self.said)
+
     def ahead(self) -> int:
         """How far its packager's clock was ahead of the programme's; 0 if it states no instant."""
         return 0 if self.stated is None or self.begins is None else self.stated - self.begins

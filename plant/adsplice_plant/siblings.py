@@ -140,7 +140,7 @@ class Siblings:
         of them. Their references hold for another rendition, too. None if they are more than MOST_BORROWED. (The last one may have been given before it was
         whole: it counts as long as theirs are by now.)"""
         began = last.begins or 0
-        found = [[it for it in one.segments if it.begins is not None and began + max(last.duration, it.said) <= middle_of(it) < end] for one in self.found]
+        found = [[it for it in one.segments if it.begins is not None and began + max(last.duration, it.lasts()) <= middle_of(it) < end] for one in self.found]
         return self.most(found, began + last.duration)
 
     def after(self, last: PackagedSegment, count: int, first: int) -> list[PackagedSegment]:
@@ -162,7 +162,7 @@ def pace_of(segments: list[PackagedSegment]) -> int:
     """How long the newest of the `segments` are in the mean, in nanoseconds; 0 if there are none. The very last one may grow yet: it says so if it is
     the only one."""
     newest = segments[-1 - MOST_MEASURED:-1] or segments
-    return sum(it.duration for it in newest) // len(newest) if newest else 0
+    return sum(it.lasts() for it in newest) // len(newest) if newest else 0
 
 
 def is_alike(pace: int, other: int) -> bool:
