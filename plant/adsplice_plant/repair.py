@@ -122,7 +122,7 @@ class Repairer:
         self.shifts: tuple[Shift, ...] = (Shift(),)  # the programme's
         self.waited = float("inf")  # seconds after which this list came after the last one
         self.is_part = False  # whether this list is the beginning of what its packager lists
-        self.listed = 0  # nanoseconds that this list lasts
+        self.new = 0  # nanoseconds of what this list has after the last one
 
     # ---- a list
 
@@ -152,7 +152,6 @@ class Repairer:
         growing = self.drop(found, kinds)
         if not found.segments:
             return Repaired(why=repairs.EMPTY)
-        self.listed = lasting(found.segments)
         self.drop_other_sections(found, kinds)
         is_timed = any(it.stated is not None for it in found.segments)
         is_untimed = not is_timed and self.choices.adds_times and found.kind != "VOD"
@@ -160,6 +159,7 @@ class Repairer:
         has_instants = is_timed and not self.adds
         own = self.last[self.front:]
         place = place_of(own, found.segments, has_instants, self.held_since is not None) if own else None
+        self.new = lasting(found.segments if place is None else found.segments[max(0, len(own) - place.offset):])
         if self.last and len({it.section is None for it in (self.last[-1], *found.segments)}) > 1:
             return Repaired(why=repairs.SECTIONS)
         lead, front = self.lead, 0
@@ -212,6 +212,7 @@ class Repairer:
         if fresh is None or any(rounded(it.duration) > head.target for it in fresh.new):
             return None
         kinds: dict[str, str] = {}
+        self.new = lasting(fresh.new)
         if fresh.new:
             count_on(self.last[-1], fresh.new)
             front = growth.kept_by(before, fresh) if any(it.stated is None for it in fresh.new) else self.last[-1:]
@@ -445,7 +446,7 @@ class Repairer:
         far from where that ends. It was set if the packager leaves nothing out, and its instants were exact so far. Else it is as another rendition has it that
         has come there; or as it was, if the packager can have been away so long; or it was set, and the segments between are those that its numbers leave out."""
         end, longest = (before.begins or 0) + before.said + it.gap, max(SECOND, before.duration)
-        by, missed, most = states - self.clock - end, (it.own - before.own - 1) * it.duration, self.waited * SECOND + AWAY * it.duration
+        by, missed, most = states - self.clock - end, (it.own - before.own - 1) * it.duration, self.waited * SECOND - self.new + AWAY * it.duration
         if missed == 0 and (not it.discontinuities or not 0 < by <= most) and not self.is_guessed and self.is_exact():
             return self.clock + by
         theirs = self.siblings.clock_at(states, end - before.duration // 2) if self.siblings is not None else None
@@ -474,15 +475,15 @@ class Repairer:
     def is_counted(self, last: PackagedSegment, segments: list[PackagedSegment]) -> bool:
         """Whether the packager's numbers say that as many segments come after the segment `last`, up to the newest of the listed `segments`, as there was
         time for since that was read."""
-        count = missed_by(last, segments) + lasting(segments)
-        return abs(count - self.waited * SECOND) <= AWAY * last.duration
+        count = missed_by(last, segments) + self.new
+        return abs(count - self.waited * SECOND) <= last.duration
 
     def away(self, it: PackagedSegment) -> int:
         """How long a packager was away that began again with the segment `it`, and set its clock: as long as no list came but for what
         this one lists, in whole segments."""
         if self.waited == float("inf") or not it.duration:
             return 0
-        return max(0, round(self.waited * SECOND) - self.listed + it.duration // 2) // it.duration * it.duration
+        return max(0, round(self.waited * SECOND) - self.new + it.duration // 2) // it.duration * it.duration
 
     def is_exact(self) -> bool:
         """Whether the newest segments that were listed begin where those before them end: then a packager whose instants are others has set its clock."""
