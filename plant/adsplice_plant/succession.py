@@ -130,10 +130,10 @@ def offset_by_numbers(last: Segments, new: Segments) -> int | None:
 
 
 def begins_alike(last: Segments, new: Segments) -> bool:
-    """Whether segments of `new` begin when those of `last` do: another packager has cut the same programme."""
+    """Whether a segment of `new` begins when one of `last` does: another packager has cut the same programme."""
     begins, stated = sorted(begin for it in last if (begin := said_of(it)) is not None), [it.stated for it in new if it.stated is not None]
     places = [max(0, bisect_left(begins, it) - 1) for it in stated]
-    return sum(any(abs(begin - it) <= NEAR for begin in begins[place:place + 2]) for it, place in zip(stated, places)) >= min(2, len(last), len(new))
+    return any(abs(begin - it) <= NEAR for it, place in zip(stated, places) for begin in begins[place:place + 2])
 
 
 def goes_on_by_names(offset: int, last: Segments, new: Segments, has_instants: bool) -> bool:

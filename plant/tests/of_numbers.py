@@ -344,6 +344,6 @@ def test_two_packagers_by_turns_are_told_once(room):
         text = with_breaks(newest - 5, newest, [])
         plant.read(text if turn % 2 == 0 else text.replace(b"\ns", b"\nother-"))
     words = {it.fault for it in plant.told if it.who == "list"}
-    assert words == {"Held", ""} and all(it.is_quiet for it in plant.told if it.who == "list"), words
+    assert words == {"Lags", ""} and all(it.is_quiet for it in plant.told if it.who == "list"), words
     items = numbers.items_of(written(plant.channel).encode())
     assert (items[-1].number, items[-1].discontinuity) == (29, 0), items[-1]
