@@ -503,8 +503,7 @@ class Repairer:
         theirs = self.siblings.clock_at(newest.stated, end) if self.siblings is not None and newest.stated is not None else None
         if theirs is not None and abs((newest.stated or 0) + newest.duration - first.stated - lasting(segments)) <= packaged.NEAR:
             return theirs  # (it has one clock throughout)
-        is_there = self.siblings is not None and self.siblings.clock_at(first.stated, end - last.duration // 2) is not None
-        if is_there or first.own > last.own and self.is_counted(last, segments):
+        if first.own > last.own and self.is_counted(last, segments):
             return self.clock_at(first.stated, last, first)
         seen, begins = self.clock_seen(segments), first.stated - self.clock
         is_seen = until >= end - newest.duration or begins_alike([*self.past, *self.last], segments)
