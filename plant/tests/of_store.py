@@ -44,7 +44,7 @@ NEEDS = ()
 ENDS = {  # what ends with a process, by the class whose member it is
     "State": {"in_step_since", "waits_until", "rests_until", "longest_pause", "is_behind"}, "Rendition": {"settings", "came", "reach", "older", "came_at", "read_at", "given_at", "behind_since", "is_new", "seen_at", "is_other", "slate"},
     "Controller": {"sent", "trials", "retry_at", "is_unseen", "dropped_at"},
-    "Repairer": {"siblings", "accepted", "held_since", "shifts", "waited", "listed", "is_part"}, "File": {"since", "looked_at", "is_there", "was_there"}, "Breaks": {"told", "recent", "shift"}, "Decided": {"tells"}}
+    "Repairer": {"siblings", "accepted", "held_since", "shifts", "waited", "new", "is_part"}, "File": {"since", "looked_at", "is_there", "was_there"}, "Breaks": {"told", "recent", "shift"}, "Decided": {"tells"}}
 
 
 # ---- states, as a feed makes them
