@@ -99,10 +99,10 @@ def as_elsewhere(stands: Standing, others: list[Standing], line: str, segments: 
 
 def lasting_elsewhere(other: Standing, run: Run, line: str, start: int | None, segments: list[PackagedSegment]) -> int:
     """How long a break lasts that began at the instant `start` here, and has ended in the `other` rendition, where its EXT-X-DATERANGE is the `line`, after
-    this `run`: up to the one of the `segments` that has the media number of the one after the run, if that is the same; else by instants. By its pod it ends
+    this `run`: up to the one of the `segments` that has the media number of the one after the run, if that begins within half of itself of the run's end; else by instants. By its pod it ends
     within a segment: then it has those that begin before that."""
     after, end = history_of(other)[run.last or 0], ended_by(other, run, line)
-    same = next((it for it in segments if it.number == after.number and it.begins is not None and abs(it.begins - run.end) < it.duration), None)
+    same = next((it for it in segments if it.number == after.number and it.begins is not None and 2 * abs(it.begins - run.end) <= it.duration), None)
     if same is not None and same.begins is not None and start is not None and start < same.begins:
         return same.begins - start
     return lasting(run.start, end, start, segments) if end >= run.end - TOLERANCE else end - run.start
