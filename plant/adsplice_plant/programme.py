@@ -8,6 +8,7 @@ from __future__ import annotations
 from collections import Counter
 from collections.abc import Collection, Mapping
 from dataclasses import dataclass, replace
+from itertools import accumulate
 
 from . import apart, controllers, decided, joining, packaged, presence, ranges, repairs, slates, spelling
 from .edges import by_last, edge_of, note_behind, patience_ends, up_to
@@ -356,9 +357,11 @@ def segments_of(body: bytes) -> list[PackagedSegment]:
 
 
 def first_instant(body: bytes) -> int:
-    """The first instant that the list `body` states, in nanoseconds from 1970; 0 if it states none. The list that begins first has its packager's
-    numbers, and the others follow it."""
-    return next((it.stated for it in segments_of(body) if it.stated is not None), 0)
+    """The first instant of the list `body`, in nanoseconds from 1970; 0 if it states none. If its packager's clock goes back within it, that is by the clock after
+    that, which other lists have from their begin on. The list that begins first has its packager's numbers, and the others follow it."""
+    segments = segments_of(body)
+    lasts = accumulate((it.duration for it in segments), initial=0)
+    return min((it.stated - before for it, before in zip(segments, lasts) if it.stated is not None), default=0)
 
 
 def put_right(turn: Turn, channel: str, found: dict[str, Taken], coming: Collection[str]) -> Taken | None:
