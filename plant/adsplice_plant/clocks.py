@@ -10,7 +10,6 @@ from typing import Any, NamedTuple
 
 from .date_ranges import read_range
 from .packaged import NEAR, PackagedList, PackagedSegment, Shift, instant_of, range_with
-from .playlist import SECOND
 from .siblings import end_of
 from .signals import duration_of
 from .translator import Translator
@@ -107,7 +106,7 @@ def placed(known: Stated | None, start: int, end: int | None, spans: list[Span],
     if known is not None and known.said_end == end:
         return one._replace(said_end=end, end=known.end)
     ends = by_programme(end, spans)
-    is_sure = one.start < ends and (planned is None or ends <= one.start + planned + SECOND)
+    is_sure = one.start < ends and (planned is None or ends <= one.start + planned + NEAR)
     if (until is None or end <= until + NEAR) and (is_sure or known is not None and known.pending_end == end):
         return one._replace(said_end=end, end=ends)
     return one._replace(said_end=None if known is None else known.said_end, end=None if known is None else known.end, pending_end=end)
