@@ -159,6 +159,8 @@ class Repairer:
         has_instants = is_timed and not self.adds
         own = self.last[self.front:]
         place = place_of(own, found.segments, has_instants, self.held_since is not None) if own else None
+        if place is not None and place.offset >= len(own) and self.leaves_out(own[-1], found.segments[0], found.segments[0].stated):
+            place = None
         self.new = lasting(found.segments if place is None else found.segments[max(0, len(own) - place.offset):])
         if self.last and len({it.section is None for it in (self.last[-1], *found.segments)}) > 1:
             return Repaired(why=repairs.SECTIONS)
@@ -259,6 +261,15 @@ class Repairer:
             return segments
         end = last.begins + last.duration
         return from_place(segments, next((n for n, it in enumerate(segments) if it.begins is None or middle_of(it) >= end), len(segments)))
+
+    def leaves_out(self, before: PackagedSegment, it: PackagedSegment, states: int | None) -> bool:
+        """Whether another rendition has a segment between the one `before` and the next one `it` by the packager's numbers, of which the list `states` an instant
+        whole segments later, while the clock stayed as it was: another packager behind the address counts from others."""
+        if self.siblings is None or self.adds or before.begins is None or states is None or it.own != before.own + 1:
+            return False
+        end = states - self.clock
+        apart = (end - before.begins - before.duration + packaged.NEAR) % max(1, it.duration)
+        return apart <= 2 * packaged.NEAR and self.siblings.has_between(before, end, self.clock)
 
     def is_later(self, segments: list[PackagedSegment]) -> bool:
         """Whether the listed `segments` go on from the last list after some that nobody read: by the packager's numbers, and by the instants that
@@ -447,7 +458,8 @@ class Repairer:
         has come there; or as it was, if the packager can have been away so long; or it was set, and the segments between are those that its numbers leave out."""
         end, longest = (before.begins or 0) + before.said + it.gap, max(SECOND, before.duration)
         by, missed, most = states - self.clock - end, (it.own - before.own - 1) * it.duration, self.waited * SECOND - self.new + AWAY * it.duration
-        if missed == 0 and (not it.discontinuities or not 0 < by <= most) and not self.is_guessed and self.is_exact():
+        is_next = missed == 0 and (not it.discontinuities or not 0 < by <= most) and not self.leaves_out(before, it, states)
+        if is_next and not self.is_guessed and self.is_exact():
             return self.clock + by
         theirs = self.siblings.clock_at(states, end - before.duration // 2) if self.siblings is not None else None
         if theirs is not None and (self.is_guessed or abs(by) > longest or abs(states - theirs - end) <= packaged.NEAR):

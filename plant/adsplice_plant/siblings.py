@@ -143,6 +143,13 @@ class Siblings:
         found = [[it for it in one.segments if it.begins is not None and began + max(last.duration, it.lasts()) <= middle_of(it) < end] for one in self.found]
         return self.most(found, began + last.duration)
 
+    def has_between(self, last: PackagedSegment, end: int, clock: int) -> bool:
+        """Whether one of them has a segment in the time from the end of a rendition's `last` segment to `end`, or most of it, which its packager stated by the same
+        `clock`."""
+        start = (last.begins or 0) + last.duration
+        return any(it.begins is not None and it.stated is not None and abs(it.ahead() - clock) <= packaged.NEAR
+                   and 2 * (min(end, it.begins + it.duration) - max(start, it.begins)) > it.duration for one in self.found for it in one.segments)
+
     def after(self, last: PackagedSegment, count: int, first: int) -> list[PackagedSegment]:
         """The `count` segments of one of them after the one that is the `last` one of a rendition, by their media numbers; none if none has them all by
         its packager's numbers, too, or if they end more than a segment from the instant `first`."""
