@@ -423,8 +423,8 @@ class Breaks:
     # ---- what a list shows of them
 
     def settle(self, line: Timeline) -> None:
-        """Puts starts and ends that the list `line` reaches on its segments, and tells of the ends. Segments that are longer than those of other renditions
-        say too little of that."""
+        """Puts starts and ends that the list `line` reaches on its segments, and tells of the ends. A planned end is put on a segment before it, too, if that is
+        the nearest and follows a discontinuity. Segments that are longer than those of other renditions say too little of that."""
         for one in self.known:
             if not one.is_settled and line.is_shortest() and line.is_reached(one.start):
                 found = line.nearest(one.start)
@@ -434,6 +434,9 @@ class Breaks:
                 one.end_slack = 0 if line.is_shortest() else line.half(one.until)
                 one.until, one.is_ended = line.aligned(one.until, True) if line.is_shortest() else one.until, True
             end = one.end()
+            near = line.nearest(end, True) if end is not None and one.until is None and line.aligns and line.is_shortest() else None
+            if near is not None and near.discontinuities and one.start + TOLERANCE < (near.begins or 0) < (end or 0) - TOLERANCE:
+                one.until, one.is_ended, end = near.begins, True, near.begins
             if end is not None and not one.is_told and line.is_reached(end, True):
                 one.is_told = True
                 self.tell(f"breaks/{shown(one.id)}", "Ends", f"at {instant_text(end + self.shift)}, after {seconds_text(end - one.start)} s ({one.name})")
