@@ -440,14 +440,14 @@ class Repairer:
             kinds["clock"] = ""
 
     def begin_of(self, it: PackagedSegment, before: PackagedSegment | None, states: int | None) -> int | None:
-        """When the new segment `it` begins after the one `before`, if the list `states` an instant of it: then. If that is more than a segment away from where the
-        segment before ends, the packager may have set its clock."""
+        """When the new segment `it` begins after the one `before`, if the list `states` an instant of it: then. If that isn't where the segment before ends, the
+        packager may have set its clock; or before, if that is guessed."""
         if before is None or before.begins is None:
             return None if states is None else states - self.clock
         end = before.begins + before.said + it.gap
         if states is None:
             return end
-        if abs(states - self.clock - end) > packaged.NEAR:
+        if abs(states - self.clock - end) > packaged.NEAR or self.is_guessed:
             self.clock = self.clock_at(states, before, it)
         is_exact = it.stated is not None or abs(states - self.clock - end) > max(SECOND, before.duration)  # (how long segments are isn't always said to the millisecond)
         return max(states - self.clock, before.begins + 1) if is_exact else end
@@ -455,7 +455,8 @@ class Repairer:
     def clock_at(self, states: int, before: PackagedSegment, it: PackagedSegment) -> int:
         """How far the packager's clock is ahead of the programme's at the segment `it`, which follows the one `before` and of which the list `states` an instant
         far from where that ends. It was set if the packager leaves nothing out, and its instants were exact so far. Else it is as another rendition has it that
-        has come there; or as it was, if the packager can have been away so long; or it was set, and the segments between are those that its numbers leave out."""
+        has come there; or as it was, if the packager can have been away so long (other renditions say so once they come there, if it may have been set); or it was
+        set, and the segments between are those that its numbers leave out."""
         end, longest = (before.begins or 0) + before.said + it.gap, max(SECOND, before.duration)
         by, missed, most = states - self.clock - end, (it.own - before.own - 1) * it.duration, self.waited * SECOND - self.new + AWAY * it.duration
         is_next = missed == 0 and (not it.discontinuities or not 0 < by <= most) and not self.leaves_out(before, it, states)
@@ -466,6 +467,7 @@ class Repairer:
             self.is_guessed = False
             return theirs
         if abs(by) <= longest or missed > 0 and abs(by - missed) <= longest:
+            self.is_guessed = self.is_guessed or self.siblings is not None and missed == 0 and by > packaged.NEAR and self.is_exact()
             return self.clock
         if 0 < missed <= most and missed < STALE:
             return self.clock + by - missed
