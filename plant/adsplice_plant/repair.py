@@ -520,7 +520,8 @@ class Repairer:
         if first.own > last.own and self.is_counted(last, segments):
             return self.clock_at(first.stated, last, first)
         seen, begins = self.clock_seen(segments), first.stated - self.clock
-        is_seen = until >= end - newest.duration or begins_alike([*self.past, *self.last], segments)
+        history = [it for it in (*self.past, *self.last) if abs(it.ahead() - self.clock) <= packaged.NEAR]
+        is_seen = until >= end - newest.duration or begins_alike(history, segments)
         if (seen is None or begins >= end - packaged.NEAR) and begins <= end + max(SECOND, last.duration) and is_seen:
             return self.clock  # (it goes on, or some of it was seen)
         return self.clock_at(first.stated, last, first) if seen is None else seen
