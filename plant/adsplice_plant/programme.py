@@ -142,9 +142,14 @@ def has_newest(it: Rendition, body: bytes) -> bool:
     return has_path(body, it.stands.repairer.last[-1].uri.partition("?")[0].encode())
 
 
+def next_of(it: Rendition) -> bytes:
+    """The list of the rendition that is to be taken in next; nothing if none came."""
+    return it.older[0] if it.older else it.came or b""
+
+
 def goes_on(it: Rendition) -> bool:
-    """Whether the newest list of the rendition goes on from the last one that was taken in."""
-    return it.stands.repairer.held_since is None and (not it.stands.repairer.last or it.came is None or has_newest(it, it.came))
+    """Whether the next list of the rendition goes on from the last one that was taken in."""
+    return it.stands.repairer.held_since is None and (not it.stands.repairer.last or it.came is None or has_newest(it, next_of(it)))
 
 
 def has_path(body: bytes, path: bytes) -> bool:
@@ -232,9 +237,9 @@ def take_lists(turn: Turn) -> None:
         return
     follow_clock(turn)
     if not any(it.stands.entry for _, it in turn.renditions()):
-        due.sort(key=lambda channel: first_instant(turn.state.renditions[channel].came or b""))
+        due.sort(key=lambda channel: first_instant(next_of(turn.state.renditions[channel])))
     else:  # (of those that begin again together each has what the others have that begin before it; one that comes later than the others, what all have)
-        due.sort(key=lambda channel: (not (it := turn.state.renditions[channel]).stands.repairer.last, 0 if goes_on(it) else first_instant(it.came or b"")))
+        due.sort(key=lambda channel: (not (it := turn.state.renditions[channel]).stands.repairer.last, 0 if goes_on(it) else first_instant(next_of(it))))
     found: dict[str, Taken] = {}
     older = {channel: turn.state.renditions[channel].older for channel in due}
     coming = coming_together(turn, due)
@@ -389,8 +394,7 @@ def put_right(turn: Turn, channel: str, found: dict[str, Taken], coming: Collect
 def righted(turn: Turn, channel: str, found: dict[str, Taken], coming: Collection[str] = ()) -> Taken:
     """What the list of the `channel` that is to be taken in next becomes; nothing is changed by that. The rest as in `put_right`."""
     it = turn.state.renditions[channel]
-    body = it.older[0] if it.older else it.came
-    assert body is not None
+    body = next_of(it)
     if not it.settings.repair:
         return Taken(it.stands.repairer, Repaired(packaged.as_listed(read(body)), came=body), body, False)
     edge = edge_of(turn, channel) if len(turn.state.renditions) > 1 and not it.older else None
