@@ -88,7 +88,7 @@ def numbered(stands: Standing, other: PackagedSegment) -> Numbers | None:
     """The numbers that viewers have of the segment with the media number of the `other` rendition's; none if there is none, or if it begins elsewhere: a
     rendition that was away counts on from its own last segment."""
     one = next((it for it in stands.repairer.last if it.number == other.number), None)
-    if one is None or (None not in (one.begins, other.begins) and abs((one.begins or 0) - (other.begins or 0)) > max(one.duration, other.duration)):
+    if one is None or (None not in (one.begins, other.begins) and 2 * abs((one.begins or 0) - (other.begins or 0)) > max(one.duration, other.duration)):
         return None
     return stands.viewed.begins.get(one.number)
 

@@ -152,6 +152,14 @@ def goes_on(it: Rendition) -> bool:
     return it.stands.repairer.held_since is None and (not it.stands.repairer.last or it.came is None or has_newest(it, next_of(it)))
 
 
+def begins_at(turn: Turn, it: Rendition) -> int:
+    """The instant at which the rendition's next list begins that doesn't go on; 0 if it goes on. Its first list counts as half a target duration later: renditions
+    are cut at other times."""
+    if not it.stands.repairer.last:
+        return first_instant(next_of(it)) + int(turn.target() * SECOND / 2)
+    return 0 if goes_on(it) else first_instant(next_of(it))
+
+
 def has_path(body: bytes, path: bytes) -> bool:
     """Whether the list `body` has a segment of this `path`, or one alone of its last part: hosts and folders may be spelled otherwise in each list."""
     return body.rfind(path) >= 0 or body.count(b"/" + path.rpartition(b"/")[2]) == 1
@@ -238,8 +246,8 @@ def take_lists(turn: Turn) -> None:
     follow_clock(turn)
     if not any(it.stands.entry for _, it in turn.renditions()):
         due.sort(key=lambda channel: first_instant(next_of(turn.state.renditions[channel])))
-    else:  # (of those that begin again together each has what the others have that begin before it; one that comes later than the others, what all have)
-        due.sort(key=lambda channel: (not (it := turn.state.renditions[channel]).stands.repairer.last, 0 if goes_on(it) else first_instant(next_of(it))))
+    else:  # (of those that begin again together each has what the others have that begin before it; one that comes later than the others, what all have then)
+        due.sort(key=lambda channel: begins_at(turn, turn.state.renditions[channel]))
     found: dict[str, Taken] = {}
     older = {channel: turn.state.renditions[channel].older for channel in due}
     coming = coming_together(turn, due)
