@@ -71,7 +71,8 @@ def put_right(found: PackagedList, known: dict[str, Stated], is_part: bool = Fal
         if it.id and start is not None:
             planned = duration_of(it.said.get("PLANNED-DURATION", ""))
             one = stated[it.id] = placed(stated.get(it.id, known.get(it.id)), start, end, spans, planned, until, found.segments)
-            line = range_with(line, {"START-DATE": one.start, "END-DATE": one.end})
+            if (one.start, one.end) != (start, end):
+                line = range_with(line, {"START-DATE": one.start, "END-DATE": one.end})
             line = line if one.end is not None else line.replace(f',END-DATE="{it.said.get("END-DATE")}"', "", 1)
         rows.append((place, at, line))
     if rows != found.own_ranges():

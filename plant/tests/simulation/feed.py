@@ -261,7 +261,8 @@ class Feed:
         elif isinstance(it, Send):
             self.send(it)
         elif isinstance(it, Ask):
-            self.world.ask(tuple(changed(one, start=one.start - self.state.shift()) for one in it.known))  # (by the programme's clock)
+            ahead = max(one.stands.repairer.clock for one in self.state.renditions.values())
+            self.world.ask(tuple(changed(one, start=one.start - self.state.shift() + ahead) for one in it.known))  # (by the packager's clock)
         elif isinstance(it, Find):
             self.world.find(it.channel, it.found)
         elif isinstance(it, Finish):
