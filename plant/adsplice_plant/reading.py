@@ -28,7 +28,8 @@ EARLY = 0.95  # of a segment's duration after which the next list is looked for:
 
 def interval(target: int | None, is_web: bool, pace: float | None = None, in_vain: int = 1) -> float:
     """The seconds from one look at an origin to the next. A file is looked at each OFTEN seconds. A URL is, after a list that is new, once its segments' `pace`
-    in seconds is nearly over, if that is known. After so many looks `in_vain` it is in growing pauses of half the `target` duration at most."""
+    in seconds is nearly over, if that is known. After so many looks `in_vain` it is in growing pauses of half the `target` duration at most.
+    (Players wait for a target duration, RFC 8216, 6.3.4. The feed stands between them and the packager, and is to be ahead of them.)"""
     pause = min(MOST, max(OFTEN, target / 2)) if target else SOON
     if not is_web:
         return min(pause, OFTEN)

@@ -167,13 +167,9 @@ class Repairer:
         lead, front = self.lead, 0
         if place is not None:
             lead, front = self.go_on(found, place, kinds)
-        elif not self.last:
-            self.begin(found)
-            if (held := self.wait_for_others(found.segments[0], now, max(1, found.target or 1))) is not None:
-                return held
-        elif (held := self.hold(found, has_instants, now, clock if is_untimed else None)) is not None:
+        elif (held := self.held(found, has_instants, now, clock if is_untimed else None)) is not None:
             return held
-        else:
+        elif self.last:
             lead, front = self.begin_again(found, kinds)
         steps = self.add_steps(found, kinds)
         self.set_times(found.segments)
@@ -227,6 +223,13 @@ class Repairer:
         self.set_clock(found, kinds, fresh.new)
         kinds |= growth.repairs_after(before, fresh, found)
         return Repaired(found, head, None if kinds else body, kinds, accepted=Accepted(body, before.head, kinds, found))
+
+    def held(self, found: PackagedList, has_instants: bool, now: float, clock: int | None) -> Repaired | None:
+        """Why the list `found`, which is the first one or doesn't go on from the last one, isn't taken now; none if it is. The rest as in `hold`."""
+        if self.last:
+            return self.hold(found, has_instants, now, clock)
+        self.begin(found)
+        return self.wait_for_others(found.segments[0], now, max(1, found.target or 1))
 
     def hold(self, found: PackagedList, has_instants: bool, now: float, clock: int | None) -> Repaired | None:
         """Why the list `found`, which doesn't go on, isn't taken now; none if it is to be taken as one that began again, and its
