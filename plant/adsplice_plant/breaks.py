@@ -144,6 +144,12 @@ class Timeline:
         first = next((it for it in self.segments if it.begins is not None and abs(it.begins - start) <= TOLERANCE), None)
         return end if first is None else max(end, start + first.duration)
 
+    def lasts(self, start: int, at: int, planned: int) -> int:
+        """How long a break lasts that begins with the segment at `start`, and is stated to last `planned` from the instant `at` on: up to the segment that is
+        nearest to that end, if it is listed."""
+        found = self.aligned(at + planned, True) - start if self.is_reached(at + planned, True) else planned
+        return found if found > 0 else planned
+
     def is_shortest(self) -> bool:
         """Whether no rendition of the programme has shorter segments."""
         return self.numbering.many == self.numbering.few
@@ -284,7 +290,7 @@ class Breaks:
             return None
         if before is not None and not before.is_over(start + half):
             before.until = start
-        return self.add(it, line, start, planned)
+        return self.add(it, line, start, planned if planned is None else line.lasts(start, it.at, planned))
 
     def is_shown_again(self, it: Placed, start: int, line: Timeline) -> bool:
         """Whether the signal `it`, at `start`, is that of a break which a rendition with longer segments has shown already. That begins there then: longer

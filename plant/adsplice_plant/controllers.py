@@ -286,8 +286,18 @@ def unanswered(turn: Turn, event: Answered) -> None:
     else:
         wait(turn, event.channel)
         failed(turn, event, "tries again with growing pauses")
+        if event.request.what is What.PUSH:
+            may_have_taken(turn, event.channel)
         if event.request.entry and (one := decision_of(turn, event.request.entry)) is not None:
             decided.taken(turn, one)  # (what is told needn't wait for it)
+
+
+def may_have_taken(turn: Turn, channel: str) -> None:
+    """The controller of the `channel` may have the last list, whose answer nobody knows. If that is its first one, it had what comes before that, at the least:
+    the next list goes on from it, too."""
+    it = turn.state.renditions[channel]
+    if it.stands.repairer.last and it.controller.took < 0 and it.controller.reached < 0 and not turn.state.life:
+        turn.put_controller(channel, reached=it.stands.repairer.last[0].number - 1)
 
 
 def wait(turn: Turn, channel: str) -> None:

@@ -176,11 +176,9 @@ def oldest_of(body: bytes) -> bytes:
 
 
 def begin_again(turn: Turn) -> None:
-    """The feed has begun: whether the controllers are there isn't known. Nobody waits any more for what an earlier feed waited for. That had given what
-    comes before its last list, at the least."""
-    for channel, it in turn.renditions():
-        if it.stands.repairer.last and it.controller.took < 0 and it.controller.reached < 0 and not turn.state.life:
-            turn.put_controller(channel, reached=it.stands.repairer.last[0].number - 1)
+    """The feed has begun: whether the controllers are there isn't known. Nobody waits any more for what an earlier feed waited for."""
+    for channel, _ in turn.renditions():
+        controllers.may_have_taken(turn, channel)
         turn.put_controller(channel, way=Way.UNKNOWN, sent=None, trials=0, retry_at=0.0, is_unseen=False)
         turn.put(channel, came_at=turn.at, given_at=float("-inf"))
     begun = decided.begun_of(turn, turn.state.asked)  # (the others are asked for again, unless they were answered)

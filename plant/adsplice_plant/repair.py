@@ -517,6 +517,9 @@ class Repairer:
         last, newest = self.last[-1], segments[-1]
         end = (last.begins or 0) + last.duration
         until = first.stated + lasting(segments) - self.clock
+        counted = self.siblings.counted_at(last, newest) if self.siblings is not None and newest.stated is not None else None
+        if counted is not None and packaged.NEAR < abs((newest.stated or 0) - self.clock - counted) < newest.duration - packaged.NEAR:
+            return (newest.stated or 0) - counted  # (the clock was set by less than a segment)
         theirs = self.siblings.clock_at(newest.stated, end) if self.siblings is not None and newest.stated is not None else None
         if theirs is not None and abs((newest.stated or 0) + newest.duration - first.stated - lasting(segments)) <= packaged.NEAR:
             return theirs  # (it has one clock throughout)
