@@ -93,6 +93,12 @@ def end_stated(segments: list[PackagedSegment]) -> int | None:
     return segments[-1].stated + segments[-1].duration if segments and segments[-1].stated is not None else None
 
 
+def is_one_clock(segments: list[PackagedSegment], growing: PackagedSegment) -> bool:
+    """Whether the segment that is `growing` after the listed `segments` begins where they end by their packager's clock, as far as it is stated."""
+    end = end_stated(segments)
+    return end is None or growing.stated is None or abs(growing.stated - end) <= NEAR
+
+
 def placed(known: Stated | None, start: int, end: int | None, spans: list[Span], planned: int | None = None, until: int | None = None,
            segments: Sequence[PackagedSegment] = ()) -> Stated:
     """What a date range states that begins at `start` and ends at `end` (none if it doesn't say) and is `planned` to last so long, of which that is `known`

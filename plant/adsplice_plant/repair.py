@@ -173,6 +173,7 @@ class Repairer:
             lead, front = self.begin_again(found, kinds)
         steps = self.add_steps(found, kinds)
         self.set_times(found.segments)
+        self.is_part = self.is_part or growing is not None and not clocks.is_one_clock(found.segments, growing)
         self.set_clock(found, kinds)
         if is_untimed:
             kinds["times"] = ""
