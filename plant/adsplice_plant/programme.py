@@ -498,7 +498,8 @@ def pass_over(turn: Turn, translator: Translator, found: dict[str, Taken]) -> No
     reached = {channel: passed(it, found[channel].found() if channel in found else PackagedList()) for channel, it in lists.items()}
     for one in translator.breaks.known:
         is_open = {channel for channel, it in lists.items() if one.id in it.pods.entered}
-        past = {channel for channel in lists if reached[channel] > one.start and (not is_open or began_before(lists[channel], one))} - is_open
+        starts = {channel: translator.start_in(one, turn.state.renditions[channel].settings.rendition()) for channel in lists}
+        past = {channel for channel in lists if reached[channel] > starts[channel] and (not is_open or began_before(lists[channel], one))} - is_open
         bare = {channel for channel in lists if channel in found and lacks_cut(turn, translator, one, channel, found[channel])} - past - is_open
         if past or bare:
             leave_out(turn, one, past, bare, turn.fills_others() or bool(is_open))
