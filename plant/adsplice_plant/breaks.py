@@ -406,7 +406,8 @@ class Breaks:
             if line.is_shortest() and one.ended_about(at, half) and (own or it.signal.is_cue or is_its):
                 one.until, one.end_slack = at, 0
                 return
-            if one.is_ended or at - one.start <= half or one.is_over(at - half):
+            least = half + (one.slack if line.is_shortest() else 0)  # (what a rendition with longer segments has shown may begin later)
+            if one.is_ended or at - one.start <= least or one.is_over(at - half):
                 continue
             if own or it.signal.is_cue or is_its:
                 end = one.end()
