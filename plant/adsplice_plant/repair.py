@@ -504,9 +504,10 @@ class Repairer:
         return max(0, round(self.waited * SECOND) - self.new + it.duration // 2) // it.duration * it.duration
 
     def is_exact(self) -> bool:
-        """Whether the newest segments that were listed begin where those before them end: then a packager whose instants are others has set its clock."""
+        """Whether the newest segments that were listed begin where those before them end, but for discontinuities, where a packager was away: then one whose instants
+        are others has set its clock."""
         newest = [*self.past[-MOST_LOOKED_AT:], *self.last][-MOST_LOOKED_AT:]
-        return len(newest) > 2 and all(abs((it.begins or 0) - (before.begins or 0) - before.said - it.gap) <= packaged.NEAR for before, it in zip(newest, newest[1:]))
+        return len(newest) > 2 and all(it.discontinuities > 0 or abs((it.begins or 0) - (before.begins or 0) - before.said - it.gap) <= packaged.NEAR for before, it in zip(newest, newest[1:]))
 
     def clock_of(self, segments: list[PackagedSegment]) -> int:
         """How far the packager's clock is ahead of the programme's at the first of the listed `segments`, which don't go on from the last list."""
