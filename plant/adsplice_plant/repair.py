@@ -492,9 +492,9 @@ class Repairer:
 
     def is_counted(self, last: PackagedSegment, segments: list[PackagedSegment]) -> bool:
         """Whether the packager's numbers say that as many segments come after the segment `last`, up to the newest of the listed `segments`, as there was
-        time for since that was read."""
-        count = missed_by(last, segments) + self.new
-        return abs(count - self.waited * SECOND) <= last.duration
+        time for since that was read; of a part of a list, no more."""
+        rest = self.waited * SECOND - missed_by(last, segments) - self.new
+        return abs(rest) <= last.duration or self.is_part and rest > 0
 
     def away(self, it: PackagedSegment) -> int:
         """How long a packager was away that began again with the segment `it`, and set its clock: as long as no list came but for what
@@ -509,6 +509,14 @@ class Repairer:
         newest = [*self.past[-MOST_LOOKED_AT:], *self.last][-MOST_LOOKED_AT:]
         return len(newest) > 2 and all(it.discontinuities > 0 or abs((it.begins or 0) - (before.begins or 0) - before.said - it.gap) <= packaged.NEAR for before, it in zip(newest, newest[1:]))
 
+    def set_within(self, before: PackagedSegment, it: PackagedSegment) -> int:
+        """By how much, less than a segment, the packager has set its clock between the segment `before` and `it`, if its numbers go on, and all segments are as long; 0 if
+        that can't be told, or it hasn't."""
+        missed, states = (it.own - before.own - 1) * it.duration, it.stated if it.stated is not None else 0
+        by = states - self.clock - (before.begins or 0) - before.said - missed
+        is_regular = all(abs(one.duration - it.duration) <= packaged.NEAR for one in self.last[-MOST_LOOKED_AT:]) and self.is_exact()
+        return by if missed > 0 and not it.discontinuities and packaged.NEAR < abs(by) < it.duration - packaged.NEAR and is_regular else 0
+
     def clock_of(self, segments: list[PackagedSegment]) -> int:
         """How far the packager's clock is ahead of the programme's at the first of the listed `segments`, which don't go on from the last list."""
         first = next((it for it in segments if it.stated is not None), None)
@@ -522,6 +530,8 @@ class Repairer:
         counted = self.siblings.counted_at(last, newest) if self.siblings is not None and newest.stated is not None else None
         if counted is not None and packaged.NEAR < abs((newest.stated or 0) - self.clock - counted) < newest.duration - packaged.NEAR:
             return (newest.stated or 0) - counted  # (the clock was set by less than a segment)
+        if self.is_counted(last, segments) and (by := self.set_within(last, first)):
+            return self.clock + by
         theirs = self.siblings.clock_at(newest.stated, end) if self.siblings is not None and newest.stated is not None else None
         if theirs is not None and abs((newest.stated or 0) + newest.duration - first.stated - lasting(segments)) <= packaged.NEAR:
             return theirs  # (it has one clock throughout)
