@@ -80,6 +80,12 @@ def put_right(found: PackagedList, known: dict[str, Stated], is_part: bool = Fal
     return stated
 
 
+def moved_by(found: PackagedList, known: dict[str, Stated]) -> int:
+    """By how much the START-DATEs of the list `found` are later than what is `known` that they were in the list before; 0 if that isn't the same of all."""
+    moved = {start - known[it.id].said for line in found.date_ranges() if (it := read_range(line)).id in known and (start := it.start()) is not None}
+    return moved.pop() if len(moved) == 1 else 0
+
+
 def is_come(known: Stated, start: int, segments: Sequence[PackagedSegment]) -> bool:
     """Whether the instant `start` that a date range states, as it did before, is where one of the newest listed `segments` begins or ends, though by the clock
     that was known then (`known`) none begins there: it was stated by a clock that the packager had just set."""

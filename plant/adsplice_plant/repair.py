@@ -6,6 +6,7 @@ which nothing is wrong stays as it came, byte for byte. What was listed before i
 from __future__ import annotations
 
 from bisect import bisect_left
+from collections.abc import Iterator
 from dataclasses import dataclass, field, replace
 
 from . import clocks, growth, packaged, repairs, spelling, variables
@@ -236,7 +237,7 @@ class Repairer:
         """Why the list `found`, which doesn't go on, isn't taken now; none if it is to be taken as one that began again, and its
         instants are known then. `clock`: the time of day, if instants are added; the rest as in `take`."""
         patience = self.head.target if self.head else 0
-        self.clock = self.clock_of(found.segments) if has_instants else self.clock
+        self.clock = self.clock_of(found) if has_instants else self.clock
         if lags(self.past, self.last, found.segments, has_instants, max(1, patience)):
             return Repaired(why=repairs.LAGS)
         self.held_since = now if self.held_since is None else self.held_since
@@ -509,16 +510,28 @@ class Repairer:
         newest = [*self.past[-MOST_LOOKED_AT:], *self.last][-MOST_LOOKED_AT:]
         return len(newest) > 2 and all(it.discontinuities > 0 or abs((it.begins or 0) - (before.begins or 0) - before.said - it.gap) <= packaged.NEAR for before, it in zip(newest, newest[1:]))
 
-    def set_within(self, before: PackagedSegment, it: PackagedSegment) -> int:
-        """By how much, less than a segment, the packager has set its clock between the segment `before` and `it`, if its numbers go on, and all segments are as long; 0 if
-        that can't be told, or it hasn't."""
-        missed, states = (it.own - before.own - 1) * it.duration, it.stated if it.stated is not None else 0
-        by = states - self.clock - (before.begins or 0) - before.said - missed
-        is_regular = all(abs(one.duration - it.duration) <= packaged.NEAR for one in self.last[-MOST_LOOKED_AT:]) and self.is_exact()
-        return by if missed > 0 and not it.discontinuities and packaged.NEAR < abs(by) < it.duration - packaged.NEAR and is_regular else 0
+    def set_within(self, last: PackagedSegment, found: PackagedList) -> int:
+        """By how much, if by less than a segment, the packager has set its clock between the segment `last` and the list `found`, which doesn't go on; 0 if it hasn't, or
+        if nothing says so."""
+        longest = found.segments[-1].duration - packaged.NEAR
+        return next((by for by in self.steps_said(last, found) if packaged.NEAR < abs(by) < longest), 0)
 
-    def clock_of(self, segments: list[PackagedSegment]) -> int:
-        """How far the packager's clock is ahead of the programme's at the first of the listed `segments`, which don't go on from the last list."""
+    def steps_said(self, last: PackagedSegment, found: PackagedList) -> Iterator[int]:
+        """What says by how much the packager has set its clock since the segment `last`: another rendition, which has the newest segment of the list `found` by the
+        packager's numbers; its own numbers, if they go on and all segments are as long; its date ranges, if those that it had listed begin so much later."""
+        first, newest = found.segments[0], found.segments[-1]
+        counted = self.siblings.counted_at(last, newest) if self.siblings is not None else None
+        if counted is not None and newest.stated is not None:
+            yield newest.stated - self.clock - counted
+        missed = (first.own - last.own - 1) * first.duration
+        is_regular = all(abs(it.duration - first.duration) <= packaged.NEAR for it in self.last[-MOST_LOOKED_AT:]) and self.is_exact()
+        if missed > 0 and first.stated is not None and not first.discontinuities and is_regular and self.is_counted(last, found.segments):
+            yield first.stated - self.clock - (last.begins or 0) - last.said - missed
+        yield clocks.moved_by(found, self.stated)
+
+    def clock_of(self, found: PackagedList) -> int:
+        """How far the packager's clock is ahead of the programme's at the first segment of the list `found`, which doesn't go on from the last one."""
+        segments = found.segments
         first = next((it for it in segments if it.stated is not None), None)
         if first is None or first.stated is None:
             return self.clock
@@ -527,10 +540,7 @@ class Repairer:
         last, newest = self.last[-1], segments[-1]
         end = (last.begins or 0) + last.duration
         until = first.stated + lasting(segments) - self.clock
-        counted = self.siblings.counted_at(last, newest) if self.siblings is not None and newest.stated is not None else None
-        if counted is not None and packaged.NEAR < abs((newest.stated or 0) - self.clock - counted) < newest.duration - packaged.NEAR:
-            return (newest.stated or 0) - counted  # (the clock was set by less than a segment)
-        if self.is_counted(last, segments) and (by := self.set_within(last, first)):
+        if by := self.set_within(last, found):
             return self.clock + by
         theirs = self.siblings.clock_at(newest.stated, end) if self.siblings is not None and newest.stated is not None else None
         if theirs is not None and abs((newest.stated or 0) + newest.duration - first.stated - lasting(segments)) <= packaged.NEAR:
