@@ -60,7 +60,9 @@ def unread(dice: random.Random, plan: Plan) -> Plan:
 def turns(dice: random.Random, plan: Plan) -> Plan:
     """Two packagers answer by turns behind one address, not in step: they count from other numbers, or name segments otherwise."""
     late = dice.choice((0, 300, 700, plan.target // 2, plan.target, plan.target * 3 // 2))
-    return replace(plan, twin=Twin(late, dice.choice((7, 8, 1007, 3)), dice.choice((0, 0, 5)), dice.choice((0.0, 0.5, 0.5, 0.85, 0.95))))
+    told = 2 * plan.target / 1000  # (one segment by a clock that was just set doesn't tell another packager from one that begins again)
+    return replace(plan, twin=Twin(late, dice.choice((7, 8, 1007, 3)), dice.choice((0, 0, 5)), dice.choice((0.0, 0.5, 0.5, 0.85, 0.95))),
+                   faults=tuple(it for it in plan.faults if it.kind != "packager's clock" or it.at >= told))
 
 
 def clocks(dice: random.Random, plan: Plan) -> Plan:
