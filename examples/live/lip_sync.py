@@ -25,16 +25,19 @@ RESTS = ("-bf", "0", "-g", str(2 * RATE), "-keyint_min", str(2 * RATE), "-sc_thr
 LATER = 0.4  # where an ad's second has its flash: a coder's first frame of sound is silent
 DARK, TONES = (16, 64), (880, 440)  # the red of the pictures, and the pitch: of the programme, and of an ad
 PAGE = """<!doctype html><title>lip sync</title><video id=video crossorigin=anonymous></video><script>
-const flashes = [], beeps = [], clocks = [], pen = new OffscreenCanvas(1, 1).getContext("2d", { willReadFrequently: true });
-let light = false, fault = "";
+const flashes = [], beeps = [], shown = [], played = [], pen = new OffscreenCanvas(1, 1).getContext("2d", { willReadFrequently: true });
+let flash = null, fault = "";
+function note(clocks, by) { clocks.push(by); if (clocks.length > 250) clocks.shift(); }
+function middle(clocks) { return [...clocks].sort((one, other) => one - other)[clocks.length >> 1]; }
+// Screens and sinks go at their own pace, and rougher on a busy machine: so the middle counts of ten seconds, five before and five after.
+function tell(found, clocks, at, what) { setTimeout(() => found.push([at + middle(clocks), what[0]]), 5000); }
 function seen(now, frame) {
   pen.drawImage(video, 0, 0, 1, 1);
-  const red = pen.getImageData(0, 0, 1, 1).data[0], is = red > 128;
-  clocks.push(frame.expectedDisplayTime / 1000 - frame.mediaTime); // (a screen shows frames at its own pace: the middle of many is less rough)
-  if (clocks.length > 50) clocks.shift();
-  if (is && !light) flashes.push([frame.mediaTime + clocks.reduce((sum, it) => sum + it) / clocks.length, 0]);
-  if (!is && light && flashes.length) flashes.at(-1)[1] = red;
-  light = is;
+  const red = pen.getImageData(0, 0, 1, 1).data[0], clock = audio.getOutputTimestamp();
+  note(shown, frame.expectedDisplayTime / 1000 - frame.mediaTime);
+  note(played, clock.performanceTime / 1000 - clock.contextTime);
+  if (red > 128 && !flash) tell(flashes, shown, frame.mediaTime, flash = [0]);
+  if (red <= 128 && flash) [flash[0], flash] = [red, null];
   video.requestVideoFrameCallback(seen);
 }
 video.requestVideoFrameCallback(seen);
@@ -58,15 +61,12 @@ async function listen() {
   await audio.audioWorklet.addModule(URL.createObjectURL(new Blob([ear], { type: "text/javascript" })));
   const node = new AudioWorkletNode(audio, "ear");
   audio.createMediaElementSource(video).connect(node).connect(audio.destination);
-  node.port.onmessage = (it) => {
-    const clock = audio.getOutputTimestamp();
-    beeps.push([clock.performanceTime / 1000 + it.data[0] - clock.contextTime, it.data[1]]);
-  };
+  node.port.onmessage = (it) => tell(beeps, played, it.data[0], [it.data[1]]);
   video.src = new URLSearchParams(location.search).get("list");
   await video.play();
 }
 listen().catch((it) => { fault = String(it); });
-function taken() { return [light ? flashes.splice(0, Math.max(0, flashes.length - 1)) : flashes.splice(0), beeps.splice(0)]; }
+function taken() { return [flashes.splice(0), beeps.splice(0)]; }
 </script>"""
 
 
