@@ -164,14 +164,15 @@ class Viewers:
 
     def place_of_pod(self, name: str) -> int:
         """The break of the programme that a pod fills which comes now, and is decided for the break `name`; -1 if none begins here."""
-        if self.reached is None:
+        last = self.since[-1].place if self.since else -1
+        if last < 0 and self.reached is None:
             return self.at_first()
-        after = self.plan.breaks[self.since[-1].place].end if self.since and self.since[-1].place >= 0 else self.reached
+        after = self.plan.breaks[last].end if last >= 0 else self.reached or 0
         next_ones = [self.next_begin(after, one) for one in self.lenders()]
         alike = [at for at, one in zip(next_ones, self.lenders()) if one.length == self.packager.length]
-        planned = self.plan.breaks[self.since[-1].place].planned if self.since and self.since[-1].place >= 0 else after
+        planned = self.plan.breaks[last].planned if last >= 0 else after
         near = [(it.name != name, order, abs(it.start - at), place) for order, at in enumerate((min(alike), *next_ones, after, planned)) for place, it in enumerate(self.plan.breaks)
-                if abs(it.start - at) <= self.half_at(it.start) + NEAR and not (self.since and place == self.since[-1].place)]
+                if abs(it.start - at) <= self.half_at(it.start) + NEAR and place != last]
         return min(near)[-1] if near else -1
 
     def lenders(self) -> list[Packager]:
@@ -196,8 +197,8 @@ class Viewers:
         return f"{BASE}/{name}/{it.uri}" in self.read[name]
 
     def at_first(self) -> int:
-        """The break within which the very first segment is."""
-        first = self.packager.all[0].begin if self.packager.all else 0
+        """The break within which the first segment is that the feed has read."""
+        first = next((it.begin for it in self.packager.all if self.was_read(it)), 0)
         return next((place for place, it in enumerate(self.plan.breaks) if it.planned > first), -1)
 
     # ---- the programme
