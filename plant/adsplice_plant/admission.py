@@ -18,6 +18,7 @@ from . import judge, words
 from .bounded_files import opened, write
 from .decisions import MAX_BYTES, over_bound
 from .folders import MOST_ENTRIES, MOST_FILES, ROOM
+from .serving import Refused
 from .settings import Settings
 
 LONGEST_NAME = 100  # letters of a file's name without its ending
@@ -53,14 +54,6 @@ class Channel(Protocol):
 
     def is_given(self, name: str) -> bool:
         """Whether adsplice has the decision file `name`, or is about to be given it."""
-
-
-class Refused(Exception):
-    """A request that is answered by `status` and one line."""
-
-    def __init__(self, status: int, text: str) -> None:
-        super().__init__(text)
-        self.status, self.text = status, text
 
 
 # ---- on disk

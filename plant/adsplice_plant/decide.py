@@ -8,9 +8,8 @@ import time
 from collections.abc import Callable
 from pathlib import Path
 
-from . import answering, decide_check, decide_settings, tracking, web, words
+from . import answering, decide_check, decide_settings, serving, tracking, web, words
 from .ad_store import Bounds, Store
-from .answering import Reply
 from .decide_figures import Figures
 from .decide_ladders import Watch, text_of
 from .decide_settings import Section, Settings
@@ -143,19 +142,19 @@ class Decider:
         for it in self.channels.values():
             it.pool.shutdown(False, cancel_futures=True)
 
-    def decide(self, body: bytes) -> Reply:
+    def decide(self, body: bytes) -> serving.Reply:
         """The answer to the question that the `body` asks."""
         try:
             question = question_of(body)
         except ValueError as fault:
             self.figures.strange += 1
             self.tell("decide", "question", "400", "Wrong", str(fault))
-            return 400, f"{fault}\n".encode("utf-8", "replace"), answering.TEXT
+            return serving.line(400, str(fault))
         channel = self.channels.get(question.channel)
         if channel is None:
             self.figures.strange += 1
             self.tell("decide", "question", "404", "Wrong", f"the settings have no section [{question.channel[:40]}]")
-            return 404, b"there is no such channel\n", answering.TEXT
+            return serving.line(404, "there is no such channel")
         return (*channel.answer(question), answering.JSON)
 
 
@@ -186,14 +185,13 @@ def serve(settings: Settings, listen: str) -> int:
     try:
         decider.begin()
         look_seldom()
-        server = answering.serving(listen, decider.decide, decider.figures.text)
+        server = answering.listening(listen, decider.decide, decider.figures.text)
         try:
             decider.tell("decide", "decide", "-", "-", f"answers questions on {listen} for {', '.join(decider.channels)}")
             while not ending.wait(3600):
                 pass
         finally:
-            server.shutdown()
-            server.server_close()
+            server.close()
     finally:
         decider.end()
     return 0

@@ -1,333 +1,45 @@
-"""A door for decisions at the feed: PUT /decisions/CHANNEL/NAME.json over HTTP, on loopback or a Unix socket.
-
-Python's http.server reads the requests. Their bytes, their time and their number are bounded here: where there is no room for another
-connection, the one goes whose request has been incomplete longest. `admission` says what is done with requests.
-"""
+"""A door for decisions at the feed: PUT and DELETE /decisions/CHANNEL/NAME.json over HTTP, on loopback or a Unix socket. `admission` says what is done with
+requests."""
 from __future__ import annotations
 
-import argparse
-import http.server
-import io
-import ipaddress
-import os
-import socket
-import socketserver
-import stat
-import threading
-import time
 from collections.abc import Mapping
-from contextlib import suppress
-from dataclasses import dataclass
-from enum import IntEnum
-from pathlib import Path
-from typing import Any, TypeVar
 
-from . import words
-from .admission import Admission, Channel, Refused
+from . import serving
+from .admission import Admission, Channel
 from .decisions import MAX_BYTES
-from .words import Fault
+from .serving import Limits, line
 
-MOST = 32  # connections at a time
-MOST_HELD = 64 << 20  # bytes of their bodies together
-SECONDS, HEAD_SECONDS = 10.0, 3.0  # for a request and its answer, and for its head
-GIVES_WAY = 0.5  # seconds in which a connection goes that makes room
-PIECE = 65_536  # bytes of a body that are read at a time
-LINGER = 1.0  # seconds for which the rest of a refused request is read, so that the client gets its answer
-MAX_HEAD = 16_384  # bytes of a request's head
-MODE = 0o660  # of a Unix socket: the feed's user and group
-ALLOWED = "PUT, DELETE"
-Value = TypeVar("Value")
+LIMITS = Limits(connections=32, seconds=10.0, body=MAX_BYTES, held=64 << 20)
 
 
-def address_of(text: str) -> str:
-    """The address `text` of a door: ADDRESS:PORT on loopback, or the path of a Unix socket; raises if it is neither."""
-    if text.startswith("/"):
-        if len(os.fsencode(text)) > 100:
-            raise argparse.ArgumentTypeError(f"{text!r}: the path of a Unix socket has at most 100 bytes")
-        return text
-    host, _, port = text.rpartition(":")
-    try:
-        is_right = ipaddress.ip_address(host.strip("[]")).is_loopback
-    except ValueError:
-        is_right = host == "localhost"
-    if not is_right or not (port.isascii() and port.isdigit() and len(port) <= 5 and int(port) <= 65535):
-        raise argparse.ArgumentTypeError(f"{text!r} isn't an address of loopback with a port, such as 127.0.0.1:9084, nor the path of a Unix socket")
-    return text
+class Handler(serving.Handler):
+    """A request at the door."""
 
-
-class Bounded(io.RawIOBase):
-    """The bytes of the connection `sock` until the moment `until` of the monotonic clock, and at most `left` of them."""
-
-    def __init__(self, sock: socket.socket, until: float, left: int) -> None:
-        self.sock, self.until, self.left = sock, until, left
-
-    def readable(self) -> bool:
-        """It is read."""
-        return True
-
-    def readinto(self, buffer: Any) -> int:
-        """Reads into `buffer`; answers how many bytes, and 0 at the end."""
-        rest = self.until - time.monotonic()
-        if rest <= 0:
-            raise TimeoutError
-        self.sock.settimeout(rest)
-        count = self.sock.recv_into(memoryview(buffer)[: self.left]) if self.left else 0
-        self.left -= count
-        return count
-
-
-class Stage(IntEnum):
-    """How far a connection is, in the order in which it makes room for another one."""
-
-    READ, ENDED, ANSWERED = range(3)  # its request isn't whole; it has its answer; it is being answered
-
-
-@dataclass
-class Seat:
-    """The place of a connection with the socket `sock` since the moment `begun`, how far it is, and the bytes of its body that are `held`."""
-
-    sock: socket.socket
-    begun: float
-    stage: Stage = Stage.READ
-    held: int = 0
-    is_given_up: bool = False
-
-    def give_up(self) -> None:
-        """It makes room for another one."""
-        self.is_given_up = True
-        with suppress(OSError):
-            self.sock.shutdown(socket.SHUT_RDWR)  # (whoever waits for its bytes sees an end)
-
-
-class Seats:
-    """The places of at most MOST connections."""
-
-    def __init__(self) -> None:
-        """Nobody has one."""
-        self.seats: dict[socket.socket, Seat] = {}
-        self.changed = threading.Condition()
-
-    def take(self, sock: socket.socket) -> bool:
-        """Takes a place for the connection `sock`; whether there was one, or one has made room: the oldest whose request isn't whole, or that only ends."""
-        until = time.monotonic() + GIVES_WAY
-        with self.changed:
-            if len(self.seats) >= MOST and (oldest := self.oldest(Stage.ENDED)) is not None:
-                oldest.give_up()
-            while len(self.seats) >= MOST:
-                if (rest := until - time.monotonic()) <= 0 or not any(it.is_given_up for it in self.seats.values()):
-                    return False
-                self.changed.wait(rest)
-            self.seats[sock] = Seat(sock, time.monotonic())
-        return True
-
-    def oldest(self, last: Stage) -> Seat | None:
-        """The first to make room of those that are no further than the stage `last`; none if there is none."""
-        found = sorted((it for it in self.seats.values() if it.stage <= last and not it.is_given_up), key=lambda it: (it.stage, it.begun))
-        return found[0] if found else None
-
-    def leave(self, sock: socket.socket) -> None:
-        """The connection `sock` has gone."""
-        with self.changed:
-            self.seats.pop(sock, None)
-            self.changed.notify_all()
-
-    def hold(self, sock: socket.socket, count: int) -> None:
-        """So many bytes more (`count`) of the body of `sock` are held. If all hold too many, the oldest whose body isn't whole makes room; raises
-        Refused if there is no other one."""
-        with self.changed:
-            own = self.seats[sock]
-            own.held += count
-            while sum(it.held for it in self.seats.values() if not it.is_given_up) > MOST_HELD:
-                oldest = min((it for it in self.seats.values() if it.stage is Stage.READ and it.held and not it.is_given_up), key=lambda it: it.begun, default=own)
-                if oldest is own:
-                    raise Refused(503, "the door holds too many bytes; ask again")
-                oldest.give_up()
-
-    def go_on(self, sock: socket.socket, stage: Stage) -> None:
-        """The connection `sock` has come to a `stage`; raises ConnectionError if it makes room for another one."""
-        with self.changed:
-            self.seats[sock].stage = stage
-            if self.seats[sock].is_given_up:
-                raise ConnectionAbortedError
-
-
-class Handler(http.server.BaseHTTPRequestHandler):
-    """One request of a connection, and its answer, within SECONDS."""
-
-    protocol_version = "HTTP/1.1"
-    default_request_version = "HTTP/1.0"  # (so that what is no request has a status, too)
     server: Server
-    rfile: io.BufferedReader
-
-    def setup(self) -> None:
-        """The connection's bytes are bounded."""
-        super().setup()
-        begun = time.monotonic()
-        self.until = begun + SECONDS
-        self.bounded = Bounded(self.connection, begun + HEAD_SECONDS, MAX_HEAD + MAX_BYTES)
-        self.rfile = io.BufferedReader(self.bounded)
-
-    def handle(self) -> None:
-        """Answers one request."""
-        self.close_connection = True
-        self.handle_one_request()
-        self.server.seats.go_on(self.connection, Stage.ENDED)
-        self.linger()
+    allowed, thing = "PUT, DELETE", "a decision file"
 
     def do_PUT(self) -> None:  # noqa: N802  (the name is http.server's)
         """Answers a PUT."""
-        self.answer(lambda: self.server.admission.put(self.path, self.whole(self.body())))
+        self.answer(lambda: line(*self.server.admission.put(self.path, self.body())))
 
     def do_DELETE(self) -> None:  # noqa: N802
         """Answers a DELETE."""
-        self.answer(lambda: self.server.admission.delete(self.whole(self.path)))
-
-    def whole(self, it: Value) -> Value:
-        """`it`, once the request is whole: no other connection takes its place then."""
-        self.server.seats.go_on(self.connection, Stage.ANSWERED)
-        return it
-
-    def answer(self, act: Any) -> None:
-        """Answers what `act` does, or why it is refused."""
-        self.bounded.until = self.until
-        try:
-            if sum(len(name) + len(value) + 4 for name, value in self.headers.items()) > MAX_HEAD:
-                raise Refused(431, f"a head has at most {MAX_HEAD} bytes")
-            if "Origin" in self.headers:
-                raise Refused(403, "pages in a browser may not decide")
-            self.reply(*act())
-        except Refused as refusal:
-            self.reply(refusal.status, refusal.text)
+        self.answer(lambda: line(*self.server.admission.delete(self.whole(self.path))))
 
     def body(self) -> bytes:
-        """The request's body; raises Refused."""
-        self.server.admission.place(self.path)  # (so that a wrong path is answered before a long body is read)
-        stated: list[str] = self.headers.get_all("Content-Length", [])
-        if "Transfer-Encoding" in self.headers or not stated:
-            raise Refused(411, "a body needs a Content-Length, and no Transfer-Encoding")
-        if len(stated) > 1 or not (stated[0].isascii() and stated[0].isdigit()):
-            raise Refused(400, "Content-Length isn't one number")
-        if len(stated[0]) > 12 or int(stated[0]) > MAX_BYTES:
-            raise Refused(413, f"a decision file has at most {MAX_BYTES} bytes")
-        found, size = bytearray(), int(stated[0])
-        while len(found) < size and (piece := self.rfile.read1(min(PIECE, size - len(found)))):
-            found += piece
-            self.server.seats.hold(self.connection, len(piece))
-        if len(found) < size:
-            raise Refused(400, "the body ended early")
-        return bytes(found)
-
-    def reply(self, status: int, text: str) -> None:
-        """Sends the answer of this `status` with the line `text`."""
-        self.connection.settimeout(max(0.1, self.until - time.monotonic()))
-        data = b"" if status == 204 else f"{text}\n".encode("utf-8", "replace")
-        self.send_response(status)
-        self.send_header("Connection", "close")
-        if status != 204:
-            self.send_header("Content-Type", "text/plain; charset=utf-8")
-            self.send_header("Content-Length", str(len(data)))
-        if status in (405, 501):
-            self.send_header("Allow", ALLOWED)
-        self.end_headers()
-        self.wfile.write(data)
-
-    def send_error(self, code: int, message: str | None = None, explain: str | None = None) -> None:
-        """What http.server refuses by itself is one line, too; a method that there isn't is 405."""
-        self.reply(405 if code == 501 else int(code), words.plain((message or "it isn't a request that the door knows")[:200]))
-
-    def linger(self) -> None:
-        """Reads what is left of a request for a while: a connection that is closed before loses its answer."""
-        try:
-            self.connection.shutdown(socket.SHUT_WR)
-            until = time.monotonic() + LINGER
-            while (rest := until - time.monotonic()) > 0:
-                self.connection.settimeout(rest)
-                if not self.connection.recv(65_536):
-                    return
-        except OSError:
-            return
-
-    def version_string(self) -> str:
-        """What the answers say of their server."""
-        return "adsplice-feed"
-
-    def log_message(self, format: str, *args: Any) -> None:  # noqa: A002
-        """Requests aren't told one by one."""
+        """The request's body; raises Refused. (A wrong path is answered before a long body is read.)"""
+        self.server.admission.place(self.path)
+        return super().body()
 
 
-class Server(socketserver.ThreadingMixIn, socketserver.TCPServer):
-    """The door at `address` for the `admission` of decisions, with a thread for each connection that has a seat."""
-
-    daemon_threads, block_on_close, request_queue_size = True, False, 64
+class Server(serving.Server):
+    """The door at `address` for the `admission` of decisions."""
 
     def __init__(self, address: str, admission: Admission) -> None:
-        self.admission, self.seats = admission, Seats()
-        self.path = Path(address) if address.startswith("/") else None
-        self.allow_reuse_address = self.path is None
-        if self.path is not None:
-            self.address_family = socket.AF_UNIX
-            free(self.path)
-            super().__init__(address, Handler)  # type: ignore[arg-type]
-            self.path.chmod(MODE)
-            return
-        host, _, port = address.rpartition(":")
-        host = "127.0.0.1" if host == "localhost" else host.strip("[]")
-        self.address_family = socket.AF_INET6 if ":" in host else socket.AF_INET
-        super().__init__((host, int(port)), Handler)
-
-    def process_request(self, request: Any, client_address: Any) -> None:
-        """Answers the connection `request` in a thread, or refuses it if there are too many."""
-        if not self.seats.take(request):
-            request.settimeout(0.1)
-            try:
-                request.sendall(b"HTTP/1.1 503 Service Unavailable\r\nConnection: close\r\nContent-Length: 29\r\n\r\ntoo many connections at once\n")
-            finally:
-                self.shutdown_request(request)
-            return
-        try:
-            super().process_request(request, client_address)
-        except RuntimeError:  # (no thread can be started)
-            self.seats.leave(request)
-            self.shutdown_request(request)
-
-    def process_request_thread(self, request: Any, client_address: Any) -> None:
-        """Answers the connection `request`."""
-        try:
-            super().process_request_thread(request, client_address)
-        finally:
-            self.seats.leave(request)
-
-    def handle_error(self, request: Any, client_address: Any) -> None:
-        """A client that went away or was too slow is nobody's trouble but its own."""
+        self.admission = admission
+        super().__init__(address, Handler, "adsplice-feed", LIMITS)
 
 
-def free(path: Path) -> None:
-    """Takes a Unix socket at `path` away that nobody listens on any more; raises Fault if anything else is there."""
-    try:
-        if not stat.S_ISSOCK(path.lstat().st_mode):
-            raise Fault(f"--door {path}: something else is there")
-    except FileNotFoundError:
-        return
-    with socket.socket(socket.AF_UNIX) as it:
-        it.settimeout(1)
-        if it.connect_ex(str(path)) == 0:
-            raise Fault(f"--door {path}: another process listens there")
-    path.unlink(missing_ok=True)
-
-
-class Door:
-    """The door at `address` for the channels `feeds`, open from its begin until it is closed. Raises Fault if it can't be opened."""
-
-    def __init__(self, address: str, feeds: Mapping[str, Channel]) -> None:
-        try:
-            self.server = Server(address, Admission(feeds))
-        except OSError as fault:
-            raise Fault(f"--door {address}: {fault.strerror or fault}") from None
-        threading.Thread(target=self.server.serve_forever, args=(0.2,), daemon=True).start()
-
-    def close(self) -> None:
-        """Takes no more requests, and leaves no socket."""
-        self.server.shutdown()
-        self.server.server_close()
-        if self.server.path is not None:
-            self.server.path.unlink(missing_ok=True)
+def open_door(address: str, feeds: Mapping[str, Channel]) -> Server:
+    """The door at `address` for the channels `feeds`, open until it is closed. Raises Fault if it can't be opened."""
+    return serving.opened("--door", address, lambda: Server(address, Admission(feeds)))

@@ -8,10 +8,11 @@ from pathlib import Path
 from . import check, config_file, status, words
 from . import settings as told
 from .collisions import Claims
-from .door import Door, address_of
+from .door import open_door
 from .fed import Fed, Limits
 from .machines import Machines
 from .sections import Section, difference
+from .serving import address_of
 from .settings import Settings
 from .store_settings import StoreAt
 from .words import Fault
@@ -302,7 +303,7 @@ def main(arguments: list[str]) -> int:
         anew = threading.Event()
         ending = words.ends_by_signals(anew if said.config is not None else None)
         feeds = Feeds(said)
-        door = Door(said.door, feeds.known) if said.door else None
+        door = open_door(said.door, feeds.known) if said.door else None
         feeds.start(units_of(channels), faults)
         if not feeds.sections:
             raise Fault(faults[0][1])

@@ -160,46 +160,46 @@ def test_a_head_has_less_time_than_a_body(room):
 
 @contextlib.contextmanager
 def few_seats():
-    """The module of the door with three seats and 100 bytes, its seats, and the sockets of six connections."""
-    from adsplice_plant import door
-    bounds = door.MOST, door.MOST_HELD, door.GIVES_WAY
+    """The module of servers, three seats for 100 bytes, and the sockets of six connections."""
+    from adsplice_plant import serving
+    gives_way = serving.GIVES_WAY
     pairs = [socket.socketpair() for _ in range(6)]
     try:
-        door.MOST, door.MOST_HELD, door.GIVES_WAY = 3, 100, 0.2
-        yield door, door.Seats(), [here for here, _ in pairs]
+        serving.GIVES_WAY = 0.2
+        yield serving, serving.Seats(serving.Limits(3, 10.0, 100, 100)), [here for here, _ in pairs]
     finally:
-        door.MOST, door.MOST_HELD, door.GIVES_WAY = bounds
+        serving.GIVES_WAY = gives_way
         for one in pairs:
             for end in one:
                 end.close()
 
 
 def test_the_oldest_that_is_not_whole_makes_room(room):
-    with few_seats() as (door, seats, mine):
+    with few_seats() as (serving, seats, mine):
         assert all(seats.take(one) for one in mine[:3])
-        seats.go_on(mine[0], door.Stage.ANSWERED)
+        seats.go_on(mine[0], serving.Stage.ANSWERED)
         leaver = threading.Thread(target=lambda: (mine[1].recv(1), seats.leave(mine[1])))
         leaver.start()
         assert seats.take(mine[3]) and list(seats.seats) == [mine[0], mine[2], mine[3]], "the oldest of those that aren't whole"
         leaver.join()
-        seats.go_on(mine[2], door.Stage.ANSWERED)
-        seats.go_on(mine[3], door.Stage.ANSWERED)
+        seats.go_on(mine[2], serving.Stage.ANSWERED)
+        seats.go_on(mine[3], serving.Stage.ANSWERED)
         assert not seats.take(mine[4]), "those that are being answered stay"
-        seats.go_on(mine[0], door.Stage.ENDED)
+        seats.go_on(mine[0], serving.Stage.ENDED)
         threading.Thread(target=lambda: (mine[0].recv(1), seats.leave(mine[0]))).start()
         assert seats.take(mine[4]) and mine[0] not in seats.seats, "one that has its answer makes room"
 
 
 def test_the_oldest_whose_body_is_not_whole_makes_room_for_bytes(room):
-    with few_seats() as (door, seats, mine):
+    with few_seats() as (serving, seats, mine):
         assert seats.take(mine[0]) and seats.take(mine[1])
         seats.hold(mine[0], 30)
-        seats.go_on(mine[0], door.Stage.ANSWERED)
+        seats.go_on(mine[0], serving.Stage.ANSWERED)
         seats.hold(mine[1], 60)
         try:
             seats.hold(mine[1], 20)
             raise AssertionError("more than 100 bytes")
-        except door.Refused as refusal:
+        except serving.Refused as refusal:
             assert refusal.status == 503
         seats.leave(mine[1])
         assert seats.take(mine[2]) and seats.take(mine[3])
@@ -207,7 +207,7 @@ def test_the_oldest_whose_body_is_not_whole_makes_room_for_bytes(room):
         seats.hold(mine[3], 40)
         assert seats.seats[mine[2]].is_given_up and not seats.seats[mine[3]].is_given_up and not seats.seats[mine[0]].is_given_up
         try:
-            seats.go_on(mine[2], door.Stage.ANSWERED)
+            seats.go_on(mine[2], serving.Stage.ANSWERED)
             raise AssertionError("it made room")
         except ConnectionAbortedError:
             pass
