@@ -505,10 +505,11 @@ class Repairer:
         return max(0, round(self.waited * SECOND) - self.new + it.duration // 2) // it.duration * it.duration
 
     def is_exact(self) -> bool:
-        """Whether the newest segments that were listed begin where those before them end, but for discontinuities, where a packager was away: then one whose instants
-        are others has set its clock."""
+        """Whether the newest segments that were listed begin where those before them end, or later after a discontinuity, as of a packager that was away: then one whose
+        instants are others has set its clock."""
         newest = [*self.past[-MOST_LOOKED_AT:], *self.last][-MOST_LOOKED_AT:]
-        return len(newest) > 2 and all(it.discontinuities > 0 or abs((it.begins or 0) - (before.begins or 0) - before.said - it.gap) <= packaged.NEAR for before, it in zip(newest, newest[1:]))
+        late = [((it.begins or 0) - (before.begins or 0) - before.said - it.gap, it.discontinuities > 0) for before, it in zip(newest, newest[1:])]
+        return len(newest) > 2 and all(abs(by) <= packaged.NEAR or is_away and by > 0 for by, is_away in late)
 
     def set_within(self, last: PackagedSegment, found: PackagedList) -> int:
         """By how much, if by less than a segment, the packager has set its clock between the segment `last` and the list `found`, which doesn't go on; 0 if it hasn't, or

@@ -51,6 +51,8 @@ class World(Protocol):
 
     def taken(self, event: ListRead) -> None: ...
 
+    def untaken(self, event: ListRead) -> None: ...
+
     def kept(self) -> None: ...
 
     def ended(self) -> None: ...
@@ -221,7 +223,8 @@ class Feed:
     def rest(self, kept: State, event: Any) -> None:
         """The log can't be written: all is as it was `kept`, and the event is taken again after a while."""
         self.state, self.rests_until, life = kept, self.world.now + RETRY, self.life
-        self.world.ended()
+        if isinstance(event, ListRead):
+            self.world.untaken(event)
         self.inbox.post_first(event)
         self.world.later(RETRY, lambda: self.go_on() if self.life == life and self.is_up and not self.is_busy else None)
 

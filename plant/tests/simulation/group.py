@@ -114,6 +114,12 @@ class Site:
         self.world.unkept = self.unkept
         self.world.taken(event)
 
+    def untaken(self, event: ListRead) -> None:
+        """As in World, of this machine."""
+        self.world.unkept = self.unkept
+        self.world.untaken(event)
+        self.unkept = self.world.unkept
+
     def kept(self, state: State) -> None:
         """As in World, of this machine."""
         self.world.unkept = self.unkept

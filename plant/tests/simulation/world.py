@@ -288,6 +288,13 @@ class World:
                 known[uri] = self.now
                 self.unkept.append((name, uri))
 
+    def untaken(self, event: ListRead) -> None:
+        """The feed couldn't keep what it made of a list: what it has just read in that is forgotten."""
+        known = self.read[self.renditions[event.channel]]
+        for uri in [uri for uri, at in known.items() if at == self.now]:
+            del known[uri]
+        self.unkept = [(name, uri) for name, uri in self.unkept if uri in self.read[name]]
+
     def kept(self, state: State) -> None:
         """The store has the `state`: what its lists have of what was read so far stays read, whatever happens to the feed."""
         if self.unkept:
