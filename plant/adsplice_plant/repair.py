@@ -474,7 +474,7 @@ class Repairer:
         if abs(by) <= longest or missed > 0 and abs(by - missed) <= longest:
             self.is_guessed = self.is_guessed or self.siblings is not None and missed == 0 and by > packaged.NEAR and self.is_exact()
             return self.clock
-        if 0 < missed <= most and missed < STALE:
+        if 0 < missed <= max(most, self.new) and missed < STALE:
             return self.clock + by - missed
         is_away = 0 < by <= most and (it.discontinuities > 0 or missed != 0)
         return self.clock if is_away else self.clock + by - (self.away(it) if missed else 0)

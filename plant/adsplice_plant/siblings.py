@@ -9,7 +9,7 @@ from .breaks import Numbering
 from .packaged import InitSection, Key, PackagedSegment
 from .urls import joined_or_same
 
-AWAY = 2  # segments by which a packager that was away may have been so longer than it is seen
+AWAY = 3  # segments by which a packager that was away may have been so longer than it is seen
 STALE = 1800 * playlist.SECOND  # after which nothing is taken for what a packager left out
 CLOSE = 3  # segments by which a rendition may be ahead of another one that has its instants
 FAR = 10  # segments after a list's end at which it may come next
