@@ -154,7 +154,7 @@ def first_list(turn: Turn, channel: str) -> bytes:
     """The first list of a channel that was made anew: it begins where its numbers are known that viewers have, and goes on with them."""
     stands, controller = turn.state.renditions[channel].stands, turn.state.renditions[channel].controller
     history = history_of(stands)
-    place = numbers.first_needed(stands.viewed, history, least_of(turn.state.renditions[channel], controller.reached))
+    place = numbers.first_needed(stands.viewed, history, least_of(stands, controller.reached))
     if place is None:
         turn.put_controller(channel, ahead=(0, 0))
         turn.put_standing(channel, viewed=reckoned_anew(turn, stands))
@@ -169,25 +169,23 @@ def first_list(turn: Turn, channel: str) -> bytes:
     return shifted(stands, stands.text, ahead) if is_whole and ahead == (0, 0) else listed_from(stands, turn.state.shifts, place, ahead)
 
 
-def least_of(it: Rendition, reached: int) -> int:
-    """The media number with which a new channel of the rendition begins, of which the one before had `reached` a number: what viewers don't have yet is listed,
-    too, as far as it may be there. (After it left it stays for as long as itself and the longest list that had it: RFC 8216,
-    6.2.2.)"""
-    last = it.stands.repairer.last
-    first, longest = last[0].number, max(len(last), (it.came or b"").count(EXTINF))
+def least_of(stands: Standing, reached: int) -> int:
+    """The media number with which a new channel begins, of which the one before had `reached` a number: what viewers don't have yet is listed, too, as far
+    as it may be there."""
+    first = stands.repairer.last[0].number
     if reached < 0:
         return first
-    number = max(min(first, reached + 1), first - longest - 1)
-    return numbers.run_before(it.stands.viewed, history_of(it.stands), number) if number == reached + 1 else number
+    number = max(min(first, reached + 1), stands.repairer.earliest())
+    return numbers.run_before(stands.viewed, history_of(stands), number) if number == reached + 1 else number
 
 
-def is_bare_since(turn: Turn, it: Rendition, reached: int) -> bool:
+def is_bare_since(turn: Turn, stands: Standing, reached: int) -> bool:
     """Whether viewers have the programme's own segments alone between that of the media number `reached` and the newest list, and no break begins there, nor
     in what a new channel would begin with."""
-    stands, last = it.stands, it.stands.repairer.last
+    last = stands.repairer.last
     if reached < 0 or not last:
         return False
-    since = min(max(reached, last[0].number - len(last)), least_of(it, reached))
+    since = min(max(reached, last[0].number - len(last)), least_of(stands, reached))
     between = [one for one in history_of(stands) if since <= one.number < last[0].number]
     starts = [found[1] for line, _ in stands.viewed.ranges.values() if (found := ranges.start_in(line)) is not None]
     return numbers.is_plain(stands.viewed, [*between, last[0]]) and not any(abs((one.begins or 0) - start) <= turn.state.translator.tolerance for one in between for start in starts)
@@ -396,7 +394,7 @@ def begin_anew(turn: Turn, channel: str, anew: int) -> None:
     now; 0 if it was there, and may have what the log has taken back since."""
     it = turn.state.renditions[channel]
     reached = max(it.controller.took, it.controller.reached)
-    if turn.state.life and it.controller.listed < it.stands.after and not is_bare_since(turn, it, reached):
+    if turn.state.life and it.controller.listed < it.stands.after and not is_bare_since(turn, it.stands, reached):
         reached = -1  # (other machines have shown what it lacks, and the log forgets with what breaks began that aren't listed any more)
     turn.put(channel, controller=Controller(Way.THERE, reached=reached, anew=anew, dropped_at=it.controller.dropped_at), before=None)
     stands = it.stands

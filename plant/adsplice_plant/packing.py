@@ -22,7 +22,7 @@ from .repair import Head, Lead, Repairer
 from .state import Standing
 
 Said = dict[str, Any]
-PLAIN = ("adds", "grows", "owed", "front", "clock", "is_guessed")  # members of a Repairer that JSON takes as they are
+PLAIN = ("adds", "grows", "owed", "front", "longest", "longest_end", "clock", "is_guessed")  # members of a Repairer that JSON takes as they are
 RARE = ("discontinuities", "gap", "gaps", "is_gap", "shift")  # members of a segment that are 0 as a rule
 MEMBERS = attrgetter(*(it.name for it in fields(PackagedSegment) if it.name != "tags"))  # all the others of a segment
 PODS = ("held", "entered")  # members of Pods: ads by the IDs of breaks

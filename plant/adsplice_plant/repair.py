@@ -116,6 +116,7 @@ class Repairer:
         self.owed = 0  # discontinuities that the next new segment has for other renditions
         self.lead: Lead | None = None  # what stays in front of the packager's list, since it began again
         self.front = 0  # segments of the last list that the packager's own hadn't
+        self.longest, self.longest_end = 0, 0  # segments of the longest list of late, and the number of its last one if the last list is shorter
         self.accepted: Accepted | None = None  # the last list, if the next one may go on from its text
         self.stated: dict[str, clocks.Stated] = {}  # what the date ranges of the last list state
         self.clock = 0  # how far the packager's clock is ahead of the programme's at the newest segment
@@ -295,7 +296,19 @@ class Repairer:
         gone = bisect_left(self.last, first, key=lambda it: it.number)
         past = self.past + self.last[:gone] if gone else self.past[:bisect_left(self.past, first, key=lambda it: it.number)]
         self.past = past[-MOST_PAST:]
+        self.note_length(found.segments)
         self.last = found.segments
+
+    def note_length(self, segments: list[PackagedSegment]) -> None:
+        """The next list has the `segments`: is it the longest of late? A longer one counts until what it alone had isn't there any more."""
+        count, end = len(segments), self.longest_end or (self.last[-1].number if self.last else 0)
+        is_longest = count >= self.longest or segments[-1].number > end + 2 * count + 1
+        self.longest, self.longest_end = (count, 0) if is_longest else (self.longest, end)
+
+    def earliest(self) -> int:
+        """The media number of the first segment that may still be there: after it left the list it stays for as long as itself and the longest list that had it
+        (RFC 8216, 6.2.2)."""
+        return self.last[-1].number - len(self.last) - max(self.longest, len(self.last)) - 1
 
     # ---- numbers (RFC 8216, 4.3.3.2, 4.3.3.3, 6.2.1, 6.2.2)
 

@@ -103,5 +103,5 @@ def window_of(stands: Standing) -> set[str]:
     if not stands.repairer.last:
         return set()
     history = history_of(stands)
-    needed = first_needed(stands.viewed, history, stands.repairer.last[0].number - len(stands.repairer.last))
+    needed = first_needed(stands.viewed, history, stands.repairer.earliest())
     return {name for name, (_, number) in stands.viewed.ranges.items() if needed is None or number >= history[needed].number}

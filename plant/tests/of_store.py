@@ -286,6 +286,7 @@ def crowded():
                                          n + 100, 2 * n, 6 * n, 9, 3) for n in (6, 7, 8)]
     repairer = Repairer(Choices(), Siblings([]))
     repairer.head, repairer.past, repairer.last, repairer.adds, repairer.owed, repairer.lead, repairer.front = Head(3, 2, "EVENT"), segments[:1], segments[1:], True, 2, Lead(107, 2, 9), 1
+    repairer.longest, repairer.longest_end = 3, 107
     repairer.grows, repairer.growing, repairer.clock, repairer.is_guessed, repairer.stated = True, segments[0], 7, True, {"b1": Stated(1, 2, 3, 4, 5, 6)}
     reckoned = Reckoned(108, 16, 90, 5, Run("b1", Shape(((7, 8), (9,)), (True, False)), 5), (rules.Break("b1", 1, 2, 3, 4, "0x1", "0x2"),), "b1", True, Sums(7, 8, 9))
     viewed = Viewed(Growing([(107, (90, 5)), (108, (91, 5))]), (91, 5), True, {"b1": ("#EXT-X-DATERANGE:ID=b1", 108)}, reckoned)
