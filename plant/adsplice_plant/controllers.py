@@ -179,18 +179,6 @@ def least_of(stands: Standing, reached: int) -> int:
     return numbers.run_before(stands.viewed, history_of(stands), number) if number == reached + 1 else number
 
 
-def is_bare_since(turn: Turn, stands: Standing, reached: int) -> bool:
-    """Whether viewers have the programme's own segments alone between that of the media number `reached` and the newest list, and no break begins there, nor
-    in what a new channel would begin with."""
-    last = stands.repairer.last
-    if reached < 0 or not last:
-        return False
-    since = min(max(reached, last[0].number - len(last)), least_of(stands, reached))
-    between = [one for one in history_of(stands) if since <= one.number < last[0].number]
-    starts = [found[1] for line, _ in stands.viewed.ranges.values() if (found := ranges.start_in(line)) is not None]
-    return numbers.is_plain(stands.viewed, [*between, last[0]]) and not any(abs((one.begins or 0) - start) <= turn.state.translator.tolerance for one in between for start in starts)
-
-
 def reckoned_anew(turn: Turn, stands: Standing) -> Viewed:
     """What viewers have of a new channel whose first list is that of `stands`, if nothing is known of what they had."""
     viewed, last = Viewed(reckoned=Reckoned(), ranges=dict(stands.viewed.ranges)), stands.repairer.last
@@ -394,8 +382,6 @@ def begin_anew(turn: Turn, channel: str, anew: int) -> None:
     now; 0 if it was there, and may have what the log has taken back since."""
     it = turn.state.renditions[channel]
     reached = max(it.controller.took, it.controller.reached)
-    if turn.state.life and it.controller.listed < it.stands.after and not is_bare_since(turn, it.stands, reached):
-        reached = -1  # (other machines have shown what it lacks, and the log forgets with what breaks began that aren't listed any more)
     turn.put(channel, controller=Controller(Way.THERE, reached=reached, anew=anew, dropped_at=it.controller.dropped_at), before=None)
     stands = it.stands
     if it.is_blocked:

@@ -139,14 +139,6 @@ def run_before(viewed: Viewed, history: list[PackagedSegment], number: int) -> i
     return history[before].number if is_run else number
 
 
-def is_plain(viewed: Viewed, segments: list[PackagedSegment]) -> bool:
-    """Whether viewers have the `segments` one after the other, as they were listed: no pod stands between two of them, or in the place of one before the
-    last."""
-    begins = [viewed.begins.get(it.number) for it in segments]
-    return all(one is not None and later is not None and later == (one[0] + 1, one[1] + other.discontinuity - it.discontinuity) and other.number == it.number + 1
-               for one, later, it, other in zip(begins, begins[1:], segments, segments[1:]))
-
-
 def first_needed(viewed: Viewed, history: list[PackagedSegment], first: int) -> int | None:
     """The place in `history`, the segments that were listed, of the one with which a new channel has to begin so that it writes what
     viewers have from the segment of media number `first` on; none if nothing is known of it."""
