@@ -285,15 +285,15 @@ class Feeding:
         """Takes an `event`, and does what is to be done. If a state can't be kept, raises Unkept: nothing after it is done, and the event is
         taken again."""
         kept, at = self.state, time.monotonic()
-        follows = self.replica is not None and not self.replica.leads
-        self.state, actions = (following.step if follows else self.step)(kept, event, at, time.time_ns())
-        self.due = (following.wake if follows else self.wake)(self.state, at)
+        leads = self.replica is None or bool(self.replica.leads)  # (its member may end that at any moment: what was made as by the leader goes to the store all the same)
+        self.state, actions = (self.step if leads else following.step)(kept, event, at, time.time_ns())
+        self.due = (self.wake if leads else following.wake)(self.state, at)
         for it in actions:
             if not isinstance(it, Keep):
                 self.do(it)
                 continue
             try:
-                self.keep(it.state)
+                self.keep(it.state, leads)
             except Unkept:
                 self.state = kept
                 self.inbox.post_first(event)
@@ -304,9 +304,10 @@ class Feeding:
                 return
             kept = it.state
 
-    def keep(self, it: State) -> None:
-        """Keeps the state `it`: in the store of all machines if this one leads, and here. Raises Unkept, or Outrun if another one leads."""
-        if self.replica is not None and self.replica.leads:
+    def keep(self, it: State, leads: bool) -> None:
+        """Keeps the state `it`: in the store of all machines if it was made as by the one that `leads`, and here. Raises Unkept, or Outrun if another one
+        leads."""
+        if self.replica is not None and leads:
             try:
                 self.replica.write(it)
             except OSError as fault:

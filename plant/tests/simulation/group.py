@@ -191,6 +191,7 @@ class Node(Feed):
         self.stopped_until = 0.0
         self.stops_after: tuple[int, float] | None = None  # actions, after which it is stopped for so many seconds
         self.left: list[Any] = []  # actions that are still to be done
+        self.has_led = False  # whether they are of a step as by the one that leads
 
     def new_replica(self) -> Replica:
         """What it has of the log."""
@@ -363,9 +364,10 @@ class Node(Feed):
         """One step of its role, and what is to be done."""
         self.steps += 1
         before = self.state
-        does = programme.step if self.leads() else following.step
+        self.has_led = self.leads()  # (its member may end that before the step's actions are done)
+        does = programme.step if self.has_led else following.step
         self.state, actions = does(before, event, self.site.now, self.site.clock())
-        if isinstance(event, ListRead) and self.leads():
+        if isinstance(event, ListRead) and self.has_led:
             self.site.taken(event)
         self.kept, self.event = before, event
         self.perform(actions)
@@ -396,7 +398,7 @@ class Node(Feed):
 
     def keep(self, state: State) -> bool:
         """Keeps a state: in the store if it leads, and for itself. Whether it could."""
-        if self.leads():
+        if self.has_led:
             try:
                 self.replica.write(state)
             except Outrun as fault:
