@@ -82,7 +82,8 @@ def adopt(turn: Turn, state: State, is_behind: bool) -> None:
     turn.state, turn.is_kept = new, False
     for channel, it in turn.renditions():
         if not is_behind and it.controller.way is Way.THERE and it.controller.took < 0:
-            controllers.begin_anew(turn, channel, it.controller.anew)
+            anew = new.entry if it.controller.anew and old.is_behind else it.controller.anew  # (while the log had more, it was given nothing)
+            controllers.begin_anew(turn, channel, anew)
     for name, file in new.files.items():
         was = old.files.get(name)
         late = [it for it in file.ids if it in file.late and (was is None or it not in was.late)]
