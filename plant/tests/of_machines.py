@@ -220,3 +220,26 @@ def test_keepalived_sees_whether_nginx_answers(room):
         it.bind(("127.0.0.1", 0))
         it.listen()
         assert subprocess.run([front, str(it.getsockname()[1])], check=False, timeout=5).returncode == 1, "it hangs"
+
+
+def test_what_the_leading_feed_made_goes_to_the_store_though_it_has_lost_the_lead(room):
+    from adsplice_plant.events import Began, Request, Send, Store, What
+    from adsplice_plant.shared_log import Outrun
+    from adsplice_plant.shell import Feeding
+
+    class Losing:  # (its member ends the lead within the step)
+        leads, written = 7, 0
+
+        def write(self, it):
+            self.written += 1
+            raise Outrun("another feed leads it")
+
+    def step(state, event, at, clock):
+        feeding.replica.leads = 0
+        return state, [Store(state), Send("news", Request(What.MAKE))]
+
+    lines, sent = [], []
+    feeding = Feeding([settings_said()], Limits(), lines.append, step=step)
+    feeding.replica, feeding.channels["news"].sending.send = Losing(), sent.append
+    feeding.take(Began())
+    assert feeding.replica.written == 1 and not sent and "Outrun" in lines[-1], (lines, sent)
