@@ -91,15 +91,15 @@ def test_pods_are_kept_for_the_breaks_of_the_window_alone(room):
     ads = json.loads(pod_of(5, "2"))["fallback"]["ads"]
     for name in ("b24", "b90"):
         plant.decide(f"{name}.json", decision(name, ads))
-    for newest in range(5, 48):
+    for newest in range(5, 50):
         plant.seconds = 2.0 * newest
         plant.turn(with_breaks(newest - 5, newest, breaks), {})
         pods = plant.stands.pods
         found[newest] = sorted(pods.entered), sorted(pods.missed), sorted(pods.held)
     assert found[11] == ([], [], ["b24", "b90"]) and found[12] == (["b12"], [], ["b24", "b90"]) == found[16], (found[11], found[12], found[16])
     assert found[23] == (["b12"], [], ["b24", "b90"]), "(b12 was listed last beside segment 21, which is listed still)"
-    assert found[32] == (["b12", "b24"], [], ["b24", "b90"]), "(a new channel's first list may have as many segments before those)"
-    assert found[33] == (["b24"], [], ["b24", "b90"]) and found[45] == ([], [], ["b90"]) == found[47], (found[33], found[45])
+    assert found[34] == (["b12", "b24"], [], ["b24", "b90"]), "(it left the list of 6 with segment 27, and stays for 7 more: RFC 8216, 6.2.2)"
+    assert found[35] == (["b24"], [], ["b24", "b90"]) and found[47] == ([], [], ["b90"]) == found[49], (found[35], found[47])
     assert [it.ids for it in plant.state.decisions] == [(), ("b90",)], plant.state.decisions
 
 
