@@ -554,11 +554,12 @@ class Repairer:
         last, newest = self.last[-1], segments[-1]
         end = (last.begins or 0) + last.duration
         until = first.stated + lasting(segments) - self.clock
-        if by := self.set_within(last, found):
+        has_one_clock = newest.stated is not None and abs(newest.stated + newest.duration - first.stated - lasting(segments)) <= packaged.NEAR
+        if has_one_clock and (by := self.set_within(last, found)):
             return self.clock + by
         theirs = self.siblings.clock_at(newest.stated, end) if self.siblings is not None and newest.stated is not None else None
-        if theirs is not None and abs((newest.stated or 0) + newest.duration - first.stated - lasting(segments)) <= packaged.NEAR:
-            return theirs  # (it has one clock throughout)
+        if theirs is not None and has_one_clock:
+            return theirs
         if first.own > last.own and self.is_counted(last, segments):
             return self.clock_at(first.stated, last, first)
         seen, begins = self.clock_seen(segments), first.stated - self.clock
