@@ -1,21 +1,21 @@
 //! The clients by place: who is there, in which order they came, and what is told of one that goes.
 #![tactic(auto, using(connections::proofs::Calling::line_stays, connections::proofs::Calling::line_goes_by_one))]
 
-ghost use Rattle.std.specs.Prelude.{◌≡◌, ◌≢◌, ◌-◌, ◌<◌, [], filter, length, replicate, None, true, IfOk, IfSome, OnOk, OnErr};
+ghost use Rattle.std.specs.Prelude.{◌≡◌, ◌≢◌, ◌-◌, ◌<◌, ◌∷◌, ◌++◌, [], filter, length, replicate, None, Some, true, false, IfOk, IfSome, OnOk, OnErr};
 ghost use Rattle.std.specs.Option.{option_map};
 ghost use Rattle.adsplice.specs.Clients.{fault_of_leaver, is_granted};
 ghost use Rattle.adsplice.specs.Inner.Leaving.{not_served};
-ghost use Rattle.adsplice.specs.Inner.Serving.{HadTurn, HasLeft, IsWatched, MayLeave, OthersStay, client_at, is_over};
+ghost use Rattle.adsplice.specs.Inner.Serving.{HadPartRead, HadTurn, HasLeft, IsNotedBefore, IsWatched, MayLeave, OthersStay, client_at, is_over};
 ghost use Rattle.connections.specs.Arrivals.{asks, first_that, gives_place, gives_room, gives_text, is_elsewhere, is_overdue};
 ghost use Rattle.connections.specs.Limits.{place_count};
 ghost use Rattle.connections.specs.Inner.Going.{LineGoesOn};
 ghost use Rattle.connections.specs.Lines.{LineIsCalled, after, calls, is_in_line, joins, leaves, new_line, next, place_of};
 ghost use Rattle.connections.specs.Runs.{HasRun};
-ghost use Rattle.connections.specs.Table.{at};
+ghost use Rattle.connections.specs.Table.{at, left_of};
 
 use connections::{
-    Arrivals, Call, Client, Connections, Incoming, Line, Outgoing, PLACES, Phase, Seat, Socket,
-    Turn, quiet_deadline,
+    Arrivals, Call, Client, Connections, Incoming, Line, Outgoing, PLACES, Part, Phase, Seat,
+    Socket, Turn, quiet_deadline,
 };
 use http_edge::EdgeFault;
 use mio::Registry;
@@ -267,6 +267,11 @@ impl Clients {
         ensures turn { HadTurn ⟦<Socket as Incoming>⟧.stand ⟦<Socket as Outgoing>⟧.stand (length block.old)
             call.now (client_at self.old.at call.now) self.old.at self.new.at
             connections.old connections.new result.turn }
+        ensures before { IfSome result.turn (λ _. IsNotedBefore
+            (client_at self.old.at call.now) (at connections.old call.now)
+            result.was_ending result.was_asking result.was_left) }
+        ensures done { result.turn ≡ Some Turn.Done → result.was_ending ≡ false →
+            left_of (at connections.new call.now) ≡ [] }
         ensures others { OthersStay call.now connections.old connections.new }
         ensures rest { self.new ≡ record self.old { at = self.new.at } }
         ensures run { HasRun connections.old connections.new }
@@ -301,6 +306,35 @@ impl Clients {
         }
     }
 
+    /// Reads `part` of its request once from the client that sends it, if one is there, into `connections`. `block` is room for a
+    /// read.
+    pub(crate) fn hear_part(
+        &mut self,
+        part: &Part,
+        connections: &mut Connections,
+        block: &mut [u8],
+    ) -> Option<Turn>
+        requires { 0 < length block.old }
+        ensures heard { HadPartRead ⟦<Socket as Incoming>⟧.stand part.now.place
+            (client_at self.old.at part.now.place) self.old.at self.new.at
+            connections.old connections.new result }
+        ensures done { result ≡ Some Turn.Done → ⊥ }
+        ensures rest { self.new ≡ record self.old { at = self.new.at } }
+        ensures run { HasRun connections.old connections.new }
+    {
+        let place = part.place();
+        let Some(seat) = self.at.get_mut(place) else {
+            return None;
+        };
+        let Some(client) = seat else {
+            return None;
+        };
+        if client.place() != place {
+            return None;
+        }
+        Some(client.hear_part(part, connections, block))
+    }
+
     /// Calls the one whose turn it is of those that stand in line, and gives it its turn over `connections`, with `block`, as
     /// `give_turn` does. `None` if nobody stands there.
     pub(crate) fn call_next(
@@ -316,6 +350,9 @@ impl Clients {
             HadTurn ⟦<Socket as Incoming>⟧.stand ⟦<Socket as Outgoing>⟧.stand (length block.old)
             turned.place (client_at self.old.at turned.place) self.old.at self.new.at
             connections.old connections.new turned.turn) }
+        ensures done { IfSome result (λ turned.
+            turned.turn ≡ Some Turn.Done → turned.was_ending ≡ false →
+            left_of (at connections.new turned.place) ≡ []) }
         ensures others { IfSome result (λ turned.
             OthersStay turned.place connections.old connections.new) }
         ensures rest { IfSome result (λ turned.
@@ -337,13 +374,16 @@ impl Clients {
     }
 
     /// The client at `place`, from 0, has a reply, or took bytes of it, at the instant `now`: of all that are answered it is the
-    /// last to be given up for memory.
-    pub(crate) fn note_took(&mut self, place: usize, now: Instant)
-        ensures { self.new ≡ record self.old { took = self.new.took } }
+    /// last to be given up for memory. Fails only if an allocation fails.
+    pub(crate) fn note_took(&mut self, place: usize, now: Instant) -> Result<(), AllocError>
+        ensures ok { OnOk result (self.new.took ≡ filter (is_elsewhere place) self.old.took
+            ++ record { place = place; until = now } ∷ []) }
+        ensures err { OnErr result (self.new.took
+            ≡ filter (is_elsewhere place) self.old.took) }
+        ensures rest { self.new ≡ record self.old { took = self.new.took } }
     {
         self.took.remove(place);
-        // (its memory was taken before)
-        let _ = self.took.push(place, now);
+        self.took.push(place, now)
     }
 }
 

@@ -2,7 +2,7 @@
 #![tactic(auto, using(connections::proofs::Leading::stays, connections::proofs::Leading::by_one, connections::proofs::Leading::and_then, connections::proofs::Calling::line_stays, connections::proofs::Calling::line_goes_on, connections::proofs::Calling::goes_on_after_call, connections::proofs::Calling::is_called_after, connections::proofs::Calling::called_again))]
 
 ghost use Rattle.std.specs.Prelude.{◌≡◌, ◌<◌, ◌⊎◌, length};
-ghost use Rattle.adsplice.specs.Inner.Serving.{IsClosed, LineIsServed, NextIsServed, is_last_call};
+ghost use Rattle.adsplice.specs.Inner.Serving.{IsClosed, IsHeard, LineIsServed, NextIsServed, is_last_call};
 ghost use Rattle.connections.specs.Clients.{IfInLine};
 ghost use Rattle.connections.specs.Inner.Going.{LineGoesOn};
 ghost use Rattle.connections.specs.Lines.{LineIsCalled, after, joins, next, place_of};
@@ -194,17 +194,15 @@ impl Server {
         block: &mut [u8],
     ) -> bool
         requires { 0 < length block.old }
+        ensures heard { IsHeard ⟦<Socket as Incoming>⟧.stand part.now.place
+            self.old self.new connections.old connections.new result }
         ensures run { HasRun connections.old connections.new }
         ensures line { LineGoesOn self.old.line self.new.line }
     {
         let place = part.place();
-        let Some(Some(client)) = self.clients.at.get_mut(place) else {
+        let Some(turn) = self.clients.hear_part(part, connections, block) else {
             return false;
         };
-        if client.place() != place {
-            return false;
-        }
-        let turn = client.hear_part(part, connections, block);
         if turn == Turn::Goes {
             self.clients.note_heard(place, self.opened.now);
             return true;

@@ -1,10 +1,13 @@
 //! What becomes of a client after its turn: it is watched, its end is awaited, or its connection is closed.
 #![tactic(auto, using(connections::proofs::Leading::stays, connections::proofs::Leading::by_one, connections::proofs::Leading::and_then, connections::proofs::Calling::line_stays, connections::proofs::Calling::line_goes_on))]
 
-ghost use Rattle.std.specs.Prelude.{◌≡◌, true, false, Some};
-ghost use Rattle.adsplice.specs.Inner.Serving.{ComesLast, FollowsTurn, IsClosed, IsSettled, client_at, is_awaited, is_over};
+ghost use Rattle.std.specs.Prelude.{◌≡◌, [], true, false, None, Some};
+ghost use Rattle.std.specs.declared.time.Instant.{Instant as Time};
+ghost use Rattle.adsplice.specs.Clients.{has_its_wish};
+ghost use Rattle.adsplice.specs.Inner.Serving.{ComesLast, FollowsTurn, IsClosed, IsNotedLast, IsSettled, client_at, has_taken, is_awaited, is_over};
 ghost use Rattle.connections.specs.Inner.Going.{LineGoesOn};
 ghost use Rattle.connections.specs.Runs.{HasRun};
+ghost use Rattle.connections.specs.Table.{at, left_of};
 
 use crate::clients::{Turned, fault_at_socket, was_socket_granted};
 use crate::server::Server;
@@ -42,6 +45,7 @@ impl Server {
 
     // Ends a connection whose reply is gone, or that is given up: what its client still sends is awaited for a while.
     fn finish(&mut self, connections: &mut Connections, place: usize, was_granted: bool)
+        requires { was_granted ≡ true → has_its_wish (at connections.old place) ≡ true }
         ensures over { is_over (client_at self.new.at place) ≡ true }
         ensures settled { IsSettled place self.old self.new connections.old connections.new }
         ensures run { HasRun connections.old connections.new }
@@ -77,8 +81,9 @@ impl Server {
         ensures run { HasRun connections.old connections.new }
         ensures line { LineGoesOn self.old.line self.new.line }
     {
+        let was_granted = false;
         self.tell_given_up(rt, connections, place);
-        self.finish(connections, place, false);
+        self.finish(connections, place, was_granted);
     }
 
     /// Gives up the client at `place` of `connections`, whose place or file another one needs, and tells its fault by `rt`.
@@ -100,7 +105,13 @@ impl Server {
         turn: Turn,
         was_ending: bool,
     )
+        requires { turn ≡ Turn.Done → was_ending ≡ false →
+            left_of (at connections.old place) ≡ [] }
         ensures follows { FollowsTurn (Some turn) (client_at self.new.at place) }
+        ensures ended { turn ≡ Turn.Done → was_ending ≡ true →
+            IsClosed place self.old self.new connections.old connections.new }
+        ensures full { turn ≡ Turn.Full →
+            ComesLast place self.old.short self.new.short self.new.at }
         ensures settled { IsSettled place self.old self.new connections.old connections.new }
         ensures run { HasRun connections.old connections.new }
         ensures line { LineGoesOn self.old.line self.new.line }
@@ -189,11 +200,16 @@ impl Server {
     // Notes that the reply to the client at a place is another one, or has another rest, than before its turn: then `was_left`
     // bytes were left.
     fn note_reply(&mut self, connections: &Connections, place: usize, was_left: usize)
-        ensures { self.new ≡ record self.old { took = self.new.took } }
+        ensures took { has_taken was_left (at connections.now place) ≡ true →
+            (then : Time) × IsNotedLast place then self.old.took self.new.took }
+        ensures waits { has_taken was_left (at connections.now place) ≡ false →
+            self.new ≡ self.old }
+        ensures rest { self.new ≡ record self.old { took = self.new.took } }
     {
         let left = connections.left_at(place);
         if left > 0 && left != was_left {
-            self.clients.note_took(place, self.opened.now);
+            // (its memory was taken before: what isn't noted isn't given up for others)
+            let _ = self.clients.note_took(place, self.opened.now);
         }
     }
 
@@ -204,6 +220,8 @@ impl Server {
         connections: &mut Connections,
         turned: &Turned,
     )
+        requires { turned.now.turn ≡ Some Turn.Done → turned.now.was_ending ≡ false →
+            left_of (at connections.old turned.now.place) ≡ [] }
         ensures follows { FollowsTurn turned.now.turn (client_at self.new.at turned.now.place) }
         ensures settled { IsSettled turned.now.place self.old self.new connections.old connections.new }
         ensures run { HasRun connections.old connections.new }

@@ -1,15 +1,19 @@
 -- Who has its turn, and what becomes of it then.
-use Rattle.std.specs.Prelude.{◌≡◌, ◌≢◌, ◌⊎◌, ◌+◌, ◌<◌, ℕ, zero, suc, Bool, true, false, not, ◌||◌, List, [], ◌∷◌, ◌++◌, Option, Some, None, filter, slice_index_or, slice_set}
+use Rattle.std.specs.Prelude.{◌≡◌, ◌≢◌, ◌⊎◌, ◌+◌, ◌<◌, ◌==◌, ◌&&◌, ℕ, zero, suc, nat_lt, Bool, true, false, not, ◌||◌, List, [], ◌∷◌, ◌++◌, length, Option, Some, None, filter, slice_index_or, slice_set}
 use Rattle.std.specs.declared.time.Instant.{Instant}
 use Rattle.connections.specs.declared.arrivals.Arrival.{Arrival}
+use Rattle.connections.specs.declared.conversation.Conversation.{Conversation}
 use Rattle.connections.specs.declared.turns.Turn.{Turn}
 use Rattle.connections.specs.declared.turns.Turn.TheVariants.{Waits, Goes, Full, Done, Failed}
+use Rattle.connections.specs.declared.devices.Passage.TheVariants.{WouldWait}
 use Rattle.connections.specs.Arrivals.{is_asking, is_elsewhere}
 use Rattle.connections.specs.Clients.{ClientAt, TurnComesTo}
 use Rattle.connections.specs.Devices.{DeviceStand}
 use Rattle.connections.specs.Limits.{most_held}
 use Rattle.connections.specs.Lines.{LineState, LineEvent, joins, leaves, calls, after, line_after, next, place_of}
-use Rattle.connections.specs.Table.{State, at, held_in}
+use Rattle.connections.specs.Table.{State, at, held_in, left_of}
+use Rattle.connections.specs.Turns.{IfGone}
+use Rattle.connections.specs.Wires.{HasHeard, GoesHeard}
 use Rattle.adsplice.specs.Clients.{ClientsState}
 use Rattle.adsplice.specs.Inner.Leaving.{not_served}
 
@@ -36,6 +40,24 @@ module _ {X : Type 0} (incoming outgoing : X → DeviceStand) (room place : ℕ)
   abbrev pub HadTurn : Option (ClientAt X) → List (Option (ClientAt X)) → List (Option (ClientAt X)) → State → State → Option Turn → Type 0
   HadTurn None clients later old new turn = (later ≡ clients) × (new ≡ old) × (turn ≡ None)
   HadTurn (Some client) clients later old new turn = client.place ≡ place → (its : Turn) × (turn ≡ Some its) × HasTurn client clients later old new its
+
+-- ---- a part of a request
+
+module _ {X : Type 0} (incoming : X → DeviceStand) (place : ℕ) where
+  -- of this client a part of its request was read, once. What it said is what its device gave; if it goes, that read is why
+  pub record ReadsPart (client : ClientAt X) (clients later : List (Option (ClientAt X))) (old new : State) (turn : Turn) : Type 0 where
+    pub device : X
+    pub stands : later ≡ slice_set clients place (Some (record client { device = device }))
+    pub heard : turn ≡ Goes → HasHeard (incoming client.device) (incoming device) place old new
+    pub waits : turn ≡ Waits → (incoming device).calls.last ≡ Some WouldWait
+    pub stays : (turn ≡ Waits) ⊎ (turn ≡ Full) → new ≡ old
+    pub gone : IfGone turn (λ fault. GoesHeard fault (incoming client.device) (incoming device) (at old place))
+    pub done : turn ≡ Done → ⊥
+
+  -- who is there had a part read, at its own place; if nobody is, nothing happens
+  abbrev pub HadPartRead : Option (ClientAt X) → List (Option (ClientAt X)) → List (Option (ClientAt X)) → State → State → Option Turn → Type 0
+  HadPartRead None clients later old new turn = (later ≡ clients) × (new ≡ old) × (turn ≡ None)
+  HadPartRead (Some client) clients later old new turn = client.place ≡ place → (its : Turn) × (turn ≡ Some its) × ReadsPart client clients later old new its
 
 -- ---- what becomes of a client after its turn
 
@@ -104,12 +126,37 @@ pub record ComesLast {X : Type 0} (place : ℕ) (before now : List Arrival) (lat
   pub until : Instant
   pub last : (now ≡ filter (is_elsewhere place) before ++ record { place = place; until = until } ∷ []) ⊎ (client_at later place ≡ None)
 
+-- with this instant it comes last in a list, in which it stands once; or there is no memory for that, and it isn't in the list
+abbrev pub IsNotedLast : ℕ → Instant → List Arrival → List Arrival → Type 0
+IsNotedLast place until before now = (now ≡ filter (is_elsewhere place) before ++ record { place = place; until = until } ∷ []) ⊎ (now ≡ filter (is_elsewhere place) before)
+
+-- a reply is on its way to it, and not with so many bytes left as before its turn: it took some of them, or is answered since
+abbrev pub has_taken : ℕ → Option Conversation → Bool
+has_taken was_left it = nat_lt 0 (length (left_of it)) && not (length (left_of it) == was_left)
+
+-- what is noted of a client is what it was at before its turn
+pub record IsNotedBefore {X : Type 0} (client : Option (ClientAt X)) (it : Option Conversation) (was_ending was_asking : Bool) (was_left : ℕ) : Type 0 where
+  pub ending : was_ending ≡ is_over client
+  pub asking : was_asking ≡ is_asking it
+  pub rest : was_left ≡ length (left_of it)
+
 -- it stays as its turn left it, and so does its connection; or that is over
 pub record IsSettled {X : Type 0} (place : ℕ) (clients later : ClientsState X) (old new : State) : Type 0 where
   pub line : LeavesLine place clients.line later.line
   pub leaves : MayLeave place old new
   pub here : (IsThere (client_at clients.at place) (client_at later.at place) × (new ≡ old))
       ⊎ ((is_over (client_at later.at place) ≡ true) × HasLeft (client_at clients.at place) place new)
+
+module _ {X : Type 0} (incoming : X → DeviceStand) where
+  -- a part of its request is read. It is heard on at once only if that gave bytes; else it is settled by what the read came to
+  pub record IsHeard (place : ℕ) (clients later : ClientsState X) (old new : State) (goes_on : Bool) : Type 0 where
+    pub called : List (Option (ClientAt X))
+    pub state : State
+    pub turn : Option Turn
+    pub had : HadPartRead incoming place (client_at clients.at place) clients.at called old state turn
+    pub gave : goes_on ≡ true → (turn ≡ Some Goes) × (later.at ≡ called) × (new ≡ state)
+    pub settled : goes_on ≡ false → IsSettled place (record clients { at = called }) later state new × FollowsTurn turn (client_at later.at place)
+    pub full : goes_on ≡ false → turn ≡ Some Full → ComesLast place clients.short later.short later.at
 
 -- ---- calls
 
