@@ -5,9 +5,9 @@ ghost use Rattle.std.specs.Prelude.{◌≡◌, ◌≢◌, ◌-◌, ◌<◌, ◌�
 ghost use Rattle.std.specs.Option.{option_map};
 ghost use Rattle.adsplice.specs.Clients.{fault_of_leaver, is_granted};
 ghost use Rattle.adsplice.specs.Inner.Leaving.{not_served};
-ghost use Rattle.adsplice.specs.Inner.Serving.{HadPartRead, HadTurn, HasLeft, IsNotedBefore, IsWatched, MayLeave, OthersStay, client_at, is_over};
+ghost use Rattle.adsplice.specs.Inner.Serving.{HadPartRead, HadTurn, HasLeft, IsLastFor, IsNotedBefore, IsWatched, MayLeave, OthersStay, client_at, is_over};
 ghost use Rattle.connections.specs.Arrivals.{asks, first_that, gives_place, gives_room, gives_text, is_elsewhere, is_overdue};
-ghost use Rattle.connections.specs.Limits.{place_count};
+ghost use Rattle.connections.specs.Limits.{ending_nanos, place_count, quiet_nanos, serving_nanos};
 ghost use Rattle.connections.specs.Inner.Going.{LineGoesOn};
 ghost use Rattle.connections.specs.Lines.{LineIsCalled, after, calls, is_in_line, joins, leaves, new_line, next, place_of};
 ghost use Rattle.connections.specs.Runs.{HasRun};
@@ -15,7 +15,7 @@ ghost use Rattle.connections.specs.Table.{at, left_of};
 
 use connections::{
     Arrivals, Call, Client, Connections, Incoming, Line, Outgoing, PLACES, Part, Phase, Seat,
-    Socket, Turn, quiet_deadline,
+    Socket, Turn, ending_deadline, quiet_deadline, serving_deadline,
 };
 use http_edge::EdgeFault;
 use mio::Registry;
@@ -364,13 +364,36 @@ impl Clients {
         Some(self.give_turn(&call, connections, block))
     }
 
-    /// Something came of the client at `place`, from 0, at the instant `now`: for a while it isn't quiet.
-    pub(crate) fn note_heard(&mut self, place: usize, now: Instant)
-        ensures { self.new ≡ record self.old { heard = self.new.heard } }
+    /// From the instant `now` on the client at `place`, from 0, has its time to ask, or to take its reply. Fails only if an allocation
+    /// fails.
+    pub(crate) fn give_time(&mut self, place: usize, now: Instant) -> Result<(), AllocError>
+        ensures ok { OnOk result (IsLastFor serving_nanos now place self.old.served self.new.served) }
+        ensures err { OnErr result (self.new.served
+            ≡ filter (is_elsewhere place) self.old.served) }
+        ensures rest { self.new ≡ record self.old { served = self.new.served } }
     {
-        self.heard.remove(place);
-        // (its memory was taken before: what isn't noted isn't given up for others)
-        let _ = self.heard.push(place, quiet_deadline(now));
+        client_comes_last(&mut self.served, place, serving_deadline(now))
+    }
+
+    /// From the instant `now` on the client at `place`, from 0, has its time to end. Fails only if an allocation fails.
+    pub(crate) fn await_end(&mut self, place: usize, now: Instant) -> Result<(), AllocError>
+        ensures ok { OnOk result (IsLastFor ending_nanos now place self.old.ending self.new.ending) }
+        ensures err { OnErr result (self.new.ending
+            ≡ filter (is_elsewhere place) self.old.ending) }
+        ensures rest { self.new ≡ record self.old { ending = self.new.ending } }
+    {
+        client_comes_last(&mut self.ending, place, ending_deadline(now))
+    }
+
+    /// Something came of the client at `place`, from 0, at the instant `now`: for a while it isn't quiet. Fails only if an
+    /// allocation fails.
+    pub(crate) fn note_heard(&mut self, place: usize, now: Instant) -> Result<(), AllocError>
+        ensures ok { OnOk result (IsLastFor quiet_nanos now place self.old.heard self.new.heard) }
+        ensures err { OnErr result (self.new.heard
+            ≡ filter (is_elsewhere place) self.old.heard) }
+        ensures rest { self.new ≡ record self.old { heard = self.new.heard } }
+    {
+        client_comes_last(&mut self.heard, place, quiet_deadline(now))
     }
 
     /// The client at `place`, from 0, has a reply, or took bytes of it, at the instant `now`: of all that are answered it is the
@@ -382,9 +405,22 @@ impl Clients {
             ≡ filter (is_elsewhere place) self.old.took) }
         ensures rest { self.new ≡ record self.old { took = self.new.took } }
     {
-        self.took.remove(place);
-        self.took.push(place, now)
+        client_comes_last(&mut self.took, place, now)
     }
+}
+
+// The client at `place` comes last of `arrivals`, and stands there once, with the instant `until`.
+fn client_comes_last(
+    arrivals: &mut Arrivals,
+    place: usize,
+    until: Instant,
+) -> Result<(), AllocError>
+    ensures ok { OnOk result (arrivals.new ≡ filter (is_elsewhere place) arrivals.old
+        ++ record { place = place; until = until } ∷ []) }
+    ensures err { OnErr result (arrivals.new ≡ filter (is_elsewhere place) arrivals.old) }
+{
+    arrivals.remove(place);
+    arrivals.push(place, until)
 }
 
 // The client at `place` doesn't stand in `line` any more.

@@ -1,12 +1,15 @@
 //! Whose turn it is of all clients, who is let in, and whose time is up.
 #![tactic(auto, using(connections::proofs::Leading::stays, connections::proofs::Leading::by_one, connections::proofs::Leading::and_then, connections::proofs::Calling::line_stays, connections::proofs::Calling::line_goes_on, connections::proofs::Calling::goes_on_after_call, connections::proofs::Calling::is_called_after, connections::proofs::Calling::called_again))]
 
-ghost use Rattle.std.specs.Prelude.{◌≡◌, ◌<◌, ◌⊎◌, length};
-ghost use Rattle.adsplice.specs.Inner.Serving.{IsClosed, IsHeard, LineIsServed, NextIsServed, is_last_call};
-ghost use Rattle.connections.specs.Clients.{IfInLine};
+ghost use Rattle.std.specs.Prelude.{◌≡◌, ◌<◌, ◌⊎◌, List, length, true, false, IfSome};
+ghost use Rattle.adsplice.specs.Inner.Serving.{ComesLast, GivesSeat, IsClosed, IsHeard, LineIsServed, LongestGoes, NextIsServed, client_at, is_awaited, is_full, is_last_call, is_over};
+ghost use Rattle.connections.specs.declared.arrivals.Arrival.{Arrival};
+ghost use Rattle.connections.specs.Arrivals.{is_asking};
+ghost use Rattle.connections.specs.Clients.{IfInLine, IfLookFailed};
 ghost use Rattle.connections.specs.Inner.Going.{LineGoesOn};
 ghost use Rattle.connections.specs.Lines.{LineIsCalled, after, joins, next, place_of};
 ghost use Rattle.connections.specs.Runs.{HasRun};
+ghost use Rattle.connections.specs.Table.{at};
 
 use crate::clients::Clients;
 use crate::door::{Door, Opened};
@@ -204,7 +207,8 @@ impl Server {
             return false;
         };
         if turn == Turn::Goes {
-            self.clients.note_heard(place, self.opened.now);
+            // (its memory was taken before: what isn't noted isn't given up for others)
+            let _ = self.clients.note_heard(place, self.opened.now);
             return true;
         }
         self.settle(rt, connections, place, turn, false);
@@ -224,6 +228,9 @@ impl Server {
         ensures in_line { IfInLine when (λ channel.
             (self.new.line ≡ after (joins place channel) self.old.line)
             ⊎ IsClosed place self.old self.new connections.old connections.new) }
+        ensures not_yet { when ≡ When.NotYet → is_awaited (client_at self.new.at place) ≡ true }
+        ensures failed { IfLookFailed when (λ fault.
+            is_over (client_at self.new.at place) ≡ true) }
         ensures run { HasRun connections.old connections.new }
         ensures line { LineGoesOn self.old.line self.new.line }
     {
@@ -382,6 +389,7 @@ impl Server {
 
     // Somebody waits to be let in. If no file was left for it, the client that has asked longest is disconnected.
     fn on_somebody(&mut self, rt: &HostRuntime, connections: &mut Connections)
+        ensures longest { LongestGoes self.old self.new connections.old connections.new }
         ensures run { HasRun connections.old connections.new }
         ensures line { LineGoesOn self.old.line self.new.line }
     {
@@ -400,7 +408,9 @@ impl Server {
 
     // Whether nobody can be let in before a client has had its turn: no place is vacant, and the client that has asked
     // longest stands in line.
-    fn is_full(&self, connections: &Connections) -> bool {
+    fn is_full(&self, connections: &Connections) -> bool
+        ensures { result ≡ is_full connections.now self.now }
+    {
         if !self.clients.vacant.is_empty() {
             return false;
         }
@@ -416,6 +426,7 @@ impl Server {
         rt: &HostRuntime,
         connections: &mut Connections,
     ) -> Option<Seat<Socket>>
+        ensures gives { GivesSeat self.old self.new connections.old connections.new }
         ensures run { HasRun connections.old connections.new }
         ensures line { LineGoesOn self.old.line self.new.line }
     {
@@ -432,6 +443,8 @@ impl Server {
         connections: &mut Connections,
         stream: TcpStream,
     ) -> Option<usize>
+        ensures time { IfSome result (λ place. (before : List Arrival)
+            × ComesLast place before self.new.served self.new.at) }
         ensures run { HasRun connections.old connections.new }
         ensures line { LineGoesOn self.old.line self.new.line }
     {
@@ -524,6 +537,9 @@ impl Server {
         block: &mut [u8],
     )
         requires { 0 < length block.old }
+        ensures answered { IfSome (client_at self.old.at place) (λ client.
+            is_asking (at connections.old client.place) ≡ false →
+            is_over (client_at self.new.at place) ≡ true) }
         ensures run { HasRun connections.old connections.new }
         ensures line { LineGoesOn self.old.line self.new.line }
     {

@@ -1,17 +1,18 @@
 //! What becomes of a client after its turn: it is watched, its end is awaited, or its connection is closed.
 #![tactic(auto, using(connections::proofs::Leading::stays, connections::proofs::Leading::by_one, connections::proofs::Leading::and_then, connections::proofs::Calling::line_stays, connections::proofs::Calling::line_goes_on))]
 
-ghost use Rattle.std.specs.Prelude.{◌≡◌, [], true, false, None, Some};
+ghost use Rattle.std.specs.Prelude.{◌≡◌, [], true, false, Some};
 ghost use Rattle.std.specs.declared.time.Instant.{Instant as Time};
 ghost use Rattle.adsplice.specs.Clients.{has_its_wish};
 ghost use Rattle.adsplice.specs.Inner.Serving.{ComesLast, FollowsTurn, IsClosed, IsNotedLast, IsSettled, client_at, has_taken, is_awaited, is_over};
+ghost use Rattle.connections.specs.Arrivals.{is_answered};
 ghost use Rattle.connections.specs.Inner.Going.{LineGoesOn};
 ghost use Rattle.connections.specs.Runs.{HasRun};
 ghost use Rattle.connections.specs.Table.{at, left_of};
 
 use crate::clients::{Turned, fault_at_socket, was_socket_granted};
 use crate::server::Server;
-use connections::{Connections, Phase, Turn, ending_deadline, serving_deadline};
+use connections::{Connections, Turn};
 use http_edge::EdgeFault;
 
 impl Server {
@@ -54,11 +55,7 @@ impl Server {
         self.clients.leave(connections, place);
         self.clients.stop_serving(place);
         let turn = self.clients.end(place, was_granted);
-        let is_late = self
-            .clients
-            .ending
-            .push(place, ending_deadline(self.opened.now))
-            .is_err();
+        let is_late = self.clients.await_end(place, self.opened.now).is_err();
         match turn {
             Turn::Waits if !is_late => self.watch(connections, place, false),
             Turn::Goes if !is_late => self.watch(connections, place, true),
@@ -78,6 +75,7 @@ impl Server {
     /// Gives up the client at `place` of `connections`, and tells its fault by `rt`.
     pub(crate) fn give_up(&mut self, rt: &HostRuntime, connections: &mut Connections, place: usize)
         ensures over { is_over (client_at self.new.at place) ≡ true }
+        ensures settled { IsSettled place self.old self.new connections.old connections.new }
         ensures run { HasRun connections.old connections.new }
         ensures line { LineGoesOn self.old.line self.new.line }
     {
@@ -145,13 +143,7 @@ impl Server {
         ensures run { HasRun connections.old connections.new }
         ensures line { LineGoesOn self.old.line self.new.line }
     {
-        self.clients.served.remove(place);
-        if self
-            .clients
-            .served
-            .push(place, serving_deadline(self.opened.now))
-            .is_err()
-        {
+        if self.clients.give_time(place, self.opened.now).is_err() {
             self.faults.tell(rt, EdgeFault::OutOfMemory.text());
             self.close(connections, place);
         }
@@ -166,13 +158,15 @@ impl Server {
         place: usize,
         was_asking: bool,
     )
+        ensures anew { was_asking ≡ true → is_answered (at connections.old place) ≡ true →
+            ComesLast place self.old.served self.new.served self.new.at }
         ensures in_time { was_asking ≡ false →
             (self.new ≡ self.old) × (connections.new ≡ connections.old) }
         ensures settled { IsSettled place self.old self.new connections.old connections.new }
         ensures run { HasRun connections.old connections.new }
         ensures line { LineGoesOn self.old.line self.new.line }
     {
-        if was_asking && matches!(connections.phase(place), Phase::Answering(_)) {
+        if was_asking && connections.is_answered(place) {
             self.give_time(rt, connections, place);
         }
     }

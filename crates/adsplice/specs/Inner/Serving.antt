@@ -1,16 +1,17 @@
 -- Who has its turn, and what becomes of it then.
 use Rattle.std.specs.Prelude.{◌≡◌, ◌≢◌, ◌⊎◌, ◌+◌, ◌<◌, ◌==◌, ◌&&◌, ℕ, zero, suc, nat_lt, Bool, true, false, not, ◌||◌, List, [], ◌∷◌, ◌++◌, length, Option, Some, None, filter, slice_index_or, slice_set}
+use Rattle.std.specs.Time.{instant_nanos, FitsClock}
 use Rattle.std.specs.declared.time.Instant.{Instant}
 use Rattle.connections.specs.declared.arrivals.Arrival.{Arrival}
 use Rattle.connections.specs.declared.conversation.Conversation.{Conversation}
 use Rattle.connections.specs.declared.turns.Turn.{Turn}
 use Rattle.connections.specs.declared.turns.Turn.TheVariants.{Waits, Goes, Full, Done, Failed}
 use Rattle.connections.specs.declared.devices.Passage.TheVariants.{WouldWait}
-use Rattle.connections.specs.Arrivals.{is_asking, is_elsewhere}
+use Rattle.connections.specs.Arrivals.{asks, first_that, gives_place, is_asking, is_elsewhere}
 use Rattle.connections.specs.Clients.{ClientAt, TurnComesTo}
 use Rattle.connections.specs.Devices.{DeviceStand}
 use Rattle.connections.specs.Limits.{most_held}
-use Rattle.connections.specs.Lines.{LineState, LineEvent, joins, leaves, calls, after, line_after, next, place_of}
+use Rattle.connections.specs.Lines.{LineState, LineEvent, joins, leaves, calls, after, line_after, next, place_of, is_in_line}
 use Rattle.connections.specs.Table.{State, at, held_in, left_of}
 use Rattle.connections.specs.Turns.{IfGone}
 use Rattle.connections.specs.Wires.{HasHeard, GoesHeard}
@@ -126,6 +127,17 @@ pub record ComesLast {X : Type 0} (place : ℕ) (before now : List Arrival) (lat
   pub until : Instant
   pub last : (now ≡ filter (is_elsewhere place) before ++ record { place = place; until = until } ∷ []) ⊎ (client_at later place ≡ None)
 
+-- this instant is so many nanoseconds after that one, or that one itself if the clock doesn't reach so far
+pub record IsLater (nanos : ℕ) (now until : Instant) : Type 0 where
+  pub later : FitsClock (instant_nanos now + nanos) → instant_nanos until ≡ instant_nanos now + nanos
+  pub last : ¬ (FitsClock (instant_nanos now + nanos)) → until ≡ now
+
+-- it comes last in a list, in which it stands once, and its time there is so many nanoseconds from now on
+pub record IsLastFor (nanos : ℕ) (now : Instant) (place : ℕ) (before later : List Arrival) : Type 0 where
+  pub until : Instant
+  pub time : IsLater nanos now until
+  pub last : later ≡ filter (is_elsewhere place) before ++ record { place = place; until = until } ∷ []
+
 -- with this instant it comes last in a list, in which it stands once; or there is no memory for that, and it isn't in the list
 abbrev pub IsNotedLast : ℕ → Instant → List Arrival → List Arrival → Type 0
 IsNotedLast place until before now = (now ≡ filter (is_elsewhere place) before ++ record { place = place; until = until } ∷ []) ⊎ (now ≡ filter (is_elsewhere place) before)
@@ -146,6 +158,28 @@ pub record IsSettled {X : Type 0} (place : ℕ) (clients later : ClientsState X)
   pub leaves : MayLeave place old new
   pub here : (IsThere (client_at clients.at place) (client_at later.at place) × (new ≡ old))
       ⊎ ((is_over (client_at later.at place) ≡ true) × HasLeft (client_at clients.at place) place new)
+
+-- ---- who goes for one that comes
+
+abbrev pub is_one_in_line : Option ℕ → LineState → Bool
+is_one_in_line None line = false
+is_one_in_line (Some place) line = is_in_line place line.standing
+
+-- no seat is vacant, and the client that has asked longest stands in line
+abbrev pub is_full : {X : Type 0} → State → ClientsState X → Bool
+is_full s clients = (length clients.vacant == 0) && is_one_in_line (first_that (asks s) clients.served) clients.line
+
+-- nobody goes; or it is the client that has asked longest, and that doesn't stand in line
+abbrev pub LongestGoes : {X : Type 0} → ClientsState X → ClientsState X → State → State → Type 0
+LongestGoes clients later old new =
+    ((later ≡ clients) × (new ≡ old))
+    ⊎ ((place : ℕ) × (first_that (asks old) clients.served ≡ Some place) × (is_in_line place clients.line.standing ≡ false) × IsClosed place clients later old new)
+
+-- nobody goes if a seat is vacant; else it is the client that gives its place, if there is one
+pub record GivesSeat {X : Type 0} (clients later : ClientsState X) (old new : State) : Type 0 where
+  pub vacant : clients.vacant ≢ [] → (later ≡ record clients { vacant = later.vacant }) × (new ≡ old)
+  pub none : gives_place old clients.served clients.ending ≡ None → (later ≡ record clients { vacant = later.vacant }) × (new ≡ old)
+  pub goes : (place : ℕ) → clients.vacant ≡ [] → gives_place old clients.served clients.ending ≡ Some place → IsClosed place clients later old new
 
 module _ {X : Type 0} (incoming : X → DeviceStand) where
   -- a part of its request is read. It is heard on at once only if that gave bytes; else it is settled by what the read came to

@@ -4,7 +4,7 @@ use Rattle.adsplice.proofs.Serving.{settled_noted}
 use Rattle.adsplice.proofs.server.Server.give_time.Goals as goal
 
 pub returns-then-is_err-clause-time : goal.returns-then-is_err-clause-time
-returns-then-is_err-clause-time c = record { until = c.serving_deadline.result; last = inr c.close.ensures.closed.gone }
+returns-then-is_err-clause-time c = record { until = c.self.inside.opened.now; last = inr c.close.ensures.closed.gone }
 
 pub returns-then-is_err-clause-settled : goal.returns-then-is_err-clause-settled
 returns-then-is_err-clause-settled c =
