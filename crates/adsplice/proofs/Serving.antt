@@ -1,7 +1,12 @@
 -- Who has its turn, and what becomes of it then.
-use Rattle.std.proofs.Common.{◌≡◌, ℕ, suc, ◌+◌, ◌<◌, true, false, List, [], ◌∷◌, ◌++◌, refl, sym, ap, ◌∙◌, subst, inl, inr}
-use Rattle.std.proofs.lemmas.List.{set-get_or}
-use Rattle.std.specs.Prelude.{◌⊎◌, Option, Some, None, slice_set}
+use Rattle.std.proofs.Common.{arith, ◌≡◌, ℕ, suc, ◌+◌, ◌<◌, true, false, List, [], ◌∷◌, ◌++◌, refl, sym, ap, ◌∙◌, subst, inl, inr}
+use Rattle.std.proofs.lemmas.List.{append-nil, set-get_or}
+use Rattle.std.specs.Prelude.{◌⊎◌, Bool, IfSome, Option, Some, None, Result, Ok, Err, OnOk, OnErr, filter, slice_set}
+use Rattle.std.specs.declared.time.Instant.{Instant}
+use Rattle.std.proofs.lemmas.List.Elements.{filter-append}
+use Rattle.connections.specs.declared.arrivals.Arrival.{Arrival}
+use Rattle.connections.specs.declared.conversation.Conversation.{Conversation}
+use Rattle.connections.specs.Arrivals.{is_answered, is_elsewhere}
 use Rattle.connections.specs.declared.turns.Turn.{Turn}
 use Rattle.connections.specs.declared.turns.Turn.TheVariants.{Full}
 use Rattle.connections.specs.Clients.{ClientAt, TurnComesTo}
@@ -11,7 +16,8 @@ use Rattle.connections.specs.Lines.{LineState, LineEvent, joins, leaves, calls, 
 use Rattle.connections.specs.Table.{State, at, held_in}
 use Rattle.connections.proofs.Calling.{leads_both}
 use Rattle.adsplice.specs.Clients.{ClientsState}
-use Rattle.adsplice.specs.Inner.Serving.{client_at, HasTurn, HadTurn, MayLeave, HasLeft, IsThere, is_over, AllLeave, LeavesLine, IsWatched, IsClosed, IsSettled, is_last_call, NextIsServed, AskStill, AllAskStill, LineIsServed}
+use Rattle.adsplice.specs.Inner.Serving.{ComesLast, client_at, HasTurn, HadTurn, MayLeave, HasLeft, IsThere, is_over, AllLeave, LeavesLine, IsLastFor, IsNotedLast, IsWatched, IsClosed, IsSettled, OthersAreThere, OthersKeep, is_last_call, NextIsServed, AskStill, AllAskStill, LineIsServed}
+use Rattle.adsplice.specs.Inner.Leaving.{not_served}
 use Rattle.adsplice.proofs.Elsewhere.{may_none, may_both}
 
 -- ---- a turn
@@ -56,6 +62,159 @@ module _ {X : Type 0} (incoming outgoing : X → DeviceStand) (room place : ℕ)
       subst (λ (n : ℕ). HadTurn incoming outgoing room place (client_at clients place) clients (slice_set list n slot) s s None) (sym i)
       (subst (λ (xs : List (Option (ClientAt X))). HadTurn incoming outgoing room place (client_at clients place) clients (slice_set xs place slot) s s None) (sym l)
       (had_nobody_at clients slot s (sym (ap (λ (n : ℕ). client_at clients n) i) ∙ (sym (ap (λ (xs : List (Option (ClientAt X))). client_at xs index) l) ∙ is)) e))
+
+-- what is so anyway is so of a turn, if there was one
+pub if_any : {A : Type 0} (o : Option A) (P : Type 0) → P → IfSome o (λ x. P)
+if_any None P p = tt
+if_any (Some x) P p = p
+
+-- ---- the lists of others
+
+module _ (place : ℕ) where
+  -- who left a list doesn't leave it again
+  pub left_twice : (xs : List Arrival) → filter (is_elsewhere place) (filter (is_elsewhere place) xs) ≡ filter (is_elsewhere place) xs
+  left_twice [] = refl
+  left_twice (x ∷ xs) = grind (arith, left_twice xs)
+
+  others_left : (before now : List Arrival) → now ≡ filter (is_elsewhere place) before → filter (is_elsewhere place) now ≡ filter (is_elsewhere place) before
+  others_left before now e = ap (λ (xs : List Arrival). filter (is_elsewhere place) xs) e ∙ left_twice before
+
+  none_of_itself : (until : Instant) → filter (is_elsewhere place) (record { place = place; until = until } ∷ []) ≡ []
+  none_of_itself until = grind arith
+
+  pub others_last : (until : Instant) (before now : List Arrival) → now ≡ filter (is_elsewhere place) before ++ record { place = place; until = until } ∷ [] → filter (is_elsewhere place) now ≡ filter (is_elsewhere place) before
+  others_last until before now e =
+      ap (λ (xs : List Arrival). filter (is_elsewhere place) xs) e
+      ∙ (filter-append (is_elsewhere place) (filter (is_elsewhere place) before) (record { place = place; until = until } ∷ [])
+      ∙ (ap (λ (ys : List Arrival). filter (is_elsewhere place) (filter (is_elsewhere place) before) ++ ys) (none_of_itself until)
+      ∙ (append-nil (filter (is_elsewhere place) (filter (is_elsewhere place) before)) ∙ left_twice before)))
+
+  -- who comes last there, or has left it if there is no memory
+  pub others_noted : {A F : Type 0} (nanos : ℕ) (now : Instant) (before later : List Arrival) (result : Result A F) → OnOk result (IsLastFor nanos now place before later) → OnErr result (later ≡ filter (is_elsewhere place) before)
+      → filter (is_elsewhere place) later ≡ filter (is_elsewhere place) before
+  others_noted nanos now before later (Ok x) ok err = others_last ok.until before later ok.last
+  others_noted nanos now before later (Err x) ok err = others_left before later err
+
+  pub others_put : {A F : Type 0} (until : Instant) (before later : List Arrival) (result : Result A F) → OnOk result (later ≡ filter (is_elsewhere place) before ++ record { place = place; until = until } ∷ []) → OnErr result (later ≡ filter (is_elsewhere place) before)
+      → filter (is_elsewhere place) later ≡ filter (is_elsewhere place) before
+  others_put until before later (Ok x) ok err = others_last until before later ok
+  others_put until before later (Err x) ok err = others_left before later err
+
+  others_noted_last : (until : Instant) (before later : List Arrival) → IsNotedLast place until before later → filter (is_elsewhere place) later ≡ filter (is_elsewhere place) before
+  others_noted_last until before later (inl e) = others_last until before later e
+  others_noted_last until before later (inr e) = others_left before later e
+
+  pub others_taken : (taken : Bool) (before later : List Arrival) → (taken ≡ true → (until : Instant) × IsNotedLast place until before later) → (taken ≡ false → later ≡ before) → filter (is_elsewhere place) later ≡ filter (is_elsewhere place) before
+  others_taken true before later noted same = let it : (until : Instant) × IsNotedLast place until before later = noted refl in others_noted_last it.0 before later it.1
+  others_taken false before later noted same = ap (λ (xs : List Arrival). filter (is_elsewhere place) xs) (same refl)
+
+  -- others were settled before it was noted
+  pub noted_since : (until : Instant) (before middle later : List Arrival) → filter (is_elsewhere place) middle ≡ filter (is_elsewhere place) before → IsNotedLast place until middle later → IsNotedLast place until before later
+  noted_since until before middle later k (inl e) = inl (e ∙ ap (λ (xs : List Arrival). xs ++ record { place = place; until = until } ∷ []) k)
+  noted_since until before middle later k (inr e) = inr (e ∙ k)
+
+  last_since : {C : Type 0} (until : Instant) (before middle later : List Arrival) → filter (is_elsewhere place) middle ≡ filter (is_elsewhere place) before → (later ≡ filter (is_elsewhere place) middle ++ record { place = place; until = until } ∷ []) ⊎ C
+      → (later ≡ filter (is_elsewhere place) before ++ record { place = place; until = until } ∷ []) ⊎ C
+  last_since until before middle later k (inl e) = inl (e ∙ ap (λ (xs : List Arrival). xs ++ record { place = place; until = until } ∷ []) k)
+  last_since until before middle later k (inr e) = inr e
+
+  pub comes_last_since : {X : Type 0} (before middle later : List Arrival) (clients : List (Option (ClientAt X))) → filter (is_elsewhere place) middle ≡ filter (is_elsewhere place) before → ComesLast place middle later clients → ComesLast place before later clients
+  comes_last_since before middle later clients k h = record { until = h.until; last = last_since h.until before middle later k h.last }
+
+  was_answered_here : (before now : Option Conversation) → is_answered now ≡ true → (now ≡ before) ⊎ (now ≡ None) → is_answered before ≡ true
+  was_answered_here before now a (inl e) = sym (ap (λ (it : Option Conversation). is_answered it) e) ∙ a
+  was_answered_here before now a (inr e) = absurd (let both : false ≡ true = sym (ap (λ (it : Option Conversation). is_answered it) e) ∙ a in let never : ⊥ = cc in never)
+
+  -- who is answered still was answered before
+  pub was_answered : (old new : State) → MayLeave place old new → is_answered (at new place) ≡ true → is_answered (at old place) ≡ true
+  was_answered old new m a = was_answered_here (at old place) (at new place) a m.here
+
+module _ {X : Type 0} (place : ℕ) where
+  keep_both : (a b c : ClientsState X) → OthersKeep place a b → OthersKeep place b c → OthersKeep place a c
+  keep_both a b c f g = record {
+    there = λ other n. g.there other n ∙ f.there other n;
+    served = g.served ∙ f.served;
+    ending = g.ending ∙ f.ending;
+    heard = g.heard ∙ f.heard;
+    took = g.took ∙ f.took;
+    short = g.short ∙ f.short;
+  }
+
+  pub keep_served : (old new : ClientsState X) → new ≡ record old { served = new.served } → filter (is_elsewhere place) new.served ≡ filter (is_elsewhere place) old.served → OthersKeep place old new
+  keep_served old new e h = record {
+    there = λ other n. ap (λ (x : ClientsState X). client_at x.at other) e;
+    served = h;
+    ending = ap (λ (x : ClientsState X). filter (is_elsewhere place) x.ending) e;
+    heard = ap (λ (x : ClientsState X). filter (is_elsewhere place) x.heard) e;
+    took = ap (λ (x : ClientsState X). filter (is_elsewhere place) x.took) e;
+    short = ap (λ (x : ClientsState X). filter (is_elsewhere place) x.short) e;
+  }
+
+  pub keep_ending : (old new : ClientsState X) → new ≡ record old { ending = new.ending } → filter (is_elsewhere place) new.ending ≡ filter (is_elsewhere place) old.ending → OthersKeep place old new
+  keep_ending old new e h = record {
+    there = λ other n. ap (λ (x : ClientsState X). client_at x.at other) e;
+    served = ap (λ (x : ClientsState X). filter (is_elsewhere place) x.served) e;
+    ending = h;
+    heard = ap (λ (x : ClientsState X). filter (is_elsewhere place) x.heard) e;
+    took = ap (λ (x : ClientsState X). filter (is_elsewhere place) x.took) e;
+    short = ap (λ (x : ClientsState X). filter (is_elsewhere place) x.short) e;
+  }
+
+  pub keep_took : (old new : ClientsState X) → new ≡ record old { took = new.took } → filter (is_elsewhere place) new.took ≡ filter (is_elsewhere place) old.took → OthersKeep place old new
+  keep_took old new e h = record {
+    there = λ other n. ap (λ (x : ClientsState X). client_at x.at other) e;
+    served = ap (λ (x : ClientsState X). filter (is_elsewhere place) x.served) e;
+    ending = ap (λ (x : ClientsState X). filter (is_elsewhere place) x.ending) e;
+    heard = ap (λ (x : ClientsState X). filter (is_elsewhere place) x.heard) e;
+    took = h;
+    short = ap (λ (x : ClientsState X). filter (is_elsewhere place) x.short) e;
+  }
+
+  pub keep_short : (old new : ClientsState X) → new ≡ record old { short = new.short } → filter (is_elsewhere place) new.short ≡ filter (is_elsewhere place) old.short → OthersKeep place old new
+  keep_short old new e h = record {
+    there = λ other n. ap (λ (x : ClientsState X). client_at x.at other) e;
+    served = ap (λ (x : ClientsState X). filter (is_elsewhere place) x.served) e;
+    ending = ap (λ (x : ClientsState X). filter (is_elsewhere place) x.ending) e;
+    heard = ap (λ (x : ClientsState X). filter (is_elsewhere place) x.heard) e;
+    took = ap (λ (x : ClientsState X). filter (is_elsewhere place) x.took) e;
+    short = h;
+  }
+
+  pub keep_there : (old new : ClientsState X) → new ≡ record old { at = new.at } → OthersAreThere place old.at new.at → OthersKeep place old new
+  keep_there old new e h = record {
+    there = h;
+    served = ap (λ (x : ClientsState X). filter (is_elsewhere place) x.served) e;
+    ending = ap (λ (x : ClientsState X). filter (is_elsewhere place) x.ending) e;
+    heard = ap (λ (x : ClientsState X). filter (is_elsewhere place) x.heard) e;
+    took = ap (λ (x : ClientsState X). filter (is_elsewhere place) x.took) e;
+    short = ap (λ (x : ClientsState X). filter (is_elsewhere place) x.short) e;
+  }
+
+  keep_not_served : (old new : ClientsState X) → new ≡ not_served place old → OthersKeep place old new
+  keep_not_served old new e = record {
+    there = λ other n. ap (λ (x : ClientsState X). client_at x.at other) e;
+    served = others_left place old.served new.served (ap (λ (x : ClientsState X). x.served) e);
+    ending = ap (λ (x : ClientsState X). filter (is_elsewhere place) x.ending) e;
+    heard = others_left place old.heard new.heard (ap (λ (x : ClientsState X). x.heard) e);
+    took = others_left place old.took new.took (ap (λ (x : ClientsState X). x.took) e);
+    short = others_left place old.short new.short (ap (λ (x : ClientsState X). x.short) e);
+  }
+
+  keep_closed : (old new : ClientsState X) (s t : State) → IsClosed place old new s t → OthersKeep place old new
+  keep_closed old new s t h = record {
+    there = h.others;
+    served = others_left place old.served new.served (ap (λ (x : ClientsState X). x.served) h.lists);
+    ending = others_left place old.ending new.ending (ap (λ (x : ClientsState X). x.ending) h.lists);
+    heard = others_left place old.heard new.heard (ap (λ (x : ClientsState X). x.heard) h.lists);
+    took = others_left place old.took new.took (ap (λ (x : ClientsState X). x.took) h.lists);
+    short = others_left place old.short new.short (ap (λ (x : ClientsState X). x.short) h.lists);
+  }
+
+  -- it isn't served any more, its output is ended, and its end is awaited
+  pub keep_ended : (old stopped ended new : ClientsState X) → stopped ≡ not_served place old → ended ≡ record stopped { at = ended.at } → OthersAreThere place stopped.at ended.at
+      → new ≡ record ended { ending = new.ending } → filter (is_elsewhere place) new.ending ≡ filter (is_elsewhere place) ended.ending → OthersKeep place old new
+  keep_ended old stopped ended new e f h g k =
+      keep_both old stopped new (keep_not_served old stopped e) (keep_both stopped ended new (keep_there stopped ended f h) (keep_ending ended new g k))
 
 -- ---- what becomes of a client after its turn
 
@@ -116,24 +275,27 @@ module _ {X : Type 0} (place : ℕ) where
   pub settled_both : (a b c : ClientsState X) (s t u : State) → IsSettled place a b s t → IsSettled place b c t u → IsSettled place a c s u
   settled_both a b c s t u f g = record {
     line = leaves_both place a.line b.line c.line f.line g.line;
+    others = keep_both place a b c f.others g.others;
     leaves = may_both place s t u f.leaves g.leaves;
     here = here_both (client_at a.at place) (client_at b.at place) (client_at c.at place) s t u g.leaves f.here g.here;
   }
 
-  pub settled_none : (old new : ClientsState X) (s t : State) → new.at ≡ old.at → new.line ≡ old.line → t ≡ s → IsSettled place old new s t
-  settled_none old new s t e l f = record {
+  pub settled_none : (old new : ClientsState X) (s t : State) → OthersKeep place old new → new.at ≡ old.at → new.line ≡ old.line → t ≡ s → IsSettled place old new s t
+  settled_none old new s t k e l f = record {
     line = leaves_none place old.line new.line l;
+    others = k;
     leaves = may_none place s t f;
     here = inl (there_same (client_at old.at place) (client_at new.at place) (ap (λ (x : List (Option (ClientAt X))). client_at x place) e), f);
   }
 
   pub settled_watched : (old new : ClientsState X) (s : State) → IsWatched place old new → IsSettled place old new s s
   settled_watched old new s h =
-      record { line = leaves_none place old.line new.line (ap (λ (x : ClientsState X). x.line) h.rest); leaves = may_none place s s refl; here = inl (h.here, refl) }
+      record { line = leaves_none place old.line new.line (ap (λ (x : ClientsState X). x.line) h.rest); others = keep_there place old new h.rest h.others; leaves = may_none place s s refl; here = inl (h.here, refl) }
 
   pub settled_closed : (old new : ClientsState X) (s t : State) → IsClosed place old new s t → IsSettled place old new s t
   settled_closed old new s t h = record {
     line = leaves_once place old.line new.line (ap (λ (x : ClientsState X). x.line) h.lists);
+    others = keep_closed place old new s t h;
     leaves = h.leaves;
     here = inr (ap (λ (x : Option (ClientAt X)). is_over x) h.gone, h.left);
   }
@@ -143,18 +305,19 @@ module _ {X : Type 0} (place : ℕ) where
   settled_unwatched old middle new s t w h = settled_both old middle new s s t (settled_watched old middle s w) (settled_closed middle new s t h)
 
   -- lists of others are changed, and it is closed
-  pub settled_noted : (old middle new : ClientsState X) (s t : State) → middle.at ≡ old.at → middle.line ≡ old.line → IsClosed place middle new s t → IsSettled place old new s t
-  settled_noted old middle new s t e l h = settled_both old middle new s s t (settled_none old middle s s e l refl) (settled_closed middle new s t h)
+  pub settled_noted : (old middle new : ClientsState X) (s t : State) → OthersKeep place old middle → middle.at ≡ old.at → middle.line ≡ old.line → IsClosed place middle new s t → IsSettled place old new s t
+  settled_noted old middle new s t k e l h = settled_both old middle new s s t (settled_none old middle s s k e l refl) (settled_closed middle new s t h)
 
   -- it has left, and its end is awaited; then it is settled
-  pub settled_ended : (old middle new : ClientsState X) (s t u : State) → middle.line ≡ after (leaves place) old.line → MayLeave place s t → HasLeft (client_at old.at place) place t → is_over (client_at middle.at place) ≡ true
+  pub settled_ended : (old middle new : ClientsState X) (s t u : State) → OthersKeep place old middle → middle.line ≡ after (leaves place) old.line → MayLeave place s t → HasLeft (client_at old.at place) place t → is_over (client_at middle.at place) ≡ true
       → IsSettled place middle new t u → IsSettled place old new s u
-  settled_ended old middle new s t u l m h o g =
-      settled_both old middle new s t u (record { line = leaves_once place old.line middle.line l; leaves = m; here = inr (o, h) }) g
+  settled_ended old middle new s t u k l m h o g =
+      settled_both old middle new s t u (record { line = leaves_once place old.line middle.line l; others = k; leaves = m; here = inr (o, h) }) g
 
   -- it has left, and is closed
-  pub settled_left : (old middle new : ClientsState X) (s t u : State) → middle.line ≡ after (leaves place) old.line → MayLeave place s t → HasLeft (client_at old.at place) place t → IsClosed place middle new t u → IsSettled place old new s u
-  settled_left old middle new s t u l m h g = record {
+  pub settled_left : (old middle new : ClientsState X) (s t u : State) → OthersKeep place old middle → middle.line ≡ after (leaves place) old.line → MayLeave place s t → HasLeft (client_at old.at place) place t → IsClosed place middle new t u → IsSettled place old new s u
+  settled_left old middle new s t u k l m h g = record {
+    others = keep_both place old middle new k (keep_closed place middle new t u g);
     line = leaves_both place old.line middle.line new.line (leaves_once place old.line middle.line l) (leaves_once place middle.line new.line (ap (λ (x : ClientsState X). x.line) g.lists));
     leaves = may_both place s t u m g.leaves;
     here = inr (ap (λ (x : Option (ClientAt X)). is_over x) g.gone, left_later (client_at old.at place) t u g.leaves h);

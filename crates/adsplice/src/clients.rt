@@ -5,7 +5,7 @@ ghost use Rattle.std.specs.Prelude.{◌≡◌, ◌≢◌, ◌-◌, ◌<◌, ◌�
 ghost use Rattle.std.specs.Option.{option_map};
 ghost use Rattle.adsplice.specs.Clients.{fault_of_leaver, is_granted};
 ghost use Rattle.adsplice.specs.Inner.Leaving.{not_served};
-ghost use Rattle.adsplice.specs.Inner.Serving.{HadPartRead, HadTurn, HasLeft, IsLastFor, IsNotedBefore, IsWatched, MayLeave, OthersStay, client_at, is_over};
+ghost use Rattle.adsplice.specs.Inner.Serving.{HadPartRead, HadTurn, HasLeft, IsLastFor, IsNotedBefore, IsWatched, MayLeave, OthersAreThere, OthersStay, client_at, is_over};
 ghost use Rattle.connections.specs.Arrivals.{asks, first_that, gives_place, gives_room, gives_text, is_elsewhere, is_overdue};
 ghost use Rattle.connections.specs.Limits.{ending_nanos, place_count, quiet_nanos, serving_nanos};
 ghost use Rattle.connections.specs.Inner.Going.{LineGoesOn};
@@ -112,6 +112,7 @@ impl Clients {
     /// The seat of the client at `place`, from 0, is vacant from now on, if one is there. Its connection is closed.
     pub(crate) fn give_back(&mut self, place: usize)
         ensures gone { client_at self.new.at place ≡ None }
+        ensures others { OthersAreThere place self.old.at self.new.at }
         ensures rest { self.new ≡ record self.old { at = self.new.at; vacant = self.new.vacant } }
     {
         if let Some(client) = self.at.get_mut(place) {
@@ -244,6 +245,7 @@ impl Clients {
     /// there.
     pub(crate) fn end(&mut self, place: usize, was_granted: bool) -> Turn
         ensures over { result ≢ Turn.Done → is_over (client_at self.new.at place) ≡ true }
+        ensures others { OthersAreThere place self.old.at self.new.at }
         ensures rest { self.new ≡ record self.old { at = self.new.at } }
     {
         let Some(seat) = self.at.get_mut(place) else {
@@ -383,6 +385,17 @@ impl Clients {
         ensures rest { self.new ≡ record self.old { ending = self.new.ending } }
     {
         client_comes_last(&mut self.ending, place, ending_deadline(now))
+    }
+
+    /// The client at `place`, from 0, waits for room for its bytes from the instant `now` on. Fails only if an allocation fails.
+    pub(crate) fn await_room(&mut self, place: usize, now: Instant) -> Result<(), AllocError>
+        ensures ok { OnOk result (self.new.short ≡ filter (is_elsewhere place) self.old.short
+            ++ record { place = place; until = now } ∷ []) }
+        ensures err { OnErr result (self.new.short
+            ≡ filter (is_elsewhere place) self.old.short) }
+        ensures rest { self.new ≡ record self.old { short = self.new.short } }
+    {
+        client_comes_last(&mut self.short, place, now)
     }
 
     /// Something came of the client at `place`, from 0, at the instant `now`: for a while it isn't quiet. Fails only if an

@@ -1,7 +1,7 @@
 //! What becomes of a client after its turn: it is watched, its end is awaited, or its connection is closed.
 #![tactic(auto, using(connections::proofs::Leading::stays, connections::proofs::Leading::by_one, connections::proofs::Leading::and_then, connections::proofs::Calling::line_stays, connections::proofs::Calling::line_goes_on))]
 
-ghost use Rattle.std.specs.Prelude.{◌≡◌, [], true, false, Some};
+ghost use Rattle.std.specs.Prelude.{◌≡◌, [], true, false, IfSome, Some};
 ghost use Rattle.std.specs.declared.time.Instant.{Instant as Time};
 ghost use Rattle.adsplice.specs.Clients.{has_its_wish};
 ghost use Rattle.adsplice.specs.Inner.Serving.{ComesLast, FollowsTurn, IsClosed, IsNotedLast, IsSettled, client_at, has_taken, is_awaited, is_over};
@@ -184,8 +184,7 @@ impl Server {
         ensures run { HasRun connections.old connections.new }
         ensures line { LineGoesOn self.old.line self.new.line }
     {
-        self.clients.short.remove(place);
-        if self.clients.short.push(place, self.opened.now).is_err() {
+        if self.clients.await_room(place, self.opened.now).is_err() {
             self.faults.tell(rt, EdgeFault::OutOfMemory.text());
             self.close(connections, place);
         }
@@ -216,6 +215,12 @@ impl Server {
     )
         requires { turned.now.turn ≡ Some Turn.Done → turned.now.was_ending ≡ false →
             left_of (at connections.old turned.now.place) ≡ [] }
+        ensures took { IfSome turned.now.turn (λ _.
+            has_taken turned.now.was_left (at connections.new turned.now.place) ≡ true →
+            (then : Time) × IsNotedLast turned.now.place then self.old.took self.new.took) }
+        ensures anew { IfSome turned.now.turn (λ _. turned.now.was_asking ≡ true →
+            is_answered (at connections.new turned.now.place) ≡ true →
+            ComesLast turned.now.place self.old.served self.new.served self.new.at) }
         ensures follows { FollowsTurn turned.now.turn (client_at self.new.at turned.now.place) }
         ensures settled { IsSettled turned.now.place self.old self.new connections.old connections.new }
         ensures run { HasRun connections.old connections.new }

@@ -109,15 +109,30 @@ pub record LeavesLine (place : ℕ) (old new : LineState) : Type 0 where
   pub leads : new ≡ line_after old events
   pub all : AllLeave place events
 
+-- at each other place is who was there
+abbrev pub OthersAreThere : {X : Type 0} → ℕ → List (Option (ClientAt X)) → List (Option (ClientAt X)) → Type 0
+OthersAreThere place clients later = (other : ℕ) → other ≢ place → client_at later other ≡ client_at clients other
+
+-- all others are there with their sockets. In each list they stand in their order, with their times
+pub record OthersKeep {X : Type 0} (place : ℕ) (clients later : ClientsState X) : Type 0 where
+  pub there : OthersAreThere place clients.at later.at
+  pub served : filter (is_elsewhere place) later.served ≡ filter (is_elsewhere place) clients.served
+  pub ending : filter (is_elsewhere place) later.ending ≡ filter (is_elsewhere place) clients.ending
+  pub heard : filter (is_elsewhere place) later.heard ≡ filter (is_elsewhere place) clients.heard
+  pub took : filter (is_elsewhere place) later.took ≡ filter (is_elsewhere place) clients.took
+  pub short : filter (is_elsewhere place) later.short ≡ filter (is_elsewhere place) clients.short
+
 -- the system is asked to tell of it
 pub record IsWatched {X : Type 0} (place : ℕ) (clients later : ClientsState X) : Type 0 where
   pub here : IsThere (client_at clients.at place) (client_at later.at place)
   pub awaited : is_awaited (client_at later.at place) ≡ true
+  pub others : OthersAreThere place clients.at later.at
   pub rest : later ≡ record clients { at = later.at }
 
 -- it is closed, and stands in no list any more
 pub record IsClosed {X : Type 0} (place : ℕ) (clients later : ClientsState X) (old new : State) : Type 0 where
   pub gone : client_at later.at place ≡ None
+  pub others : OthersAreThere place clients.at later.at
   pub lists : later ≡ record (not_served place clients) { at = later.at; vacant = later.vacant; ending = filter (is_elsewhere place) clients.ending }
   pub leaves : MayLeave place old new
   pub left : HasLeft (client_at clients.at place) place new
@@ -152,9 +167,10 @@ pub record IsNotedBefore {X : Type 0} (client : Option (ClientAt X)) (it : Optio
   pub asking : was_asking ≡ is_asking it
   pub rest : was_left ≡ length (left_of it)
 
--- it stays as its turn left it, and so does its connection; or that is over
+-- it stays as its turn left it, and so does its connection; or that is over. No other client is changed
 pub record IsSettled {X : Type 0} (place : ℕ) (clients later : ClientsState X) (old new : State) : Type 0 where
   pub line : LeavesLine place clients.line later.line
+  pub others : OthersKeep place clients later
   pub leaves : MayLeave place old new
   pub here : (IsThere (client_at clients.at place) (client_at later.at place) × (new ≡ old))
       ⊎ ((is_over (client_at later.at place) ≡ true) × HasLeft (client_at clients.at place) place new)
