@@ -1,13 +1,16 @@
 //! Whose turn it is of all clients, who is let in, and whose time is up.
 #![tactic(auto, using(connections::proofs::Leading::stays, connections::proofs::Leading::by_one, connections::proofs::Leading::and_then, connections::proofs::Calling::line_stays, connections::proofs::Calling::line_goes_on, connections::proofs::Calling::goes_on_after_call, connections::proofs::Calling::is_called_after, connections::proofs::Calling::called_again))]
 
-ghost use Rattle.std.specs.Prelude.{◌≡◌, ◌<◌, ◌⊎◌, List, length, true, false, IfSome};
-ghost use Rattle.adsplice.specs.Inner.Serving.{ComesLast, GivesSeat, IsClosed, IsHeard, LineIsServed, LongestGoes, NextIsServed, client_at, is_awaited, is_full, is_last_call, is_over};
+ghost use Rattle.std.specs.Prelude.{◌≡◌, ◌<◌, ◌-◌, ◌⊎◌, List, length, true, false, None, Some, IfSome};
+ghost use Rattle.std.specs.Duration.{as_nanos};
+ghost use Rattle.std.specs.declared.time.Duration.{Duration as Time};
+ghost use Rattle.adsplice.specs.Inner.Serving.{ComesLast, GivesSeat, IsClosed, IsHeard, IsServedAtOnce, LineIsServed, LongestGoes, NextIsServed, client_at, is_awaited, is_full, is_last_call, is_over};
 ghost use Rattle.connections.specs.declared.arrivals.Arrival.{Arrival};
 ghost use Rattle.connections.specs.Arrivals.{is_asking};
-ghost use Rattle.connections.specs.Clients.{IfInLine, IfLookFailed};
+ghost use Rattle.connections.specs.Clients.{IfAtOnce, IfInLine, IfLookFailed};
 ghost use Rattle.connections.specs.Inner.Going.{LineGoesOn};
-ghost use Rattle.connections.specs.Lines.{LineIsCalled, after, joins, next, place_of};
+ghost use Rattle.connections.specs.Limits.{place_count};
+ghost use Rattle.connections.specs.Lines.{LineIsCalled, after, joins, leaves, next, place_of};
 ghost use Rattle.connections.specs.Runs.{HasRun};
 ghost use Rattle.connections.specs.Table.{at};
 
@@ -92,7 +95,11 @@ impl Server {
     }
 
     // How long may be waited for the next event.
-    fn patience(&self) -> Option<Duration> {
+    fn patience(&self) -> Option<Duration>
+        ensures none { 0 < length self.now.line.standing →
+            (time : Time) × (result ≡ Some time) × (as_nanos time ≡ 0) }
+        ensures endless { result ≡ None → place_count - length self.now.vacant ≡ 0 }
+    {
         if self.clients.waiting() > 0 {
             return Some(Duration::from_millis(0));
         }
@@ -165,6 +172,8 @@ impl Server {
         block: &mut [u8],
     )
         requires { 0 < length block.old }
+        ensures served { IsServedAtOnce ⟦<Socket as Incoming>⟧.stand ⟦<Socket as Outgoing>⟧.stand
+            (length block.old) call.now self.old self.new connections.old connections.new }
         ensures run { HasRun connections.old connections.new }
         ensures line { LineGoesOn self.old.line self.new.line }
     {
@@ -228,6 +237,10 @@ impl Server {
         ensures in_line { IfInLine when (λ channel.
             (self.new.line ≡ after (joins place channel) self.old.line)
             ⊎ IsClosed place self.old self.new connections.old connections.new) }
+        ensures at_once { IfAtOnce when (λ call.
+            IsServedAtOnce ⟦<Socket as Incoming>⟧.stand ⟦<Socket as Outgoing>⟧.stand
+            (length block.old) call (record self.old { line = after (leaves place) self.old.line })
+            self.new connections.old connections.new) }
         ensures not_yet { when ≡ When.NotYet → is_awaited (client_at self.new.at place) ≡ true }
         ensures failed { IfLookFailed when (λ fault.
             is_over (client_at self.new.at place) ≡ true) }

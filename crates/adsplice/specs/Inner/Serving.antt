@@ -226,6 +226,16 @@ module _ {X : Type 0} (incoming outgoing : X → DeviceStand) (room : ℕ) where
     pub settled : IsSettled place (record clients { at = called; line = after calls clients.line }) later state new
     pub follows : FollowsTurn turn (client_at later.at place)
 
+  -- it has a turn that is no call, and is settled by what that came to. Nobody else is served
+  pub record IsServedAtOnce (place : ℕ) (clients later : ClientsState X) (old new : State) : Type 0 where
+    pub called : List (Option (ClientAt X))
+    pub state : State
+    pub turn : Option Turn
+    pub had : HadTurn incoming outgoing room place (client_at clients.at place) clients.at called old state turn
+    pub others : OthersStay place old state
+    pub settled : IsSettled place (record clients { at = called }) later state new
+    pub follows : FollowsTurn turn (client_at later.at place)
+
   abbrev pub IsServedIfAny : Option ℕ → ClientsState X → ClientsState X → State → State → Type 0
   IsServedIfAny None clients later old new = (later ≡ clients) × (new ≡ old)
   IsServedIfAny (Some place) clients later old new = IsServed place clients later old new
