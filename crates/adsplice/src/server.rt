@@ -1,12 +1,12 @@
 //! Whose turn it is of all clients, who is let in, and whose time is up.
 #![tactic(auto, using(connections::proofs::Leading::stays, connections::proofs::Leading::by_one, connections::proofs::Leading::and_then, connections::proofs::Calling::line_stays, connections::proofs::Calling::line_goes_on, connections::proofs::Calling::goes_on_after_call, connections::proofs::Calling::is_called_after, connections::proofs::Calling::called_again))]
 
-ghost use Rattle.std.specs.Prelude.{◌≡◌, ◌<◌, ◌-◌, ◌⊎◌, List, length, true, false, None, Some, IfSome};
+ghost use Rattle.std.specs.Prelude.{◌≡◌, ◌<◌, ◌-◌, ◌⊎◌, ℕ, List, length, true, false, None, Some, IfSome};
 ghost use Rattle.std.specs.Duration.{as_nanos};
 ghost use Rattle.std.specs.declared.time.Duration.{Duration as Time};
-ghost use Rattle.adsplice.specs.Inner.Serving.{ComesLast, GivesSeat, IsClosed, IsHeard, IsServedAtOnce, LineIsServed, LongestGoes, NextIsServed, client_at, is_awaited, is_full, is_last_call, is_over};
+ghost use Rattle.adsplice.specs.Inner.Serving.{ComesLast, GivesSeat, IsClosed, IsHeard, IsServedAtOnce, IsSettled, LineIsServed, LongestGoes, NextIsServed, client_at, is_awaited, is_full, is_last_call, is_over};
 ghost use Rattle.connections.specs.declared.arrivals.Arrival.{Arrival};
-ghost use Rattle.connections.specs.Arrivals.{is_asking};
+ghost use Rattle.connections.specs.Arrivals.{first_that, gives_room, gives_text, is_asking, is_overdue};
 ghost use Rattle.connections.specs.Clients.{IfAtOnce, IfInLine, IfLookFailed};
 ghost use Rattle.connections.specs.Inner.Going.{LineGoesOn};
 ghost use Rattle.connections.specs.Limits.{place_count};
@@ -118,16 +118,39 @@ impl Server {
         self.opened.wait(rt, events, patience)
     }
 
+    // Gives up the client that is quiet at the instant `now`, and of which something came longest ago. Whether there is one.
+    fn give_up_for_room(
+        &mut self,
+        rt: &HostRuntime,
+        connections: &mut Connections,
+        now: Instant,
+    ) -> bool
+        ensures goes { (place : ℕ) →
+            gives_room connections.old now self.old.line self.old.heard ≡ Some place →
+            (is_over (client_at self.new.at place) ≡ true)
+            × IsSettled place self.old self.new connections.old connections.new }
+        ensures nobody { gives_room connections.old now self.old.line self.old.heard ≡ None →
+            (self.new ≡ self.old) × (connections.new ≡ connections.old) }
+        ensures run { HasRun connections.old connections.new }
+        ensures line { LineGoesOn self.old.line self.new.line }
+    {
+        let Some(place) = self.clients.gives_room(connections, now) else {
+            return false;
+        };
+        self.give_up(rt, connections, place);
+        true
+    }
+
     // For each client whose bytes have no room one is given up that is quiet, and of whose bytes some are held.
     fn make_room(&mut self, rt: &HostRuntime, connections: &mut Connections)
         ensures run { HasRun connections.old connections.new }
         ensures line { LineGoesOn self.old.line self.new.line }
     {
+        let now = self.opened.now;
         for _ in 0..self.clients.short.len() {
-            let Some(place) = self.clients.gives_room(connections, self.opened.now) else {
+            if !self.give_up_for_room(rt, connections, now) {
                 return;
-            };
-            self.give_up(rt, connections, place);
+            }
         }
     }
 
@@ -181,6 +204,22 @@ impl Server {
         self.settle_turn(rt, connections, &turned);
     }
 
+    // Disconnects the client that is answered, and that took bytes of its reply longest ago. Whether there is one.
+    fn evict_for_replies(&mut self, rt: &HostRuntime, connections: &mut Connections) -> bool
+        ensures goes { (place : ℕ) → gives_text connections.old self.old.took ≡ Some place →
+            IsClosed place self.old self.new connections.old connections.new }
+        ensures nobody { gives_text connections.old self.old.took ≡ None →
+            (self.new ≡ self.old) × (connections.new ≡ connections.old) }
+        ensures run { HasRun connections.old connections.new }
+        ensures line { LineGoesOn self.old.line self.new.line }
+    {
+        let Some(place) = self.clients.gives_text(connections) else {
+            return false;
+        };
+        self.evict(rt, connections, place);
+        true
+    }
+
     // While replies that clients haven't taken keep too much memory, the client is disconnected that took bytes longest ago.
     fn bound_replies(&mut self, rt: &HostRuntime, connections: &mut Connections)
         ensures run { HasRun connections.old connections.new }
@@ -190,10 +229,9 @@ impl Server {
             if connections.reply_memory() <= MAX_REPLIES {
                 return;
             }
-            let Some(place) = self.clients.gives_text(connections) else {
+            if !self.evict_for_replies(rt, connections) {
                 return;
-            };
-            self.evict(rt, connections, place);
+            }
         }
     }
 
@@ -528,16 +566,33 @@ impl Server {
         }
     }
 
+    // Closes the first client whose time to end is up at the instant `now`. Whether there is one.
+    fn close_one_late(&mut self, connections: &mut Connections, now: Instant) -> bool
+        ensures goes { (place : ℕ) →
+            first_that (is_overdue now self.old.line) self.old.ending ≡ Some place →
+            IsClosed place self.old self.new connections.old connections.new }
+        ensures nobody { first_that (is_overdue now self.old.line) self.old.ending ≡ None →
+            (self.new ≡ self.old) × (connections.new ≡ connections.old) }
+        ensures run { HasRun connections.old connections.new }
+        ensures line { LineGoesOn self.old.line self.new.line }
+    {
+        let Some(place) = self.clients.late_to_end(now) else {
+            return false;
+        };
+        self.close(connections, place);
+        true
+    }
+
     // Closes those that had time to end.
     fn close_late(&mut self, connections: &mut Connections)
         ensures run { HasRun connections.old connections.new }
         ensures line { LineGoesOn self.old.line self.new.line }
     {
+        let now = self.opened.now;
         for _ in 0..PLACES {
-            let Some(place) = self.clients.late_to_end(self.opened.now) else {
+            if !self.close_one_late(connections, now) {
                 return;
-            };
-            self.close(connections, place);
+            }
         }
     }
 
