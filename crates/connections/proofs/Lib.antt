@@ -3,6 +3,7 @@ pub mod Served
 pub mod Leading
 pub mod Seated
 pub mod Turning
+pub mod FewCalls
 mod Isolated
 mod Sent
 mod TurnOrder

@@ -23,7 +23,7 @@ use Rattle.connections.specs.Runs.{EventsLeadTo}
 use Rattle.connections.specs.Table.{State, ClientEvent, arrival, request_bytes, reply_bytes, departure, at, left_of, part_of_request}
 use Rattle.connections.specs.declared.turns.Turn.{Turn}
 use Rattle.connections.specs.declared.turns.Turn.TheVariants.{Goes, Done}
-use Rattle.connections.specs.Turns.{AreRead, MovedEach, HasListened, HasListenedUntil, HasNoMore, HasSpoken, HasSpokenUntil, IfGone, IsHeardOut, Stays, is_client_read_out}
+use Rattle.connections.specs.Turns.{AreRead, CalledAtMost, MovedEach, HasListened, HasListenedUntil, HasNoMore, HasSpoken, HasSpokenUntil, IfGone, IsHeardOut, Stays, is_client_read_out}
 
 -- its device, its place, whether its end alone is awaited, and whether the system was asked to tell of it
 pub record ClientAt (X : Type 0) : Type 0 where
@@ -99,7 +99,7 @@ abbrev pub AreSent : ℕ → ℕ → State → State → Type 0
 AreSent count place old new = length (left_of (at new place)) + count ≤ length (left_of (at old place))
 
 -- a client that stands so has its turn then, by a look after which its device is this. At once only if it can't hold the others; a part
--- isn't its whole request; in line only with a whole one that takes a turn of this channel; not yet if the look would wait
+-- isn't its whole request; in line only with a whole one that takes a turn of this channel; not yet if the look would wait.
 pub record IsWhen {X : Type 0} (incoming : X → DeviceStand) (client : ClientAt X) (after : X) (s : State) (it : When) : Type 0 where
   pub at_once : IfAtOnce it (λ call. (call ≡ client.place) × IsShort incoming client s)
   pub part : IfPart it (λ part. (part.place ≡ client.place) × SendsPart (incoming client.device) (at s client.place) part.count)
@@ -108,6 +108,12 @@ pub record IsWhen {X : Type 0} (incoming : X → DeviceStand) (client : ClientAt
   pub failed : IfLookFailed it (λ fault. (fault ≡ Read) × ((incoming after).calls.last ≡ Some HasFailed))
 
 -- ---- a turn
+
+-- a device was read as often as it may be in a turn at the most, and then written to as often as it may be at the most
+pub record HasFewCalls {X : Type 0} (incoming outgoing : X → DeviceStand) (before after : X) : Type 0 where
+  pub device : X
+  pub reads : CalledAtMost reads_in_turn (incoming before).calls (incoming device).calls
+  pub writes : CalledAtMost writes_in_turn (outgoing device).calls (outgoing after).calls
 
 -- its device before a turn and after it, and how it stands as what is read and as what is written to
 module _ {X : Type 0} (incoming outgoing : X → DeviceStand) (place : ℕ) (before after : X) (old new : State) where

@@ -8,7 +8,7 @@ use Rattle.connections.specs.declared.turns.Turn.{Turn}
 use Rattle.connections.specs.declared.turns.Turn.TheVariants.{Waits, Goes, Full, Done, Failed}
 use Rattle.connections.specs.Devices.{DeviceStand, Calls, one_call}
 use Rattle.connections.specs.Table.{State, at, left_of, part_of_request, request_bytes, reply_bytes, departure, Happens}
-use Rattle.connections.specs.Limits.{reads_in_turn}
+use Rattle.connections.specs.Limits.{reads_in_turn, drains_in_turn}
 use Rattle.connections.specs.Runs.{EventsLeadTo}
 use Rattle.connections.specs.Arrivals.{is_asking}
 use Rattle.connections.specs.Wires.{GoesHeard, GoesTold}
@@ -17,6 +17,15 @@ use Rattle.connections.specs.Wires.{GoesHeard, GoesTold}
 unfoldable pub MovedEach : ℕ → Calls → Calls → Type 0
 MovedEach zero old new = new ≡ old
 MovedEach (suc n) old new = (middle : Calls) × MovedEach n old middle × (count : ℕ) × (0 < count) × (new ≡ one_call (Bytes count) middle)
+
+-- there was one call
+abbrev pub CalledOnce : Calls → Calls → Type 0
+CalledOnce old new = (passage : Passage) × (new ≡ one_call passage old)
+
+-- there were so many calls at the most, one after the other
+unfoldable pub CalledAtMost : ℕ → Calls → Calls → Type 0
+CalledAtMost zero old new = new ≡ old
+CalledAtMost (suc n) old new = (new ≡ old) ⊎ ((middle : Calls) × CalledAtMost n old middle × CalledOnce middle new)
 
 -- if the client stays, this is so
 abbrev pub Stays : Turn → Type 0 → Type 0
@@ -105,3 +114,7 @@ is_client_read_out None = false
 is_client_read_out (Some (Bytes n)) = n == 0
 is_client_read_out (Some WouldWait) = true
 is_client_read_out (Some HasFailed) = false
+
+-- the first read told that something was unread, or failed; what was still sent may have been passed over since, as often as in a turn
+abbrev pub HasFoundMore : Calls → Calls → Type 0
+HasFoundMore old new = (first : Passage) × (is_client_read_out (Some first) ≡ false) × CalledAtMost drains_in_turn (one_call first old) new

@@ -2,11 +2,11 @@
 ghost use Rattle.std.specs.Prelude.{◌≡◌, ◌<◌, ◌+◌, ◌≢◌, ◌⊎◌, [], Some, None, length, max, min, true, false, IfSome};
 ghost use Rattle.connections.specs.declared.devices.Passage.TheVariants.{WouldWait};
 ghost use Rattle.connections.specs.Arrivals.{is_asking};
-ghost use Rattle.connections.specs.Clients.{ConnectionHasEnded, HasToWait, IsWhen, TurnComesTo};
+ghost use Rattle.connections.specs.Clients.{ConnectionHasEnded, HasFewCalls, HasToWait, IsWhen, TurnComesTo};
 ghost use Rattle.connections.specs.Limits.{most_held, drains_in_turn};
 ghost use Rattle.connections.specs.Runs.{HasRun};
 ghost use Rattle.connections.specs.Table.{Happens, at, departure, has_room, held_in};
-ghost use Rattle.connections.specs.Turns.{HasNoMore, IfGone, MovedEach};
+ghost use Rattle.connections.specs.Turns.{CalledAtMost, HasFoundMore, HasNoMore, IfGone, MovedEach};
 ghost use Rattle.connections.specs.Wires.{GoesHeard, HasHeard, HasHeardAtMost};
 
 use crate::devices::{Ending, Incoming, Looking, Outgoing, Passage, Socket};
@@ -235,19 +235,26 @@ impl<T: Incoming + Outgoing> Client<T> {
         ensures turn { self.old.is_ending ≡ false →
             TurnComesTo T.Incoming.stand T.Outgoing.stand
             self.old.place self.old.device self.new.device connections.old connections.new result }
+        ensures short { self.old.is_ending ≡ false →
+            HasFewCalls T.Incoming.stand T.Outgoing.stand self.old.device self.new.device }
         ensures full { result ≡ Turn.Full →
             most_held < held_in connections.new.places + length block.old }
         ensures waits { result ≡ Turn.Waits →
             HasToWait T.Incoming.stand T.Outgoing.stand
             self.old.place self.old.device self.new.device connections.old connections.new }
 
-        // Once it is ending, nothing of it is heard or told.
+        // Once it is ending, nothing of it is heard or told, and nothing that it does is a fault.
         ensures passed { self.old.is_ending ≡ true → connections.new ≡ connections.old }
         ensures drained { self.old.is_ending ≡ true → result ≡ Turn.Goes →
             MovedEach drains_in_turn (T.Incoming.stand self.old.device).calls
             (T.Incoming.stand self.new.device).calls }
         ensures ended { self.old.is_ending ≡ true → result ≡ Turn.Done →
             HasNoMore (T.Incoming.stand self.new.device).calls.last }
+        ensures stays { self.old.is_ending ≡ true → IfGone result (λ fault. ⊥) }
+        ensures fits { self.old.is_ending ≡ true → result ≡ Turn.Full → ⊥ }
+        ensures few { self.old.is_ending ≡ true →
+            CalledAtMost drains_in_turn (T.Incoming.stand self.old.device).calls
+            (T.Incoming.stand self.new.device).calls }
         ensures run { HasRun connections.old connections.new }
     {
         if self.is_ending {
@@ -278,6 +285,13 @@ impl<T: Incoming + Ending> Client<T> {
             (T.Incoming.stand self.new.device).calls.last }
         ensures room { result ≡ Turn.Full → ⊥ }
         ensures stays { IfGone result (λ fault. ⊥) }
+
+        // Who was granted what it asked is awaited only over something unread, or a failed read.
+        ensures granted { was_granted ≡ true → result ≢ Turn.Done →
+            HasFoundMore (T.Incoming.stand self.old.device).calls
+            (T.Incoming.stand self.new.device).calls }
+        ensures few { CalledAtMost (drains_in_turn + 1) (T.Incoming.stand self.old.device).calls
+            (T.Incoming.stand self.new.device).calls }
     {
         if was_granted && is_client_read_out(&mut self.device) {
             return Turn::Done;

@@ -6,7 +6,7 @@ ghost use Rattle.connections.specs.Limits.{most_held, reads_in_turn, writes_in_t
 ghost use Rattle.connections.specs.Arrivals.{is_asking};
 ghost use Rattle.connections.specs.Clients.{AreSent};
 ghost use Rattle.connections.specs.Runs.{HasRun};
-ghost use Rattle.connections.specs.Turns.{AreRead, HasListened, HasListenedUntil, HasSpoken, HasSpokenUntil, IfGone, Stays, HasNoMore, MovedEach, is_client_read_out};
+ghost use Rattle.connections.specs.Turns.{AreRead, CalledAtMost, CalledOnce, HasListened, HasListenedUntil, HasSpoken, HasSpokenUntil, IfGone, Stays, HasNoMore, MovedEach, is_client_read_out};
 
 use crate::devices::{Incoming, Outgoing, Passage};
 use crate::seats::Seat;
@@ -70,6 +70,7 @@ pub fn listen<T: Incoming>(
     ensures full { result ≡ Turn.Full →
         most_held < held_in connections.new.places + length block.old }
     ensures waits { result ≡ Turn.Waits → (T.stand device.new).calls.last ≡ Some WouldWait }
+    ensures few { CalledAtMost reads_in_turn (T.stand device.old).calls (T.stand device.new).calls }
     ensures run { HasRun connections.old connections.new }
 {
     for index in 0..READS {
@@ -105,6 +106,7 @@ pub fn speak<T: Outgoing>(device: &mut T, connections: &mut Connections, seat: &
         AreSent writes_in_turn seat.now connections.old connections.new }
     ensures waits { result ≡ Turn.Waits → (T.stand device.new).calls.last ≡ Some WouldWait }
     ensures room { result ≡ Turn.Full → ⊥ }
+    ensures few { CalledAtMost writes_in_turn (T.stand device.old).calls (T.stand device.new).calls }
     ensures run { HasRun connections.old connections.new }
 {
     for index in 0..WRITES {
@@ -129,6 +131,7 @@ pub fn drain<T: Incoming>(device: &mut T) -> Turn
         MovedEach drains_in_turn (T.stand device.old).calls (T.stand device.new).calls }
     ensures room { result ≡ Turn.Full → ⊥ }
     ensures stays { IfGone result (λ fault. ⊥) }
+    ensures few { CalledAtMost drains_in_turn (T.stand device.old).calls (T.stand device.new).calls }
 {
     let mut block = [0u8; 8192];
     for index in 0..DRAINS {
@@ -145,7 +148,8 @@ pub fn drain<T: Incoming>(device: &mut T) -> Turn
 /// Reads one byte of `device`, and says whether its client has sent nothing that is unread: it has ended, or would
 /// have to be waited for.
 pub fn is_client_read_out<T: Incoming>(device: &mut T) -> bool
-    ensures { result ≡ is_client_read_out (T.stand device.new).calls.last }
+    ensures is { result ≡ is_client_read_out (T.stand device.new).calls.last }
+    ensures once { CalledOnce (T.stand device.old).calls (T.stand device.new).calls }
 {
     let mut byte = [0u8; 1];
     match device.read(&mut byte) {

@@ -1,4 +1,6 @@
-use Rattle.std.proofs.Common.{rules}
+use Rattle.std.proofs.Common.{rules, arith}
+use Rattle.connections.specs.declared.devices.Passage.TheVariants.{WouldWait}
+use Rattle.connections.proofs.FewCalls.{called_each, called_same_then, called_then, heard_once}
 use Rattle.connections.proofs.Leading.{and_then}
 use Rattle.connections.proofs.Turning.{moved_none, moved_more, heard_more, read_none, read_more}
 use Rattle.connections.proofs.turns.listen.Goals as goal
@@ -12,6 +14,21 @@ returns-then-not-is_asking-clause-stays g c =
 
 pub returns-then-not-is_asking-clause-run : goal.returns-then-not-is_asking-clause-run
 returns-then-not-is_asking-clause-run g c = and_then _ _ _ c.loop-index.invariant.run c.hear.ensures.run
+
+pub returns-in-Waits-clause-few : goal.returns-in-Waits-clause-few
+returns-in-Waits-clause-few g c = called_then c.loop-index.index _ _ _ _ c.loop-index.invariant.moved (WouldWait, (c.hear.ensures.waits c.in-Waits.is).one) (omega arith)
+
+pub returns-in-Full-clause-few : goal.returns-in-Full-clause-few
+returns-in-Full-clause-few g c = called_same_then (g.T.Incoming.stand) c.loop-index.index _ _ _ _ c.loop-index.invariant.moved (c.hear.ensures.unread c.in-Full.is) (omega arith)
+
+pub returns-in-Failed-clause-few : goal.returns-in-Failed-clause-few
+returns-in-Failed-clause-few g c = called_then c.loop-index.index _ _ _ _ c.loop-index.invariant.moved (heard_once c.in-Failed.fault _ _ _ c.in-Failed.ensures.fault) (omega arith)
+
+pub returns-then-not-is_asking-clause-few : goal.returns-then-not-is_asking-clause-few
+returns-then-not-is_asking-clause-few g c = called_then c.loop-index.index _ _ _ _ c.loop-index.invariant.moved (_, (c.hear.ensures.some c.in-Some.is).gave_it.one) (omega arith)
+
+pub returns-clause-few : goal.returns-clause-few
+returns-clause-few g c = called_each c.loop-index.index _ _ _ c.loop-index.invariant.moved (omega arith)
 
 pub loop-index-init : goal.loop-index-init
 loop-index-init g c = record {

@@ -1,10 +1,24 @@
-use Rattle.std.proofs.Common.{rules}
+use Rattle.std.proofs.Common.{rules, arith}
+use Rattle.connections.specs.declared.devices.Passage.TheVariants.{WouldWait}
+use Rattle.connections.proofs.FewCalls.{called_each, called_same_then, called_then, told_once}
 use Rattle.connections.proofs.Leading.{and_then}
 use Rattle.connections.proofs.Turning.{moved_none, moved_more, said_more, sent_none, sent_more, told_more}
 use Rattle.connections.proofs.turns.speak.Goals as goal
 
 pub returns-in-Failed-clause-run : goal.returns-in-Failed-clause-run
 returns-in-Failed-clause-run g c = and_then _ _ _ c.loop-index.invariant.run c.say.ensures.run
+
+pub returns-in-Waits-clause-few : goal.returns-in-Waits-clause-few
+returns-in-Waits-clause-few g c = called_then c.loop-index.index _ _ _ _ c.loop-index.invariant.moved (WouldWait, (c.say.ensures.waits c.in-Waits.is).one) (omega arith)
+
+pub returns-in-Nothing-clause-few : goal.returns-in-Nothing-clause-few
+returns-in-Nothing-clause-few g c = called_same_then (g.T.Outgoing.stand) c.loop-index.index _ _ _ _ c.loop-index.invariant.moved (c.say.ensures.unwritten c.in-Nothing.is) (omega arith)
+
+pub returns-in-Failed-clause-few : goal.returns-in-Failed-clause-few
+returns-in-Failed-clause-few g c = called_then c.loop-index.index _ _ _ _ c.loop-index.invariant.moved (told_once c.in-Failed.fault _ _ c.in-Failed.ensures.fault) (omega arith)
+
+pub returns-clause-few : goal.returns-clause-few
+returns-clause-few g c = called_each c.loop-index.index _ _ _ c.loop-index.invariant.moved (omega arith)
 
 pub loop-index-init : goal.loop-index-init
 loop-index-init g c = record {
