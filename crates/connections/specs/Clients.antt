@@ -15,7 +15,7 @@ use Rattle.connections.specs.declared.line.When.TheVariants as when
 use Rattle.connections.specs.declared.line.Part.{Part}
 use Rattle.connections.specs.declared.conversation.Conversation.{Conversation}
 use Rattle.connections.specs.declared.devices.Passage.{Passage}
-use Rattle.connections.specs.declared.devices.Passage.TheVariants.{WouldWait, HasFailed}
+use Rattle.connections.specs.declared.devices.Passage.TheVariants.{Bytes, WouldWait, HasFailed}
 use Rattle.connections.specs.Arrivals.{is_asking}
 use Rattle.connections.specs.Devices.{DeviceStand, AreNext}
 use Rattle.connections.specs.Limits.{reads_in_turn, writes_in_turn}
@@ -99,13 +99,17 @@ abbrev pub AreSent : ℕ → ℕ → State → State → Type 0
 AreSent count place old new = length (left_of (at new place)) + count ≤ length (left_of (at old place))
 
 -- a client that stands so has its turn then, by a look after which its device is this. At once only if it can't hold the others; a part
--- isn't its whole request; in line only with a whole one that takes a turn of this channel; not yet if the look would wait.
+-- isn't its whole request; in line only with a whole one that takes a turn of this channel; not yet if the look would wait. Who is
+-- ending or answered has it at once, and there is no memory only to see bytes that it sent
 pub record IsWhen {X : Type 0} (incoming : X → DeviceStand) (client : ClientAt X) (after : X) (s : State) (it : When) : Type 0 where
   pub at_once : IfAtOnce it (λ call. (call ≡ client.place) × IsShort incoming client s)
   pub part : IfPart it (λ part. (part.place ≡ client.place) × SendsPart (incoming client.device) (at s client.place) part.count)
   pub in_line : IfInLine it (λ channel. (client.is_ending ≡ false) × (is_asking (at s client.place) ≡ true) × SendsWhole (incoming client.device) s (at s client.place) channel)
   pub not_yet : it ≡ NotYet → (incoming after).calls.last ≡ Some WouldWait
   pub failed : IfLookFailed it (λ fault. (fault ≡ Read) × ((incoming after).calls.last ≡ Some HasFailed))
+  pub ends : client.is_ending ≡ true → it ≡ AtOnce client.place
+  pub answered : is_asking (at s client.place) ≡ false → it ≡ AtOnce client.place
+  pub no_memory : it ≡ NoMemory → (count : ℕ) × ((incoming after).calls.last ≡ Some (Bytes count))
 
 -- ---- a turn
 

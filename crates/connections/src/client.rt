@@ -6,7 +6,7 @@ ghost use Rattle.connections.specs.Clients.{ConnectionHasEnded, HasFewCalls, Has
 ghost use Rattle.connections.specs.Limits.{most_held, drains_in_turn};
 ghost use Rattle.connections.specs.Runs.{HasRun};
 ghost use Rattle.connections.specs.Table.{Happens, at, departure, has_room, held_in};
-ghost use Rattle.connections.specs.Turns.{CalledAtMost, HasFoundMore, HasNoMore, IfGone, MovedEach};
+ghost use Rattle.connections.specs.Turns.{CalledAtMost, CalledOnce, HasFoundMore, HasNoMore, IfGone, MovedEach};
 ghost use Rattle.connections.specs.Wires.{GoesHeard, HasHeard, HasHeardAtMost};
 
 use crate::devices::{Ending, Incoming, Looking, Outgoing, Passage, Socket};
@@ -95,6 +95,7 @@ impl<T: Looking> Client<T> {
         ensures is_watched { self.new.is_watched ≡ self.old.is_watched }
         ensures unread { (T.stand self.new.device).bytes ≡ (T.stand self.old.device).bytes }
         ensures turn { IsWhen T.stand self.old self.new.device connections.now result }
+        ensures once { CalledOnce (T.stand self.old.device).calls (T.stand self.new.device).calls }
     {
         let count = match self.device.look(block) {
             Passage::Bytes(count) => count,
@@ -122,6 +123,10 @@ impl<T: Looking> Client<T> {
         ensures is_watched { self.new.is_watched ≡ self.old.is_watched }
         ensures unread { (T.stand self.new.device).bytes ≡ (T.stand self.old.device).bytes }
         ensures turn { IsWhen T.stand self.old self.new.device connections.now result }
+
+        // What its one look came to is not dropped for another look.
+        ensures once { (self.new.device ≡ self.old.device)
+            ⊎ CalledOnce (T.stand self.old.device).calls (T.stand self.new.device).calls }
     {
         let place = self.seat.place();
         if self.is_ending || !connections.is_asking(place) {
@@ -149,6 +154,8 @@ impl<T: Looking> Client<T> {
         // Else it has something unread, has ended, or is gone.
         ensures turn { IfSome result (IsWhen T.stand self.old self.new.device connections.now) }
         ensures sends { result ≡ Some When.NotYet → ⊥ }
+        ensures once { (self.new.device ≡ self.old.device)
+            ⊎ CalledOnce (T.stand self.old.device).calls (T.stand self.new.device).calls }
     {
         if !connections.is_asking(self.seat.place()) {
             return None;
