@@ -201,6 +201,10 @@ impl<T: Incoming> Client<T> {
             (T.stand self.new.device)
             (at connections.old self.old.place)) }
         ensures done { result ≡ Turn.Done → ⊥ }
+
+        // Who goes is at its place no more, and the others are as they were.
+        ensures goes { IfGone result (λ fault.
+            Happens connections.old (departure self.old.place) connections.new) }
         ensures run { HasRun connections.old connections.new }
     {
         let most = part.count.max(1).min(block.len());
@@ -329,6 +333,7 @@ impl Client<Socket> {
         ensures is_ending { self.new.is_ending ≡ self.old.is_ending }
         ensures is_watched { self.new.is_watched ≡ true }
         ensures device { self.new.device ≡ self.old.device }
+        ensures kept { self.old.is_watched ≡ true → result ≡ true }
     {
         self.is_watched || self.watch(registry)
     }
