@@ -1,5 +1,5 @@
 -- The clients of a server, by the orders in which they came.
-use Rattle.std.specs.Prelude.{ℕ, ◌==◌, ◌&&◌, Bool, false, List, length, nat_lt, Option, Some, None}
+use Rattle.std.specs.Prelude.{ℕ, Bool, false, List, nat_lt, Option, Some, None}
 use Rattle.http_edge.specs.declared.serving.EdgeFault.{EdgeFault}
 use Rattle.http_edge.specs.declared.serving.EdgeFault.TheVariants.{Read, Write}
 use Rattle.connections.specs.declared.arrivals.Arrival.{Arrival}
@@ -7,7 +7,6 @@ use Rattle.connections.specs.declared.conversation.Conversation.{Conversation}
 use Rattle.connections.specs.declared.conversation.Conversation.TheVariants.{Asking, Answering}
 use Rattle.connections.specs.Clients.{ClientAt}
 use Rattle.connections.specs.Lines.{LineState}
-use Rattle.connections.specs.Table.{left_of}
 
 -- those that are there, by their places, and the places of the vacant seats; those that are served, whose end is awaited, of which
 -- something came, that took bytes, and whose bytes have no room, each in their order; and the line
@@ -26,10 +25,6 @@ abbrev pub is_granted : Option Conversation → Bool
 is_granted None = false
 is_granted (Some (Asking bytes pieces)) = false
 is_granted (Some (Answering rest status)) = nat_lt status 300
-
--- who is there was granted what it asked, and all of its reply is gone
-abbrev pub has_its_wish : Option Conversation → Bool
-has_its_wish it = is_granted it && (length (left_of it) == 0)
 
 -- what is told of who is given up there: its request isn't whole, or its reply isn't gone
 abbrev pub fault_of_leaver : Option Conversation → Option EdgeFault

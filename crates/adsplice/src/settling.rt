@@ -3,8 +3,7 @@
 
 ghost use Rattle.std.specs.Prelude.{◌≡◌, [], true, false, IfSome, Some};
 ghost use Rattle.std.specs.declared.time.Instant.{Instant as Time};
-ghost use Rattle.adsplice.specs.Clients.{has_its_wish};
-ghost use Rattle.adsplice.specs.Inner.Serving.{ComesLast, FollowsTurn, IsClosed, IsNotedLast, IsSettled, client_at, has_taken, is_awaited, is_over};
+ghost use Rattle.adsplice.specs.Inner.Serving.{ComesLast, FollowsTurn, IsClosed, IsNotedLast, IsSettled, client_at, has_its_wish, has_taken, is_awaited, is_over};
 ghost use Rattle.connections.specs.Arrivals.{is_answered};
 ghost use Rattle.connections.specs.Inner.Going.{LineGoesOn};
 ghost use Rattle.connections.specs.Runs.{HasRun};

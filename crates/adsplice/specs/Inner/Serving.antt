@@ -15,7 +15,7 @@ use Rattle.connections.specs.Lines.{LineState, LineEvent, joins, leaves, calls, 
 use Rattle.connections.specs.Table.{State, at, held_in, left_of}
 use Rattle.connections.specs.Turns.{IfGone}
 use Rattle.connections.specs.Wires.{HasHeard, GoesHeard}
-use Rattle.adsplice.specs.Clients.{ClientsState}
+use Rattle.adsplice.specs.Clients.{ClientsState, is_granted}
 use Rattle.adsplice.specs.Inner.Leaving.{not_served}
 
 -- who is at this place
@@ -160,6 +160,10 @@ IsNotedLast place until before now = (now ≡ filter (is_elsewhere place) before
 -- a reply is on its way to it, and not with so many bytes left as before its turn: it took some of them, or is answered since
 abbrev pub has_taken : ℕ → Option Conversation → Bool
 has_taken was_left it = nat_lt 0 (length (left_of it)) && not (length (left_of it) == was_left)
+
+-- who is there was granted what it asked, and all of its reply is gone
+abbrev pub has_its_wish : Option Conversation → Bool
+has_its_wish it = is_granted it && (length (left_of it) == 0)
 
 -- what is noted of a client is what it was at before its turn
 pub record IsNotedBefore {X : Type 0} (client : Option (ClientAt X)) (it : Option Conversation) (was_ending was_asking : Bool) (was_left : ℕ) : Type 0 where
