@@ -107,7 +107,7 @@ def take(turn: Turn, event: Event) -> None:
 def take_list(turn: Turn, event: ListRead) -> None:
     """The list of a channel was read."""
     it = turn.state.renditions[event.channel]
-    if it.came == event.body or it.is_new and it.came is not None and (is_older(event.body, it.came) or ends_as_last(it, event.body)):
+    if it.came == event.body or it.is_new and it.came is not None and is_older(event.body, it.came):
         return
     reach = reach_of(event.body) if len(turn.state.renditions) > 1 else Reach(None, number_after(event.body), 0)
     came_at = it.came_at if reach == it.reach else turn.at
@@ -135,13 +135,6 @@ def is_older(body: bytes, came: bytes) -> bool:
     """Whether the list `body` is an older one than that which `came` and still waits, as a cache may have it: that has its newest segment, and a newer one."""
     mine, newest = newest_of(body), newest_of(came)
     return bool(mine) and mine != newest and has_path(came, mine) and not has_path(body, newest)
-
-
-def ends_as_last(it: Rendition, body: bytes) -> bool:
-    """Whether the list `body` ends as the last one did that was taken in, while one that doesn't go on is held back: a cache has it yet."""
-    repairer = it.stands.repairer
-    ends = [one.uri.partition("?")[0].encode() for one in (*repairer.last[-1:], *((repairer.growing,) if repairer.growing is not None else ()))]
-    return repairer.held_since is not None and newest_of(body).endswith(tuple(ends)) and not has_newest(it, it.came or b"")
 
 
 def has_newest(it: Rendition, body: bytes) -> bool:
