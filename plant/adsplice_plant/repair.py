@@ -531,12 +531,9 @@ class Repairer:
         return next((by for by in self.steps_said(last, found) if packaged.NEAR < abs(by) < longest), 0)
 
     def steps_said(self, last: PackagedSegment, found: PackagedList) -> Iterator[int]:
-        """What says by how much the packager has set its clock since the segment `last`: another rendition, which has the newest segment of the list `found` by the
-        packager's numbers; its own numbers, if they go on and all segments are as long; its date ranges, if those that it had listed begin so much later."""
-        first, newest = found.segments[0], found.segments[-1]
-        counted = self.siblings.counted_at(last, newest) if self.siblings is not None else None
-        if counted is not None and newest.stated is not None:
-            yield newest.stated - self.clock - counted
+        """What says by how much the packager has set its clock between the segment `last` and the list `found`: its numbers, if they go on and all segments are as long;
+        its date ranges, if those that it had listed begin so much later."""
+        first = found.segments[0]
         missed = (first.own - last.own - 1) * first.duration
         is_regular = all(abs(it.duration - first.duration) <= packaged.NEAR for it in self.last[-MOST_LOOKED_AT:]) and self.is_exact()
         if missed > 0 and first.stated is not None and not first.discontinuities and is_regular and self.is_counted(last, found.segments):

@@ -113,16 +113,6 @@ class Siblings:
                 return min(near, key=lambda it: it[0])[1]
         return None
 
-    def counted_at(self, last: PackagedSegment, it: PackagedSegment) -> int | None:
-        """When the segment `it` begins that comes after a rendition's `last` one, as another rendition has it by the packager's numbers, if these go on in both
-        alike; none if none has it."""
-        for one in self.found if it.own > last.own else []:
-            known = {theirs.own: theirs for theirs in one.segments if theirs.begins is not None} if one.is_alike else {}
-            before, there = known.get(last.own), known.get(it.own)
-            if before is not None and there is not None and one.has(last) and before.number == last.number and there.number - before.number == it.own - last.own:
-                return there.begins
-        return None
-
     def apart_from(self, segments: list[PackagedSegment]) -> int:
         """How far the `segments` of a rendition's first list are ahead of another rendition's, if they end so far from those that the two have other clocks: by the
         media number that both have; if that says nothing, both end now. Else 0."""
